@@ -1,0 +1,3 @@
+pub mod Sheet
+pub mod Refusal
+pub mod Round

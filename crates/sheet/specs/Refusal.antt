@@ -1,0 +1,92 @@
+-- "Numbers of a refused call, in checking order", 1 to 13, with 0 for an accepted sheet.
+use Prim.Native.Nat.{ℕ, zero, suc, _+_, _*_}
+use mathlib.Core.Bool.{Bool, true, false, not, _&&_, _||_}
+use mathlib.Core.List.{List}
+use mathlib.Core.Path.{_≡_}
+use lib.Dec.{eqb, ltb}
+use lib.ListN.{length}
+use Rattle.basis.specs.Bytes.{byteAt}
+use Rattle.basis.specs.First.{_when_otherwise_, orElse, firstOver}
+use Rattle.sheet.specs.Sheet.{
+  version,
+  bidderCount,
+  slotCount,
+  constraintCount,
+  sheetLength,
+  effectField,
+  bidField,
+  ownerField,
+  ownSlotField,
+  otherField,
+  otherSlotField,
+}
+
+-- the letters P A S
+abbrev pub marked : List ℕ → Bool
+marked s = eqb (byteAt s 0) 0x50 && (eqb (byteAt s 1) 0x41 && eqb (byteAt s 2) 0x53)
+
+-- 1. The sheet has fewer than 9 bytes.  2. The mark is not P A S.  3. The version is not 1.
+unfoldable pub formRefusal : List ℕ → ℕ
+formRefusal s =
+    1 when ltb (length s) 9 otherwise
+    2 when not (marked s) otherwise
+    3 when not (eqb (version s) 1) otherwise
+    0
+
+-- 4. n is 0 or above 64.  5. m is 0 or above 16.  6. c is above 1,024.  7. The length is not 9 + 4 × (m + n + c).
+unfoldable pub countsRefusal : List ℕ → ℕ
+countsRefusal s =
+    4 when eqb (bidderCount s) 0 || ltb 64 (bidderCount s) otherwise
+    5 when eqb (slotCount s) 0 || ltb 16 (slotCount s) otherwise
+    6 when ltb 1024 (constraintCount s) otherwise
+    7 when not (eqb (length s) (sheetLength s)) otherwise
+    0
+
+-- the effect before that of slot k + 1; before the first stands the largest that any may have
+abbrev pub effectBefore : List ℕ → ℕ → ℕ
+effectBefore s zero = 1_000_000
+effectBefore s (suc k) = effectField s k
+
+-- 8. An effect is 0, above 1,000,000 or above the one before it.
+unfoldable pub effectRefusal : List ℕ → ℕ → ℕ
+effectRefusal s k =
+    8 when eqb (effectField s k) 0 || (ltb 1_000_000 (effectField s k) || ltb (effectBefore s k) (effectField s k)) otherwise
+    0
+
+-- 9. A bid is above 1,000,000,000.
+unfoldable pub bidRefusal : List ℕ → ℕ → ℕ
+bidRefusal s i = 9 when ltb 1_000_000_000 (bidField s i) otherwise 0
+
+-- a constraint's numbers are in range: owner 1 to n, the other bidder at most n, both slots at most m
+unfoldable pub inRange : (n m owner own other others : ℕ) → Bool
+inRange n m owner own other others =
+    not (eqb owner 0 || (ltb n owner || (ltb n other || (ltb m own || ltb m others))))
+
+-- 10. A condition has owner 0, owner or other bidder above n, or a place above m.
+-- 11. A condition's other bidder is its owner.
+-- 12. Just one of other bidder and other's place is 0.
+-- 13. Own place, other bidder and other's place are all 0.
+unfoldable pub fieldsRefusal : (n m owner own other others : ℕ) → ℕ
+fieldsRefusal n m owner own other others =
+    10 when not (inRange n m owner own other others) otherwise
+    11 when eqb other owner otherwise
+    12 when (eqb other 0 && not (eqb others 0)) || (not (eqb other 0) && eqb others 0) otherwise
+    13 when eqb own 0 && (eqb other 0 && eqb others 0) otherwise
+    0
+
+unfoldable pub constraintRefusal : List ℕ → ℕ → ℕ
+constraintRefusal s k =
+    fieldsRefusal (bidderCount s) (slotCount s) (ownerField s k) (ownSlotField s k) (otherField s k) (otherSlotField s k)
+
+-- The first number that applies. "Conditions are taken in sheet order, each through 10 to 13."
+unfoldable pub refusalOf : List ℕ → ℕ
+refusalOf s =
+    orElse (formRefusal s)
+    (orElse (countsRefusal s)
+    (orElse (firstOver (effectRefusal s) (slotCount s))
+    (orElse (firstOver (bidRefusal s) (bidderCount s))
+    (firstOver (constraintRefusal s) (constraintCount s)))))
+
+-- "A sheet is accepted when the check gives it no number."
+abbrev pub Accepted : List ℕ → Type 0
+Accepted s = refusalOf s ≡ 0

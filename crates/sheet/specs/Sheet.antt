@@ -1,0 +1,59 @@
+-- The bid sheet of document 01: which bytes hold which field.
+-- Everything that depends on where a field stands goes through the three starts below.
+use Prim.Native.Nat.{ℕ, _+_, _*_}
+use mathlib.Core.List.{List}
+use lib.ListN.{length}
+use Rattle.basis.specs.Bytes.{byteAt, word16At, word32At}
+
+-- 2 bytes: version
+abbrev pub version : List ℕ → ℕ
+version s = word16At s 3
+
+-- 1 byte: n, bidders
+abbrev pub bidderCount : List ℕ → ℕ
+bidderCount s = byteAt s 5
+
+-- 1 byte: m, slots ("places")
+abbrev pub slotCount : List ℕ → ℕ
+slotCount s = byteAt s 6
+
+-- 2 bytes: c, constraints ("conditions")
+abbrev pub constraintCount : List ℕ → ℕ
+constraintCount s = word16At s 7
+
+-- the header's length: where the effects start
+abbrev pub effectsStart : List ℕ → ℕ
+effectsStart s = 9
+
+-- the bids start after m effects of 4 bytes
+abbrev pub bidsStart : List ℕ → ℕ
+bidsStart s = effectsStart s + 4 * slotCount s
+
+-- the constraints start after n bids of 4 bytes
+abbrev pub constraintsStart : List ℕ → ℕ
+constraintsStart s = bidsStart s + 4 * bidderCount s
+
+-- "Length is exactly 9 + 4 × (m + n + c)."
+abbrev pub sheetLength : List ℕ → ℕ
+sheetLength s = effectsStart s + 4 * (slotCount s + bidderCount s + constraintCount s)
+
+-- the effect of slot k + 1
+unfoldable pub effectField : List ℕ → ℕ → ℕ
+effectField s k = word32At s (effectsStart s + 4 * k)
+
+-- the bid of bidder i + 1
+unfoldable pub bidField : List ℕ → ℕ → ℕ
+bidField s i = word32At s (bidsStart s + 4 * i)
+
+-- the four bytes of constraint k + 1: "owner, own place, other bidder, other's place, one byte each"
+unfoldable pub ownerField : List ℕ → ℕ → ℕ
+ownerField s k = byteAt s (constraintsStart s + 4 * k)
+
+unfoldable pub ownSlotField : List ℕ → ℕ → ℕ
+ownSlotField s k = byteAt s (constraintsStart s + 4 * k + 1)
+
+unfoldable pub otherField : List ℕ → ℕ → ℕ
+otherField s k = byteAt s (constraintsStart s + 4 * k + 2)
+
+unfoldable pub otherSlotField : List ℕ → ℕ → ℕ
+otherSlotField s k = byteAt s (constraintsStart s + 4 * k + 3)

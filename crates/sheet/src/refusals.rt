@@ -1,0 +1,183 @@
+// The refusals 1 to 13, each part over the fields that it reads.
+ghost use mathlib.Core.Path.{_≡_};
+ghost use mathlib.Core.Bool.{Bool};
+ghost use Prim.Native.Nat.{_+_, _*_, _≤_};
+ghost use lib.ListN.{length};
+ghost use Rattle.basis.specs.First.{firstOver, orElse};
+ghost use Rattle.sheet.specs.Sheet.{bidderCount, slotCount, constraintCount, effectsStart, bidsStart, constraintsStart, sheetLength};
+ghost use Rattle.sheet.specs.Refusal.{formRefusal, countsRefusal, effectRefusal, bidRefusal, constraintRefusal, inRange, fieldsRefusal};
+use basis::wide;
+use basis::word16;
+use basis::word32;
+
+// "1 to 1,000,000"
+const MAX_EFFECT: u32 = 1000000;
+// "0 to 1,000,000,000"
+const MAX_BID: u32 = 1000000000;
+
+// 1 to 3: the header's length, the mark and the version.
+pub fn form_refusal(sheet: &[u8]) -> u32
+    ensures { λ r. ⌜ r ≡ formRefusal (now (sheet .entry)) ⌝ }
+{
+    if sheet.len() < 9 {
+        return 1;
+    }
+    if sheet[0] != b'P' {
+        return 2;
+    }
+    if sheet[1] != b'A' {
+        return 2;
+    }
+    if sheet[2] != b'S' {
+        return 2;
+    }
+    let version = word16(sheet, 3);
+    if version != 1 {
+        return 3;
+    }
+    0
+}
+
+// 4 to 7: the counts and the length.
+pub fn counts_refusal(sheet: &[u8]) -> u32
+    requires { ⌜ 9 ≤ length (now sheet) ⌝ }
+    ensures { λ r. ⌜ r ≡ countsRefusal (now (sheet .entry)) ⌝ }
+{
+    let bidders = wide(sheet[5]) as usize;
+    let slots = wide(sheet[6]) as usize;
+    let constraints = word16(sheet, 7) as usize;
+    if bidders == 0 {
+        return 4;
+    }
+    if 64 < bidders {
+        return 4;
+    }
+    if slots == 0 {
+        return 5;
+    }
+    if 16 < slots {
+        return 5;
+    }
+    if 1024 < constraints {
+        return 6;
+    }
+    if sheet.len() != 9 + 4 * (slots + bidders + constraints) {
+        return 7;
+    }
+    0
+}
+
+// 8: each effect, in slot order.
+pub fn effects_refusal(sheet: &[u8], slots: usize) -> u32
+    requires { ⌜ effectsStart (now sheet) + 4 * slots ≤ length (now sheet) ⌝ }
+    ensures { λ r. ⌜ r ≡ firstOver (effectRefusal (now (sheet .entry))) slots ⌝ }
+{
+    let mut before = MAX_EFFECT;
+    let mut k = 0;
+    while k < slots {
+        let effect = word32(sheet, 9 + 4 * k);
+        if effect == 0 {
+            return 8;
+        }
+        if before < effect {
+            return 8;
+        }
+        before = effect;
+        k += 1;
+    }
+    0
+}
+
+// 9: each bid, in bidder order.
+pub fn bids_refusal(sheet: &[u8], start: usize, bidders: usize) -> u32
+    requires { ⌜ (start ≡ bidsStart (now sheet)) × (start + 4 * bidders ≤ length (now sheet)) ⌝ }
+    ensures { λ r. ⌜ r ≡ firstOver (bidRefusal (now (sheet .entry))) bidders ⌝ }
+{
+    let mut i = 0;
+    while i < bidders {
+        let bid = word32(sheet, start + 4 * i);
+        if MAX_BID < bid {
+            return 9;
+        }
+        i += 1;
+    }
+    0
+}
+
+// Whether a constraint's numbers are in range: owner 1 to n, the other bidder at most n, both slots at most m.
+fn in_range(bidders: u8, slots: u8, owner: u8, own: u8, other: u8, others: u8) -> bool
+    ensures { λ r. ⌜ r ≡ inRange bidders slots owner own other others ⌝ }
+{
+    if owner == 0 {
+        return false;
+    }
+    if bidders < owner {
+        return false;
+    }
+    if bidders < other {
+        return false;
+    }
+    if slots < own {
+        return false;
+    }
+    if slots < others {
+        return false;
+    }
+    true
+}
+
+// 10 to 13: one constraint's four bytes.
+fn constraint_refusal(bidders: u8, slots: u8, owner: u8, own: u8, other: u8, others: u8) -> u32
+    ensures { λ r. ⌜ r ≡ fieldsRefusal bidders slots owner own other others ⌝ }
+{
+    if !in_range(bidders, slots, owner, own, other, others) {
+        return 10;
+    }
+    if other == owner {
+        return 11;
+    }
+    if other == 0 {
+        if others != 0 {
+            return 12;
+        }
+        if own == 0 {
+            return 13;
+        }
+        return 0;
+    }
+    if others == 0 {
+        return 12;
+    }
+    0
+}
+
+// 10 to 13: each constraint, in sheet order.
+pub fn constraints_refusal(
+    sheet: &[u8],
+    start: usize,
+    bidders: u8,
+    slots: u8,
+    constraints: usize,
+) -> u32
+    requires { ⌜ (start ≡ constraintsStart (now sheet)) × (start + 4 * constraints ≤ length (now sheet)) ⌝ }
+    requires { ⌜ (bidders ≡ bidderCount (now sheet)) × (slots ≡ slotCount (now sheet)) ⌝ }
+    ensures { λ r. ⌜ r ≡ firstOver (constraintRefusal (now (sheet .entry))) constraints ⌝ }
+{
+    let mut k = 0;
+    while k < constraints {
+        let at = start + 4 * k;
+        let refusal = constraint_refusal(
+            bidders,
+            slots,
+            sheet[at],
+            sheet[at + 1],
+            sheet[at + 2],
+            sheet[at + 3],
+        );
+        if refusal != 0 {
+            return refusal;
+        }
+        k += 1;
+    }
+    0
+}

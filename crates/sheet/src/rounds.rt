@@ -1,0 +1,124 @@
+// The round that an accepted sheet's bytes say.
+ghost use mathlib.Core.Path.{_≡_};
+ghost use Prim.Native.Nat.{_+_, _*_, _≤_};
+ghost use lib.ListN.{length};
+ghost use Rattle.basis.specs.Rows.{padded};
+ghost use Rattle.sheet.specs.Sheet.{bidderCount, slotCount, constraintCount, effectsStart, bidsStart, constraintsStart, sheetLength, effectField, bidField};
+ghost use Rattle.sheet.specs.Refusal.{Accepted};
+ghost use Rattle.sheet.specs.Round.{kindOf, constraintField, blank, blankRound, roundOf};
+use crate::Bidder;
+use crate::Constraint;
+use crate::Kind;
+use crate::Round;
+use crate::Slot;
+use basis::word16;
+use basis::word32;
+
+// What a constraint's three bytes after its owner forbid.
+fn kind_of(own: u8, other: u8, others: u8) -> Kind
+    ensures { λ r. ⌜ r ≡ kindOf own other others ⌝ }
+{
+    if other == 0 {
+        return Kind::OwnSlot(Slot(own));
+    }
+    if own == 0 {
+        return Kind::OtherSlot(Bidder(other), Slot(others));
+    }
+    Kind::Pair(Slot(own), Bidder(other), Slot(others))
+}
+
+// The effects, with 0 after them.
+fn read_effects(sheet: &[u8], slots: usize) -> [u32; 16]
+    requires { ⌜ (slots ≤ 16) × (effectsStart (now sheet) + 4 * slots ≤ length (now sheet)) ⌝ }
+    ensures { λ r. ⌜ r ≡ padded (effectField (now (sheet .entry))) slots 16 0 ⌝ }
+{
+    let mut effects = [0u32; 16];
+    let mut k = 0;
+    while k < slots {
+        effects[k] = word32(sheet, 9 + 4 * k);
+        k += 1;
+    }
+    effects
+}
+
+// The bids, with 0 after them.
+fn read_bids(sheet: &[u8], start: usize, bidders: usize) -> [u32; 64]
+    requires { ⌜ (bidders ≤ 64) × (start + 4 * bidders ≤ length (now sheet)) ⌝ }
+    requires { ⌜ start ≡ bidsStart (now sheet) ⌝ }
+    ensures { λ r. ⌜ r ≡ padded (bidField (now (sheet .entry))) bidders 64 0 ⌝ }
+{
+    let mut bids = [0u32; 64];
+    let mut i = 0;
+    while i < bidders {
+        bids[i] = word32(sheet, start + 4 * i);
+        i += 1;
+    }
+    bids
+}
+
+// The blank constraint, which fills what a sheet leaves.
+fn blank_constraint() -> Constraint
+    ensures { λ r. ⌜ r ≡ blank ⌝ }
+{
+    Constraint {
+        owner: Bidder(0),
+        kind: Kind::OwnSlot(Slot(0)),
+    }
+}
+
+// The constraints in sheet order, with blank ones after them.
+fn read_constraints(sheet: &[u8], start: usize, used: usize) -> [Constraint; 1024]
+    requires { ⌜ (used ≤ 1024) × (start + 4 * used ≤ length (now sheet)) ⌝ }
+    requires { ⌜ start ≡ constraintsStart (now sheet) ⌝ }
+    ensures { λ r. ⌜ r ≡ padded (constraintField (now (sheet .entry))) used 1024 blank ⌝ }
+{
+    let mut constraints = [blank_constraint(); 1024];
+    let mut k = 0;
+    while k < used {
+        let at = start + 4 * k;
+        let kind = kind_of(sheet[at + 1], sheet[at + 2], sheet[at + 3]);
+        constraints[k] = Constraint {
+            owner: Bidder(sheet[at]),
+            kind,
+        };
+        k += 1;
+    }
+    constraints
+}
+
+// The round of an accepted sheet.
+pub fn accepted_round(sheet: &[u8]) -> Round
+    requires { ⌜ Accepted (now sheet) ⌝ }
+    ensures { λ r. ⌜ r ≡ roundOf (now (sheet .entry)) ⌝ }
+{
+    let bidders = sheet[5] as usize;
+    let slots = sheet[6] as usize;
+    let used = word16(sheet, 7) as usize;
+    let bids_start = 9 + 4 * slots;
+    let constraints_start = bids_start + 4 * bidders;
+    let effects = read_effects(sheet, slots);
+    let bids = read_bids(sheet, bids_start, bidders);
+    let constraints = read_constraints(sheet, constraints_start, used);
+    Round {
+        bidders,
+        slots,
+        used,
+        effects,
+        bids,
+        constraints,
+    }
+}
+
+// No bidder, no slot, no constraint: what stands beside a refusal.
+pub fn blank_round() -> Round
+    ensures { λ r. ⌜ r ≡ blankRound ⌝ }
+{
+    Round {
+        bidders: 0,
+        slots: 0,
+        used: 0,
+        effects: [0u32; 16],
+        bids: [0u32; 64],
+        constraints: [blank_constraint(); 1024],
+    }
+}
