@@ -3,7 +3,7 @@
 use Prim.Native.Nat.{ℕ, zero, suc, _<_, _≤_}
 use mathlib.Core.Bool.{Bool, true, false}
 use mathlib.Core.Logic.{⊎-elim}
-use mathlib.Core.Path.{_≡_, refl, sym, _∙_, ap, subst}
+use mathlib.Core.Path.{_≡_, refl, sym, _∙_, ap, ap₂, subst}
 use native.Mathlib.Nat.{eq-or-lt-of-le, le-of-suc-le-suc, not-suc-le-zero}
 use native.Mathlib.Omega.{arith}
 use Rattle.basis.specs.First.{_when_otherwise_, orElse, firstOver}
@@ -51,3 +51,9 @@ first-none f (suc n) e k l =
 -- a search that has come to the end of the row and found none
 pub first-ended : (f : ℕ → ℕ) (k n : ℕ) → k ≤ n → n ≤ k → firstOver f k ≡ 0 → 0 ≡ firstOver f n
 first-ended f k n l g e = sym (ap (firstOver f) (let q : n ≡ k = omega arith in q) ∙ e)
+
+-- rows that agree at each index give the same first number
+pub first-same : (f g : ℕ → ℕ) (n : ℕ) → ((k : ℕ) → k < n → f k ≡ g k) → firstOver f n ≡ firstOver g n
+unfolding firstOver
+first-same f g zero h = refl
+first-same f g (suc n) h = ap₂ orElse (first-same f g n (λ k l. h k (omega arith))) (h n (omega arith))

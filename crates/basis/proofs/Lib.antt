@@ -1,3 +1,5 @@
--- Laws on lists, rows and tests that are not about auctions.
+-- Laws on lists, rows, tests and bytes that are not about auctions.
 pub mod FirstLaws
 pub mod RowLaws
+pub mod TestLaws
+pub mod BytesLaws

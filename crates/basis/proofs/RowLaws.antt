@@ -1,13 +1,17 @@
--- A row that is filled from the front, one store a turn, and what stands at each index of it. Assumes nothing.
+-- A row that is filled from the front, one store a turn, what stands at each index of it, and a store inside it. Assumes nothing.
 use Prim.Native.Nat.{ℕ, zero, suc, _-_, _+_, _<_, _≤_}
 use mathlib.Core.List.{List, [], _∷_, _++_, append-assoc}
 use mathlib.Core.Logic.{⊎-elim}
-use mathlib.Core.Path.{_≡_, refl, sym, _∙_, ap, subst}
+use mathlib.Core.Bool.{true, false}
+use mathlib.Core.Path.{_≡_, refl, sym, _∙_, ap, ap₂, subst}
+use borrow.Author.Tests.{ltb-true, ltb-false}
+use lib.Dec.{ltb}
 use native.Mathlib.Nat.{eq-or-lt-of-le, le-of-suc-le-suc, not-suc-le-zero, sub-zero}
 use native.Mathlib.Omega.{arith}
-use lib.ListN.{length, getD, set, replicate, length-append, length-replicate, getD-replicate, List·getD-append}
-use lib.Seq.{set-at, getD-append-add, getD-append-seam}
+use lib.ListN.{length, getD, set, replicate, length-append, length-replicate, getD-replicate, List·getD-append, List·getD-eq-default}
+use lib.Seq.{set-at, set-append-left, getD-append-add, getD-append-seam}
 use Rattle.basis.specs.Rows.{row, padded}
+use Rattle.basis.proofs.TestLaws.{holds-or-fails}
 
 module _ {A : Type 0} (f : ℕ → A) where
   pub length-row : (k : ℕ) → length (row f k) ≡ k
@@ -58,3 +62,48 @@ module _ {A : Type 0} (f : ℕ → A) where
       ap (λ (x : ℕ). getD (row f k ++ replicate (n - k) blank) x d) e
       ∙ getD-append-add (row f k) (replicate (n - k) blank) (i - k) d
       ∙ getD-replicate (n - k) (i - k) blank d (omega arith)
+
+  -- past the row stands the blank, also past the list's end where the blank is the default
+  pub getD-padded-after : (k n : ℕ) (blank : A) (i : ℕ) → k ≤ n → k ≤ i → getD (padded f k n blank) i blank ≡ blank
+  getD-padded-after k n blank i l h =
+      ⊎-elim
+      (λ (t : ltb i n ≡ true). getD-padded-rest k n blank blank i h (ltb-true i n t))
+      (λ (t : ltb i n ≡ false).
+      let past = ltb-false i n t in
+      let size = length-padded k n blank l in
+      List·getD-eq-default (padded f k n blank) blank (omega arith))
+      (holds-or-fails (ltb i n))
+
+module _ {A : Type 0} (f g : ℕ → A) where
+  -- functions that agree below k have the same row
+  row-same : (k : ℕ) → ((j : ℕ) → j < k → f j ≡ g j) → row f k ≡ row g k
+  unfolding row
+  row-same zero h = refl
+  row-same (suc k) h = ap₂ (λ (r : List A) (a : A). r ++ (a ∷ [])) (row-same k (λ j l. h j (omega arith))) (h k (omega arith))
+
+  pub padded-same : (k n : ℕ) (blank : A) → ((j : ℕ) → j < k → f j ≡ g j) → padded f k n blank ≡ padded g k n blank
+  unfolding padded
+  padded-same k n blank h = ap (λ (r : List A). r ++ replicate (n - k) blank) (row-same k h)
+
+  -- a store at i makes the row that of a function which agrees below k but at i, and is what is stored there
+  row-stored : (k i : ℕ) → i < k → ((j : ℕ) → j < k → (j ≡ i → ⊥) → f j ≡ g j) → set (row f k) i (g i) ≡ row g k
+  unfolding row
+  row-stored zero i l h = absurd (not-suc-le-zero l)
+  row-stored (suc k) i l h =
+      ⊎-elim
+      (λ (q : i ≡ k).
+      set-at (row f k) (f k) [] (g i) i (length-row f k ∙ sym q)
+      ∙ ap₂ (λ (r : List A) (a : A). r ++ (a ∷ [])) (row-same k (λ j b. h j (omega arith) (omega arith))) (ap g q))
+      (λ (lt : i < k).
+      set-append-left (row f k) (f k ∷ []) i (g i) (let size = length-row f k in omega arith)
+      ∙ ap₂ (λ (r : List A) (a : A). r ++ (a ∷ []))
+      (row-stored k i lt (λ j b d. h j (omega arith) d))
+      (h k (omega arith) (omega arith)))
+      (eq-or-lt-of-le (le-of-suc-le-suc l))
+
+  pub padded-stored : (k n : ℕ) (blank : A) (i : ℕ) → i < k → ((j : ℕ) → j < k → (j ≡ i → ⊥) → f j ≡ g j) →
+      set (padded f k n blank) i (g i) ≡ padded g k n blank
+  unfolding padded
+  padded-stored k n blank i l h =
+      set-append-left (row f k) (replicate (n - k) blank) i (g i) (let size = length-row f k in omega arith)
+      ∙ ap (λ (r : List A). r ++ replicate (n - k) blank) (row-stored k i l h)

@@ -1,0 +1,146 @@
+-- What a broken constraint says, that it stays broken as the page fills, and who is eligible. Assumes nothing.
+use Prim.Native.Nat.{ℕ, zero, suc, _<_, _≤_}
+use borrow.Author.Tests.{eq-eqb, ne-eqb, eqb-true, not-true}
+use mathlib.Core.Bool.{Bool, true, false, not, _&&_, _||_}
+use mathlib.Core.Logic.{_⊎_, inl, inr, ⊎-elim}
+use mathlib.Core.Path.{_≡_, refl, sym, _∙_, ap, subst}
+use native.Mathlib.Omega.{arith}
+use lib.Dec.{eqb}
+use Rattle.basis.specs.Tests.{anyBelow}
+use Rattle.basis.proofs.TestLaws.{
+  holds-or-fails,
+  not-both,
+  holds,
+  fails,
+  and-holds,
+  and-parts,
+  or-left,
+  or-right,
+  not-holds,
+  any-at,
+  any-where,
+  any-none,
+  none-any,
+}
+use Rattle.sheet.specs.declared.Bidder.{Bidder}
+use Rattle.sheet.specs.declared.Slot.{Slot}
+use Rattle.sheet.specs.declared.Kind.{Kind}
+use Rattle.sheet.specs.declared.Kind.the-variants.{OwnSlot, OtherSlot, Pair}
+use Rattle.sheet.specs.declared.Constraint.{Constraint}
+use Rattle.sheet.specs.declared.Page.{Page}
+use Rattle.sheet.specs.declared.Round.{Round}
+use Rattle.auction.specs.Page.{at, put, emptyPage, placed, Sized}
+use Rattle.auction.specs.Broken.{ownHolds, otherHolds, broken, constraintAt, breaks}
+use Rattle.auction.specs.Greedy.{concerns, eligible}
+use Rattle.auction.specs.Proper.{ProperKind, Proper, Has, ProperRound}
+use Rattle.auction.proofs.PageLaws.{Keeps, keeps-placed, placed-put, empty-placed}
+
+-- a broken constraint's parts are true, and its owner has a slot
+pub broken-parts : (p : Page) (q : Constraint) → broken p q ≡ true →
+    (ownHolds p (q .owner .0) (q .kind) ≡ true) × (otherHolds p (q .kind) ≡ true) × (placed p (q .owner .0) ≡ true)
+unfolding broken
+broken-parts p q e =
+    let a = and-parts (ownHolds p (q .owner .0) (q .kind) && otherHolds p (q .kind)) (placed p (q .owner .0)) e in
+    let b = and-parts (ownHolds p (q .owner .0) (q .kind)) (otherHolds p (q .kind)) (a .0) in
+    (b .0, b .1, a .1)
+
+pub parts-broken : (p : Page) (q : Constraint) → ownHolds p (q .owner .0) (q .kind) ≡ true → otherHolds p (q .kind) ≡ true →
+    placed p (q .owner .0) ≡ true → broken p q ≡ true
+unfolding broken
+parts-broken p q o t l = and-holds (and-holds o t) l
+
+-- "A condition binds only if its owner has a place."
+pub unplaced-unbroken : (p : Page) (q : Constraint) → placed p (q .owner .0) ≡ false → broken p q ≡ false
+unplaced-unbroken p q h = fails (broken p q) (λ e. not-both (broken-parts p q e .2) h)
+
+-- "A pair naming the same place twice is accepted and never broken."
+pub same-slot-unbroken : (p : Page) (owner : Bidder) (k : Slot) (j : Bidder) (l : Slot) → k .0 ≡ l .0 → (j .0 ≡ owner .0 → ⊥) →
+    broken p (record { owner = owner; kind = Pair k j l }) ≡ false
+unfolding ownHolds otherHolds
+same-slot-unbroken p owner k j l same other =
+    fails (broken p (record { owner = owner; kind = Pair k j l }))
+    (λ e.
+    let parts = broken-parts p (record { owner = owner; kind = Pair k j l }) e in
+    other (sym (eqb-true (at p (l .0)) (j .0) (parts .1)) ∙ ap (at p) (sym same) ∙ eqb-true (at p (k .0)) (owner .0) (parts .0)))
+
+-- an equation between a slot and a bidder stays as the page fills
+stays : (p p′ : Page) (k b : ℕ) → Keeps p p′ → (b ≡ 0 → ⊥) → eqb (at p k) b ≡ true → eqb (at p′ k) b ≡ true
+stays p p′ k b f s e =
+    let here = eqb-true (at p k) b e in
+    eq-eqb (at p′ k) b (f k (λ z. s (sym here ∙ z)) ∙ here)
+
+own-stays : (p p′ : Page) (o : ℕ) (kind : Kind) → Keeps p p′ → (o ≡ 0 → ⊥) → ownHolds p o kind ≡ true → ownHolds p′ o kind ≡ true
+unfolding ownHolds
+own-stays p p′ o (OwnSlot k) f s e = stays p p′ (k .0) o f s e
+own-stays p p′ o (OtherSlot j l) f s e = refl
+own-stays p p′ o (Pair k j l) f s e = stays p p′ (k .0) o f s e
+
+other-stays : (p p′ : Page) (o : ℕ) (kind : Kind) → Keeps p p′ → ProperKind o kind → otherHolds p kind ≡ true → otherHolds p′ kind ≡ true
+unfolding otherHolds
+other-stays p p′ o (OwnSlot k) f s e = refl
+other-stays p p′ o (OtherSlot j l) f s e = stays p p′ (l .0) (j .0) f (s .0) e
+other-stays p p′ o (Pair k j l) f s e = stays p p′ (l .0) (j .0) f (s .0) e
+
+-- what is broken stays broken as the page fills
+pub broken-stays : (p p′ : Page) (q : Constraint) → Keeps p p′ → Proper q → broken p q ≡ true → broken p′ q ≡ true
+broken-stays p p′ q f s e =
+    let parts = broken-parts p q e in
+    parts-broken p′ q
+    (own-stays p p′ (q .owner .0) (q .kind) f (s .owned) (parts .0))
+    (other-stays p p′ (q .owner .0) (q .kind) f (s .named) (parts .1))
+    (keeps-placed p p′ (q .owner .0) (s .owned) f (parts .2))
+
+pub empty-unbroken : (q : Constraint) → Proper q → broken emptyPage q ≡ false
+empty-unbroken q s = unplaced-unbroken emptyPage q (empty-placed (q .owner .0) (s .owned))
+
+-- a page breaks the round exactly when it breaks a constraint that the round has
+pub breaks-at : (r : Round) (p : Page) (q : Constraint) → Has r q → broken p q ≡ true → breaks r p ≡ true
+unfolding breaks
+breaks-at r p q h e = any-at (λ i. broken p (constraintAt r i)) (r .used) (h .0) (h .1) (ap (broken p) (h .2) ∙ e)
+
+pub breaks-where : (r : Round) (p : Page) → breaks r p ≡ true → (q : Constraint) × Has r q × (broken p q ≡ true)
+unfolding breaks
+breaks-where r p e =
+    let w = any-where (λ i. broken p (constraintAt r i)) (r .used) e in
+    (constraintAt r (w .0), (w .0, w .1, refl), w .2)
+
+pub breaks-none : (r : Round) (p : Page) → breaks r p ≡ false → (q : Constraint) → Has r q → broken p q ≡ false
+breaks-none r p e q h = fails (broken p q) (λ t. not-both (breaks-at r p q h t) e)
+
+pub none-breaks : (r : Round) (p : Page) → ((q : Constraint) → Has r q → broken p q ≡ false) → breaks r p ≡ false
+none-breaks r p f = fails (breaks r p) (λ e. let w = breaks-where r p e in not-both (w .2) (f (w .0) (w .1)))
+
+-- What being eligible says: unplaced, and with it at k no constraint of the round is broken. The constraints of document 01's
+-- wording are the candidate's own and those of earlier winners; no other binds, since its owner has no slot.
+module _ (r : Round) (p : Page) (k b : ℕ) where
+  pub eligible-unplaced : eligible r p k b ≡ true → placed p b ≡ false
+  unfolding eligible
+  eligible-unplaced e = not-true (placed p b) (and-parts (not (placed p b)) _ e .0)
+
+  pub eligible-unbroken : Sized p → 0 < k → k ≤ 16 → eligible r p k b ≡ true → (q : Constraint) → Has r q → broken (put p k b) q ≡ false
+  unfolding eligible concerns
+  eligible-unbroken s l m e q h =
+      fails (broken (put p k b) q)
+      (λ t.
+      let none = not-true (anyBelow concerned (r .used)) (and-parts (not (placed p b)) (not (anyBelow concerned (r .used))) e .1) in
+      let here = any-none concerned (r .used) none (h .0) (h .1) in
+      let bound : (eqb (q .owner .0) b || placed p (q .owner .0)) ≡ true
+      = ⊎-elim
+      (λ (x : q .owner .0 ≡ b). or-left (placed p (q .owner .0)) (eq-eqb (q .owner .0) b x))
+      (λ (x : placed p (q .owner .0) ≡ true). or-right (eqb (q .owner .0) b) x)
+      (placed-put p k b (q .owner .0) s l m (broken-parts (put p k b) q t .2)) in
+      not-both
+      (subst (λ (x : Constraint). (broken (put p k b) x && (eqb (x .owner .0) b || placed p (x .owner .0))) ≡ true) (sym (h .2))
+      (and-holds t bound))
+      here)
+    where
+      concerned : ℕ → Bool
+      concerned i = broken (put p k b) (constraintAt r i) && (eqb (constraintAt r i .owner .0) b || placed p (constraintAt r i .owner .0))
+
+  pub unbroken-eligible : placed p b ≡ false → ((q : Constraint) → Has r q → broken (put p k b) q ≡ false) → eligible r p k b ≡ true
+  unfolding eligible
+  unbroken-eligible u f =
+      and-holds (not-holds u)
+      (not-holds
+      (none-any (λ i. broken (put p k b) (constraintAt r i) && concerns p b (constraintAt r i)) (r .used)
+      (λ i l. ap (λ (t : Bool). t && concerns p b (constraintAt r i)) (f (constraintAt r i) (i, l, refl)))))

@@ -1,0 +1,8 @@
+-- Laws of the page, of broken constraints, of the greedy page and of the price.
+pub mod PageLaws
+pub mod BrokenLaws
+pub mod GreedyLaws
+pub mod ExceptLaws
+pub mod PriceLaws
+pub mod AcceptedLaws
+pub mod WriteLaws

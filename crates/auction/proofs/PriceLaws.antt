@@ -1,0 +1,266 @@
+-- The price of document 01, the smallest bid that still wins when the round is replayed, is the most that an eligible rival asks.
+-- A lower bid changes no slot before the winner's: whoever won there still goes before it. At its own slot the same bidders are
+-- eligible, since bids bar nobody, so it wins with exactly the bids that every rival's asking allows. Assumes nothing.
+use Prim.Native.Nat.{ℕ, zero, suc, _<_, _≤_}
+use borrow.Author.Tests.{eq-eqb, ne-eqb, eqb-true}
+use mathlib.Core.Bool.{Bool, true, false}
+use mathlib.Core.Logic.{_⊎_, inl, inr, ⊎-elim}
+use mathlib.Core.Path.{_≡_, refl, sym, _∙_, ap, ap₂, subst}
+use native.Mathlib.Nat.{le-of-suc-le-suc, not-suc-le-zero}
+use native.Mathlib.Omega.{arith}
+use lib.Dec.{eqb}
+use lib.ListN.{length, getD, set}
+use lib.Seq.{getD-set-same, getD-set-other}
+use Rattle.basis.specs.Tests.{least}
+use Rattle.basis.proofs.TestLaws.{not-both, holds, fails, same-tests, holds-or-fails, least-is}
+use Rattle.sheet.specs.declared.Constraint.{Constraint}
+use Rattle.sheet.specs.declared.Page.{Page}
+use Rattle.sheet.specs.declared.Round.{Round}
+use Rattle.choice.specs.Winner.{before, winner}
+use Rattle.choice.specs.Asks.{mostAsked}
+use Rattle.auction.specs.Page.{at, put, placed, Sized}
+use Rattle.auction.specs.Broken.{constraintAt}
+use Rattle.auction.specs.Greedy.{bidOf, eligible, winnerAt, pageUpTo, greedyPage}
+use Rattle.auction.specs.Price.{withBid, winsWith, priceFor, price}
+use Rattle.auction.specs.Proper.{Has}
+use Rattle.auction.specs.Except.{Except, SameSets}
+use Rattle.choice.proofs.WinnerLaws.{Wins, winner-wins, winner-same, before-cases, before-antisym}
+use Rattle.choice.proofs.AsksLaws.{ExceptBid, enough-wins, less-loses, asked-at-most-bid, asked-same}
+use Rattle.auction.proofs.PageLaws.{same-or-not, below-or-not, placed-at}
+use Rattle.auction.proofs.BrokenLaws.{eligible-unplaced}
+use Rattle.auction.proofs.GreedyLaws.{upTo-next, upTo-sized, upTo-slot, slot-winner, winner-eligible, winner-bidder, empty-nobody}
+use Rattle.auction.proofs.ExceptLaws.{winner-except, unplaced-before, eligible-except, upTo-sets, sets-except, stranger-unplaced, page-sets}
+
+-- The replay's round: the same but for one bid.
+module _ (r : Round) (w x : ℕ) where
+  pub with-bidders : withBid r w x .bidders ≡ r .bidders
+  unfolding withBid
+  with-bidders = by-number w
+    where
+      by-number : (b : ℕ) → withBid r b x .bidders ≡ r .bidders
+      by-number zero = refl
+      by-number (suc i) = refl
+
+  pub with-slots : withBid r w x .slots ≡ r .slots
+  unfolding withBid
+  with-slots = by-number w
+    where
+      by-number : (b : ℕ) → withBid r b x .slots ≡ r .slots
+      by-number zero = refl
+      by-number (suc i) = refl
+
+pub with-other : (r : Round) (w x b : ℕ) → (b ≡ w → ⊥) → bidOf (withBid r w x) b ≡ bidOf r b
+unfolding withBid bidOf
+with-other r zero x b d = refl
+with-other r (suc i) x zero d = refl
+with-other r (suc i) x (suc j) d = getD-set-other (r .bids) i j x 0 (λ e. d (ap suc e))
+
+pub with-own : (r : Round) (w x : ℕ) → 0 < w → w ≤ length (r .bids) → bidOf (withBid r w x) w ≡ x
+unfolding withBid bidOf
+with-own r zero x s m = absurd (not-suc-le-zero s)
+with-own r (suc i) x s m = getD-set-same (r .bids) i x 0 m
+
+pub with-eligible : (r : Round) (w x : ℕ) (p : Page) (k b : ℕ) → eligible (withBid r w x) p k b ≡ eligible r p k b
+unfolding withBid eligible constraintAt
+with-eligible r zero x p k b = refl
+with-eligible r (suc i) x p k b = refl
+
+with-has : (r : Round) (w x : ℕ) (q : Constraint) → Has r q → Has (withBid r w x) q
+unfolding withBid constraintAt
+with-has r zero x q h = h
+with-has r (suc i) x q h = h
+
+has-with : (r : Round) (w x : ℕ) (q : Constraint) → Has (withBid r w x) q → Has r q
+unfolding withBid constraintAt
+has-with r zero x q h = h
+has-with r (suc i) x q h = h
+
+pub with-except : (r : Round) (w x : ℕ) → Except w r (withBid r w x)
+with-except r w x =
+    record {
+      bidders = sym (with-bidders r w x);
+      slots = sym (with-slots r w x);
+      bids = λ b d. sym (with-other r w x b d);
+      there = λ q d. with-has r w x q;
+      back = λ q d. has-with r w x q;
+    }
+
+-- somebody at a slot pays the least bid that still wins it
+price-least : (r : Round) (k w : ℕ) → 0 < w → priceFor r k w ≡ least (winsWith r k w) (bidOf r w)
+unfolding priceFor
+price-least r k zero s = absurd (not-suc-le-zero s)
+price-least r k (suc i) s = refl
+
+-- With a bid x that is not above its own, the later winner w wins no slot before: whoever won there goes before it.
+module _ (r : Round) (w x : ℕ) (lower : x ≤ bidOf r w) (some : 0 < w) (listed : w ≤ length (r .bids)) where
+  no-earlier : (p : Page) (k : ℕ) → 0 < k → (winnerAt r p k ≡ w → ⊥) → winnerAt (withBid r w x) p k ≡ w → ⊥
+  unfolding winnerAt
+  no-earlier p k l lost won =
+      let n = r .bidders in
+      let e = eligible r p k in
+      let bid′ = bidOf (withBid r w x) in
+      let won′ : winner e bid′ n ≡ w
+      = winner-same e (eligible (withBid r w x) p k) bid′ bid′ n (λ j a z. sym (with-eligible r w x p k j)) (λ j a z. refl)
+      ∙ ap (winner (eligible (withBid r w x) p k) bid′) (sym (with-bidders r w x))
+      ∙ won in
+      let top = winner-wins e bid′ n (λ z. absurd (let c : w ≡ 0 = sym won′ ∙ z in omega arith)) in
+      let able : e w ≡ true = subst (λ (b : ℕ). e b ≡ true) won′ (top .able) in
+      let most : w ≤ n = subst (λ (b : ℕ). b ≤ n) won′ (top .most) in
+      ⊎-elim
+      (λ (z : winner e (bidOf r) n ≡ 0). not-both able (empty-nobody r p k (unfold winnerAt in z) w some most))
+      (λ (z : winner e (bidOf r) n ≡ 0 → ⊥).
+      let v = winner e (bidOf r) n in
+      let old = winner-wins e (bidOf r) n z in
+      let first : before (bidOf r) v w ≡ true = old .first w some most able in
+      let again : before bid′ w v ≡ true
+      = subst (λ (b : ℕ). before bid′ b v ≡ true) won′ (top .first v (old .some) (old .most) (old .able)) in
+      let own : bid′ w ≡ x = with-own r w x some listed in
+      let his : bid′ v ≡ bidOf r v = with-other r w x v lost in
+      ⊎-elim
+      (λ (a : bidOf r w < bidOf r v).
+      ⊎-elim
+      (λ (c : bid′ v < bid′ w). absurd (omega arith))
+      (λ (c : (bid′ v ≡ bid′ w) × (w ≤ v)). absurd (omega arith))
+      (before-cases bid′ w v again))
+      (λ (a : (bidOf r w ≡ bidOf r v) × (v ≤ w)).
+      ⊎-elim
+      (λ (c : bid′ v < bid′ w). absurd (omega arith))
+      (λ (c : (bid′ v ≡ bid′ w) × (w ≤ v)). lost (let q : v ≡ w = omega arith in q))
+      (before-cases bid′ w v again))
+      (before-cases (bidOf r) v w first))
+      (same-or-not (winner e (bidOf r) n) 0)
+
+  -- so the replay fills the slots before w's alike
+  replay-agrees : (k : ℕ) → k ≤ 16 → placed (pageUpTo r k) w ≡ false → pageUpTo r k ≡ pageUpTo (withBid r w x) k
+  unfolding pageUpTo
+  replay-agrees zero m u = refl
+  replay-agrees (suc k) m u =
+      let r′ = withBid r w x in
+      let past = unplaced-before r w k (λ e. absurd (omega arith)) m u in
+      let same = replay-agrees k (omega arith) (past .0) in
+      let won = winner-except w r r′ (with-except r w x) (pageUpTo r k) (suc k) (upTo-sized r k) (omega arith) m (past .0) (past .1)
+      (no-earlier (pageUpTo r k) (suc k) (omega arith) (past .1)) in
+      upTo-next r k
+      ∙ ap₂ (λ (p : Page) (v : ℕ). put p (suc k) v) same (won ∙ ap (λ (p : Page). winnerAt r′ p (suc k)) same)
+      ∙ sym (upTo-next r′ k)
+
+  -- and w's own slot goes to the winner among the same eligible bidders, with the new bid
+  replay-slot : r .slots ≤ 16 → (k : ℕ) → k < r .slots → placed (pageUpTo r k) w ≡ false →
+      at (greedyPage (withBid r w x)) (suc k) ≡ winner (eligible r (pageUpTo r k) (suc k)) (bidOf (withBid r w x)) (r .bidders)
+  unfolding winnerAt
+  replay-slot m k l u =
+      let r′ = withBid r w x in
+      let p = pageUpTo r k in
+      let slots = with-slots r w x in
+      slot-winner r′ (omega arith) k (omega arith)
+      ∙ ap (λ (q : Page). winnerAt r′ q (suc k)) (sym (replay-agrees k (omega arith) u))
+      ∙ winner-same (eligible r′ p (suc k)) (eligible r p (suc k)) (bidOf r′) (bidOf r′) (r′ .bidders)
+      (λ j a z. with-eligible r w x p (suc k) j) (λ j a z. refl)
+      ∙ ap (winner (eligible r p (suc k)) (bidOf r′)) (with-bidders r w x)
+
+-- The winner w of slot k + 1, and what is asked of it there.
+module _ (r : Round) (k w : ℕ) (few : r .slots ≤ 16) (inside : k < r .slots) (listed : w ≤ length (r .bids)) (some : 0 < w)
+    (won : winnerAt r (pageUpTo r k) (suc k) ≡ w) where
+  abbrev able : ℕ → Bool
+  able = eligible r (pageUpTo r k) (suc k)
+
+  abbrev asked : ℕ
+  asked = mostAsked able (bidOf r) w (r .bidders)
+
+  top : Wins able (bidOf r) (r .bidders) w
+  top =
+      subst (Wins able (bidOf r) (r .bidders)) won
+      (winner-eligible r (pageUpTo r k) (suc k) (λ z. absurd (let c : w ≡ 0 = sym won ∙ z in omega arith)))
+
+  unplaced : placed (pageUpTo r k) w ≡ false
+  unplaced = eligible-unplaced r (pageUpTo r k) (suc k) w (top .able)
+
+  asked-low : asked ≤ bidOf r w
+  unfolding winnerAt
+  asked-low = asked-at-most-bid able (bidOf r) (r .bidders) w some won
+
+  others-bid : (x : ℕ) → ExceptBid (bidOf r) (bidOf (withBid r w x)) w
+  others-bid x = record { others = with-other r w x }
+
+  wins-from-asked : (x : ℕ) → x ≤ bidOf r w → asked ≤ x → winsWith r (suc k) w x ≡ true
+  unfolding winsWith
+  wins-from-asked x low enough =
+      let own = with-own r w x some listed in
+      eq-eqb (at (greedyPage (withBid r w x)) (suc k)) w
+      (replay-slot r w x low some listed few k inside unplaced
+      ∙ enough-wins able (bidOf r) (r .bidders) w (bidOf (withBid r w x)) (others-bid x) some (top .most) (top .able) (omega arith))
+
+  loses-below-asked : (x : ℕ) → x < asked → winsWith r (suc k) w x ≡ false
+  unfolding winsWith
+  loses-below-asked x less =
+      let own = with-own r w x some listed in
+      let low : x ≤ bidOf r w = (let h = asked-low in omega arith) in
+      ne-eqb (at (greedyPage (withBid r w x)) (suc k)) w
+      (λ e.
+      less-loses able (bidOf r) (r .bidders) w (bidOf (withBid r w x)) (others-bid x) some (omega arith)
+      (sym (replay-slot r w x low some listed few k inside unplaced) ∙ e))
+
+  -- The price is the most that an eligible rival asks.
+  pub price-asked : price r (suc k) ≡ asked
+  unfolding price
+  price-asked =
+      ap (priceFor r (suc k)) (slot-winner r few k inside ∙ won)
+      ∙ price-least r (suc k) w some
+      ∙ least-is (winsWith r (suc k) w) (bidOf r w) asked asked-low loses-below-asked (λ l. wins-from-asked asked asked-low (omega arith))
+
+  -- It is at most the winner's bid,
+  pub price-at-most-bid : price r (suc k) ≤ bidOf r w
+  price-at-most-bid = let e = price-asked in let h = asked-low in omega arith
+
+  -- it wins the slot,
+  pub price-wins : at (greedyPage (withBid r w (price r (suc k)))) (suc k) ≡ w
+  unfolding winsWith
+  price-wins =
+      eqb-true (at (greedyPage (withBid r w (price r (suc k)))) (suc k)) w
+      (wins-from-asked (price r (suc k)) price-at-most-bid (let e = price-asked in omega arith))
+
+  -- and no smaller bid does.
+  pub smaller-loses : (x : ℕ) → x < price r (suc k) → at (greedyPage (withBid r w x)) (suc k) ≡ w → ⊥
+  unfolding winsWith
+  smaller-loses x less e =
+      not-both (eq-eqb (at (greedyPage (withBid r w x)) (suc k)) w e) (loses-below-asked x (let h = price-asked in omega arith))
+
+-- "An empty place has price 0."
+pub empty-costs-nothing : (r : Round) (k : ℕ) → at (greedyPage r) k ≡ 0 → price r k ≡ 0
+unfolding price priceFor
+empty-costs-nothing r k e = ap (priceFor r k) e
+
+-- Rounds that differ only in the winner's list and bid, and agree before its slot, charge it the same there.
+pub price-except : (r r′ : Round) (k w : ℕ) → Except w r r′ → r .slots ≤ 16 → k < r .slots → 0 < w →
+    w ≤ length (r .bids) → w ≤ length (r′ .bids) → pageUpTo r k ≡ pageUpTo r′ k →
+    winnerAt r (pageUpTo r k) (suc k) ≡ w → winnerAt r′ (pageUpTo r′ k) (suc k) ≡ w → price r (suc k) ≡ price r′ (suc k)
+price-except r r′ k w x few inside some listed listed′ same won won′ =
+    let slots = x .slots in
+    let p = pageUpTo r k in
+    price-asked r k w few inside listed some won
+    ∙ asked-same (eligible r p (suc k)) (eligible r′ p (suc k)) (bidOf r) (bidOf r′) (r .bidders) w
+    (λ j d a z.
+    eligible-except w r r′ x p (suc k) j (upTo-sized r k) (omega arith) (omega arith) (unplaced r k w few inside listed some won) d)
+    (λ j d a z. x .bids j d)
+    ∙ ap₂ (λ (q : Page) (n : ℕ). mostAsked (eligible r′ q (suc k)) (bidOf r′) w n) same (x .bidders)
+    ∙ sym (price-asked r′ k w (omega arith) (omega arith) listed′ some won′)
+
+-- Prices depend on each owner's set of constraints only.
+pub price-sets : (r r′ : Round) → SameSets r r′ → r .slots ≤ 16 → r .bidders ≤ length (r .bids) → r .bidders ≤ length (r′ .bids) →
+    (k : ℕ) → k < r .slots → price r (suc k) ≡ price r′ (suc k)
+price-sets r r′ x few listed listed′ k inside =
+    let slots = x .slots in
+    let same = upTo-sets r r′ x k (omega arith) in
+    let page = page-sets r r′ x few in
+    let here = slot-winner r few k inside in
+    let here′ = slot-winner r′ (omega arith) k (omega arith) in
+    ⊎-elim
+    (λ (z : winnerAt r (pageUpTo r k) (suc k) ≡ 0).
+    empty-costs-nothing r (suc k) (here ∙ z)
+    ∙ sym (empty-costs-nothing r′ (suc k) (ap (λ (p : Page). at p (suc k)) (sym page) ∙ here ∙ z)))
+    (λ (z : winnerAt r (pageUpTo r k) (suc k) ≡ 0 → ⊥).
+    let w = winnerAt r (pageUpTo r k) (suc k) in
+    let most = winner-bidder r (pageUpTo r k) (suc k) in
+    price-except r r′ k w (sets-except w r r′ x) few inside (omega arith) (omega arith) (omega arith) same refl
+    (sym here′ ∙ ap (λ (p : Page). at p (suc k)) (sym page) ∙ here))
+    (same-or-not (winnerAt r (pageUpTo r k) (suc k)) 0)

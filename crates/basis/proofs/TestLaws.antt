@@ -1,0 +1,141 @@
+-- What a test over the indices below a count says, and what the least number that passes says. Assumes nothing.
+use Prim.Native.Nat.{ℕ, zero, suc, _<_, _≤_}
+use borrow.Author.Tests.{ltb-true, ltb-false, lt-ltb, le-ltb}
+use mathlib.Core.Bool.{Bool, true, false, cond, not, _&&_, _||_, false≢true, or-true}
+use mathlib.Core.Logic.{_⊎_, inl, inr, ⊎-elim}
+use mathlib.Core.Path.{_≡_, refl, sym, _∙_, ap, ap₂}
+use native.Mathlib.Nat.{eq-or-lt-of-le, le-of-suc-le-suc, not-suc-le-zero}
+use native.Mathlib.Omega.{arith}
+use lib.Dec.{ltb}
+use Rattle.basis.specs.Tests.{anyBelow, allBelow, least}
+
+-- a test holds or fails
+pub holds-or-fails : (b : Bool) → (b ≡ true) ⊎ (b ≡ false)
+holds-or-fails true = inl refl
+holds-or-fails false = inr refl
+
+pub not-both : {b : Bool} → b ≡ true → b ≡ false → ⊥
+not-both p q = false≢true (sym q ∙ p)
+
+-- a test that cannot fail holds, and one that cannot hold fails
+pub holds : (b : Bool) → (b ≡ false → ⊥) → b ≡ true
+holds true h = refl
+holds false h = absurd (h refl)
+
+pub fails : (b : Bool) → (b ≡ true → ⊥) → b ≡ false
+fails true h = absurd (h refl)
+fails false h = refl
+
+-- two tests that hold together are equal
+pub same-tests : (a b : Bool) → (a ≡ true → b ≡ true) → (b ≡ true → a ≡ true) → a ≡ b
+same-tests true b f g = sym (f refl)
+same-tests false true f g = g refl
+same-tests false false f g = refl
+
+pub and-holds : {a b : Bool} → a ≡ true → b ≡ true → (a && b) ≡ true
+and-holds p q = ap₂ _&&_ p q
+
+pub and-parts : (a b : Bool) → (a && b) ≡ true → (a ≡ true) × (b ≡ true)
+and-parts true b e = (refl, e)
+and-parts false b e = absurd (false≢true e)
+
+pub and-fails : (a b : Bool) → (a && b) ≡ false → (a ≡ false) ⊎ (b ≡ false)
+and-fails true b e = inr e
+and-fails false b e = inl refl
+
+pub or-parts : (a b : Bool) → (a || b) ≡ true → (a ≡ true) ⊎ (b ≡ true)
+or-parts true b e = inl refl
+or-parts false b e = inr e
+
+pub or-left : {a : Bool} (b : Bool) → a ≡ true → (a || b) ≡ true
+or-left b p = ap (λ (x : Bool). x || b) p
+
+pub or-right : (a : Bool) {b : Bool} → b ≡ true → (a || b) ≡ true
+or-right a p = ap (λ (x : Bool). a || x) p ∙ or-true a
+
+pub or-none : (a b : Bool) → (a || b) ≡ false → (a ≡ false) × (b ≡ false)
+or-none true b e = absurd (false≢true (sym e))
+or-none false b e = (refl, e)
+
+pub or-fails : {a b : Bool} → a ≡ false → b ≡ false → (a || b) ≡ false
+or-fails p q = ap₂ _||_ p q
+
+pub not-holds : {b : Bool} → b ≡ false → not b ≡ true
+not-holds p = ap not p
+
+pub not-fails : {b : Bool} → b ≡ true → not b ≡ false
+not-fails p = ap not p
+
+module _ (f : ℕ → Bool) where
+  pub any-at : (n k : ℕ) → k < n → f k ≡ true → anyBelow f n ≡ true
+  unfolding anyBelow
+  any-at zero k l e = absurd (not-suc-le-zero l)
+  any-at (suc n) k l e =
+      ⊎-elim
+      (λ (q : k ≡ n). or-right (anyBelow f n) (ap f (sym q) ∙ e))
+      (λ (lt : k < n). or-left (f n) (any-at n k lt e))
+      (eq-or-lt-of-le (le-of-suc-le-suc l))
+
+  pub any-where : (n : ℕ) → anyBelow f n ≡ true → (k : ℕ) × (k < n) × (f k ≡ true)
+  unfolding anyBelow
+  any-where zero e = absurd (false≢true e)
+  any-where (suc n) e =
+      ⊎-elim
+      (λ (h : anyBelow f n ≡ true). let w = any-where n h in (w .0, (let l : w .0 < n = w .1 in omega arith), w .2))
+      (λ (h : f n ≡ true). (n, omega arith, h))
+      (or-parts (anyBelow f n) (f n) e)
+
+  pub any-none : (n : ℕ) → anyBelow f n ≡ false → (k : ℕ) → k < n → f k ≡ false
+  any-none n e k l = fails (f k) (λ h. not-both (any-at n k l h) e)
+
+  pub none-any : (n : ℕ) → ((k : ℕ) → k < n → f k ≡ false) → anyBelow f n ≡ false
+  none-any n h = fails (anyBelow f n) (λ e. let w = any-where n e in not-both (w .2) (h (w .0) (w .1)))
+
+  pub all-at : (n : ℕ) → allBelow f n ≡ true → (k : ℕ) → k < n → f k ≡ true
+  unfolding allBelow
+  all-at zero e k l = absurd (not-suc-le-zero l)
+  all-at (suc n) e k l =
+      let both = and-parts (allBelow f n) (f n) e in
+      ⊎-elim (λ (q : k ≡ n). ap f q ∙ both .1) (λ (lt : k < n). all-at n (both .0) k lt) (eq-or-lt-of-le (le-of-suc-le-suc l))
+
+  pub at-all : (n : ℕ) → ((k : ℕ) → k < n → f k ≡ true) → allBelow f n ≡ true
+  unfolding allBelow
+  at-all zero h = refl
+  at-all (suc n) h = and-holds (at-all n (λ k l. h k (omega arith))) (h n (omega arith))
+
+  pub least-at-most : (n : ℕ) → least f n ≤ n
+  unfolding least
+  least-at-most zero = omega arith
+  least-at-most (suc n) = least-step n (least f n) (least-at-most n) (ltb (least f n) n) (f n)
+    where
+      least-step : (n l : ℕ) → l ≤ n → (t u : Bool) → cond t l (cond u n (suc n)) ≤ suc n
+      least-step n l h true u = omega arith
+      least-step n l h false true = omega arith
+      least-step n l h false false = omega arith
+
+  -- the least number is the one that passes, with none that passes below it
+  pub least-is : (n k : ℕ) → k ≤ n → ((j : ℕ) → j < k → f j ≡ false) → ((k < n) → f k ≡ true) → least f n ≡ k
+  unfolding least
+  least-is zero k l none here = omega arith
+  least-is (suc n) k l none here =
+      ⊎-elim
+      (λ (q : k ≡ suc n).
+      let e : least f n ≡ n = least-is n n (omega arith) (λ j h. none j (omega arith)) (λ h. absurd (omega arith)) in
+      let fn : f n ≡ false = none n (omega arith) in
+      ap₂ (λ (a : ℕ) (t : Bool). cond (ltb a n) a (cond t n (suc n))) e fn
+      ∙ ap (λ (t : Bool). cond t n (suc n)) (le-ltb n n (omega arith))
+      ∙ sym q)
+      (λ (lt : k < suc n).
+      ⊎-elim
+      (λ (q : k ≡ n).
+      let e : least f n ≡ n = least-is n n (omega arith) (λ j h. none j (omega arith)) (λ h. absurd (omega arith)) in
+      let fn : f n ≡ true = ap f (sym q) ∙ here (omega arith) in
+      ap₂ (λ (a : ℕ) (t : Bool). cond (ltb a n) a (cond t n (suc n))) e fn
+      ∙ ap (λ (t : Bool). cond t n n) (le-ltb n n (omega arith))
+      ∙ sym q)
+      (λ (lt' : k < n).
+      let e : least f n ≡ k = least-is n k (omega arith) none (λ h. here (omega arith)) in
+      ap (λ (a : ℕ). cond (ltb a n) a (cond (f n) n (suc n))) e
+      ∙ ap (λ (t : Bool). cond t k (cond (f n) n (suc n))) (lt-ltb k n lt'))
+      (eq-or-lt-of-le (le-of-suc-le-suc lt)))
+      (eq-or-lt-of-le l)

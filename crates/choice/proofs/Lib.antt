@@ -1,0 +1,2 @@
+pub mod WinnerLaws
+pub mod AsksLaws

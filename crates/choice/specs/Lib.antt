@@ -1,0 +1,3 @@
+pub mod Winner
+pub mod Asks
+pub mod Tables

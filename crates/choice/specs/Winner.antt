@@ -1,0 +1,19 @@
+-- "The eligible bidder with the highest bid wins; equal bids go to the lower number." Over any test of who is eligible and any
+-- bids, for bidders 1 to n; 0 where nobody is eligible.
+use Prim.Native.Nat.{ℕ, suc}
+use mathlib.Core.Bool.{Bool, not, _&&_, _||_}
+use lib.Dec.{eqb, ltb, leb}
+use Rattle.basis.specs.First.{_when_otherwise_, firstOver}
+use Rattle.basis.specs.Tests.{allBelow}
+
+-- b goes before j: its bid is higher, or equal and its number is not above j's
+unfoldable pub before : (ℕ → ℕ) → ℕ → ℕ → Bool
+before bid b j = ltb (bid j) (bid b) || (eqb (bid j) (bid b) && leb b j)
+
+-- b is eligible and goes before every eligible bidder
+unfoldable pub wins : (ℕ → Bool) → (ℕ → ℕ) → ℕ → ℕ → Bool
+wins eligible bid n b = eligible b && allBelow (λ i. not (eligible (suc i)) || before bid b (suc i)) n
+
+-- the bidder that wins
+unfoldable pub winner : (ℕ → Bool) → (ℕ → ℕ) → ℕ → ℕ
+winner eligible bid n = firstOver (λ i. suc i when wins eligible bid n (suc i) otherwise 0) n
