@@ -1,16 +1,16 @@
 -- A row that is filled from the front, one store a turn, what stands at each index of it, and a store inside it. Assumes nothing.
-use Prim.Native.Nat.{ℕ, zero, suc, _-_, _+_, _<_, _≤_}
+use Prim.Native.Nat.{ℕ, zero, suc, _-_, _+_, _*_, _<_, _≤_}
 use mathlib.Core.List.{List, [], _∷_, _++_, append-assoc}
 use mathlib.Core.Logic.{⊎-elim}
 use mathlib.Core.Bool.{true, false}
 use mathlib.Core.Path.{_≡_, refl, sym, _∙_, ap, ap₂, subst}
 use borrow.Author.Tests.{ltb-true, ltb-false}
 use lib.Dec.{ltb}
-use native.Mathlib.Nat.{eq-or-lt-of-le, le-of-suc-le-suc, not-suc-le-zero, sub-zero}
+use native.Mathlib.Nat.{eq-or-lt-of-le, le-of-suc-le-suc, not-suc-le-zero, sub-zero, mul-zero, mul-suc}
 use native.Mathlib.Omega.{arith}
-use lib.ListN.{length, getD, set, replicate, length-append, length-replicate, getD-replicate, List·getD-append, List·getD-eq-default}
-use lib.Seq.{set-at, set-append-left, getD-append-add, getD-append-seam}
-use Rattle.basis.specs.Rows.{row, padded}
+use lib.ListN.{length, getD, set, drop, replicate, length-append, length-drop, length-replicate, getD-replicate, List·getD-append, List·getD-eq-default}
+use lib.Seq.{sets, sets-eq, set-at, set-append-left, getD-append-add, getD-append-seam, take-at, drop-append-add, drop-drop}
+use Rattle.basis.specs.Rows.{row, padded, joined}
 use Rattle.basis.proofs.TestLaws.{holds-or-fails}
 
 module _ {A : Type 0} (f : ℕ → A) where
@@ -107,3 +107,39 @@ module _ {A : Type 0} (f g : ℕ → A) where
   padded-stored k n blank i l h =
       set-append-left (row f k) (replicate (n - k) blank) i (g i) (let size = length-row f k in omega arith)
       ∙ ap (λ (r : List A). r ++ replicate (n - k) blank) (row-stored k i l h)
+
+-- Lists of one length c, one after another, written over the front of a list.
+module _ {A : Type 0} (f : ℕ → List A) (c : ℕ) (each : (k : ℕ) → length (f k) ≡ c) where
+  pub length-joined : (k : ℕ) → length (joined f k) ≡ c * k
+  unfolding joined
+  length-joined zero = sym (mul-zero c)
+  length-joined (suc k) =
+      length-append (joined f k) (f k) ∙ (let h = length-joined k in let e = each k in let m = mul-suc c k in omega arith)
+
+  pub joined-none : (out : List A) → out ≡ joined f 0 ++ drop (c * 0) out
+  unfolding joined
+  joined-none out = sym (ap (λ (n : ℕ). drop n out) (mul-zero c))
+
+  -- the next one stored after them
+  pub joined-next : (k : ℕ) (out : List A) → c * suc k ≤ length out →
+      sets (joined f k ++ drop (c * k) out) (c * k) (f k) ≡ joined f (suc k) ++ drop (c * suc k) out
+  unfolding joined
+  joined-next k out room =
+      let here = length-joined k in
+      let step : c * suc k ≡ c * k + c = mul-suc c k in
+      let front = joined f k in
+      let rest = drop (c * k) out in
+      let whole : length (front ++ rest) ≡ length out
+      = length-append front rest ∙ (let h = length-drop (c * k) out in omega arith) in
+      sets-eq (f k) (front ++ rest) (c * k) (let e = each k in omega arith)
+      ∙ ap₂ (λ (a b : List A). a ++ f k ++ b)
+      (take-at front rest (c * k) here)
+      (ap (λ (n : ℕ). drop n (front ++ rest)) (let e = each k in let q : c * k + length (f k) ≡ length front + c = omega arith in q)
+      ∙ drop-append-add front rest c
+      ∙ drop-drop c (c * k) out
+      ∙ ap (λ (n : ℕ). drop n out) (sym step))
+
+pub joined-same : {A : Type 0} (f g : ℕ → List A) (k : ℕ) → ((i : ℕ) → i < k → f i ≡ g i) → joined f k ≡ joined g k
+unfolding joined
+joined-same f g zero h = refl
+joined-same f g (suc k) h = ap₂ _++_ (joined-same f g k (λ i l. h i (omega arith))) (h k (omega arith))

@@ -12,3 +12,8 @@ row f (suc k) = row f k ++ (f k ∷ [])
 unfoldable pub padded {ℓ} : {A : Type ℓ} → (ℕ → A) → ℕ → ℕ → A → List A
 unfolding row
 padded f k n blank = row f k ++ replicate (n - k) blank
+
+-- the lists f 0, .., f (k - 1) one after another
+unfoldable pub joined {ℓ} : {A : Type ℓ} → (ℕ → List A) → ℕ → List A
+joined f zero = []
+joined f (suc k) = joined f k ++ f k

@@ -1,0 +1,2 @@
+-- The cases of a play call.
+pub mod PlayLaws

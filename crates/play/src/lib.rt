@@ -1,0 +1,45 @@
+// Play a round: a lent sheet in, the page with its prices in a lent buffer out.
+ghost use mathlib.Core.List.{_++_};
+ghost use mathlib.Core.Path.{_≡_};
+ghost use Prim.Native.Nat.{_*_, _≤_};
+ghost use lib.ListN.{length, drop};
+ghost use Rattle.basis.specs.Rows.{joined};
+ghost use Rattle.play.specs.Play.{Played};
+ghost use Rattle.play.specs.Written.{entryIn};
+use greedy::Outcome;
+
+// The number of the first rule that the call breaks, 1 to 13 or 19, with every byte of the buffer as it was; or 0, with 5 bytes a
+// slot in the buffer, the bidder and the price low byte first, and every later byte as it was.
+pub fn play(sheet: &[u8], result: &mut [u8]) -> u32
+    ensures { λ r. ⌜ Played (now (sheet .entry)) (now (result .entry)) r (now (result .exit)) ⌝ }
+{
+    let reading = sheet::read(sheet);
+    let refusal = reading.refusal;
+    if refusal != 0 {
+        return refusal;
+    }
+    let round = reading.round;
+    let slots = round.slots;
+    if result.len() < 5 * slots {
+        return 19;
+    }
+    write_result(greedy::played(round), slots, result);
+    0
+}
+
+// The page and the prices go to the front of the buffer.
+fn write_result(outcome: Outcome, slots: usize, result: &mut [u8])
+    requires { ⌜ (slots ≤ 16) × (5 * slots ≤ length (now result)) ⌝ }
+    requires { ⌜ (length (outcome .page .bidders) ≡ 16) × (length (outcome .prices) ≡ 16) ⌝ }
+    ensures { λ r. ⌜ now (result .exit) ≡ joined (entryIn outcome) slots ++ drop (5 * slots) (now (result .entry)) ⌝ }
+{
+    let page = outcome.page;
+    let prices = outcome.prices;
+    let mut k = 0;
+    while k < slots {
+        let winner = page.bidders[k];
+        result[5 * k] = winner.0;
+        basis::put_word32(result, 5 * k + 1, prices[k]);
+        k += 1;
+    }
+}
