@@ -8,6 +8,7 @@ use native.Mathlib.Omega.{arith}
 use lib.Dec.{eqb}
 use Rattle.basis.specs.Tests.{anyBelow}
 use Rattle.basis.proofs.TestLaws.{
+  same-tests,
   holds-or-fails,
   not-both,
   holds,
@@ -33,7 +34,7 @@ use Rattle.auction.specs.Page.{at, put, emptyPage, placed, Sized}
 use Rattle.auction.specs.Broken.{ownHolds, otherHolds, broken, constraintAt, breaks}
 use Rattle.auction.specs.Greedy.{concerns, eligible}
 use Rattle.auction.specs.Proper.{ProperKind, Proper, Has, ProperRound}
-use Rattle.auction.proofs.PageLaws.{Keeps, keeps-placed, placed-put, empty-placed}
+use Rattle.auction.proofs.PageLaws.{Keeps, keeps-placed, placed-at, placed-put, empty-placed}
 
 -- a broken constraint's parts are true, and its owner has a slot
 pub broken-parts : (p : Page) (q : Constraint) → broken p q ≡ true →
@@ -144,3 +145,41 @@ module _ (r : Round) (p : Page) (k b : ℕ) where
       (not-holds
       (none-any (λ i. broken (put p k b) (constraintAt r i) && concerns p b (constraintAt r i)) (r .used)
       (λ i l. ap (λ (t : Bool). t && concerns p b (constraintAt r i)) (f (constraintAt r i) (i, l, refl)))))
+
+-- A constraint's own test, kind by kind: an owner at its own slot has a slot, so `placed` adds nothing there.
+module _ (p : Page) (owner : Bidder) where
+  abbrev with-kind : Kind → Constraint
+  with-kind kind = record { owner = owner; kind = kind }
+
+  here-placed : (k : ℕ) → 0 < k → k ≤ 16 → eqb (at p k) (owner .0) ≡ true → placed p (owner .0) ≡ true
+  here-placed k s m e = placed-at p (owner .0) k s m (eqb-true (at p k) (owner .0) e)
+
+  pub own-slot-broken : (k : Slot) → 0 < k .0 → k .0 ≤ 16 → eqb (at p (k .0)) (owner .0) ≡ broken p (with-kind (OwnSlot k))
+  unfolding ownHolds otherHolds
+  own-slot-broken k s m =
+      same-tests (eqb (at p (k .0)) (owner .0)) (broken p (with-kind (OwnSlot k)))
+      (λ e. parts-broken p (with-kind (OwnSlot k)) e refl (here-placed (k .0) s m e))
+      (λ e. broken-parts p (with-kind (OwnSlot k)) e .0)
+
+  pub other-slot-broken : (j : Bidder) (l : Slot) → eqb (at p (l .0)) (j .0) ≡ true → placed p (owner .0) ≡ broken p (with-kind (OtherSlot j l))
+  unfolding ownHolds otherHolds
+  other-slot-broken j l e =
+      same-tests (placed p (owner .0)) (broken p (with-kind (OtherSlot j l)))
+      (λ t. parts-broken p (with-kind (OtherSlot j l)) refl e t)
+      (λ t. broken-parts p (with-kind (OtherSlot j l)) t .2)
+
+  pub other-elsewhere : (j : Bidder) (l : Slot) → eqb (at p (l .0)) (j .0) ≡ false → broken p (with-kind (OtherSlot j l)) ≡ false
+  unfolding otherHolds
+  other-elsewhere j l e = fails (broken p (with-kind (OtherSlot j l))) (λ t. not-both (broken-parts p (with-kind (OtherSlot j l)) t .1) e)
+
+  pub pair-broken : (k : Slot) (j : Bidder) (l : Slot) → 0 < k .0 → k .0 ≤ 16 → eqb (at p (k .0)) (owner .0) ≡ true →
+      eqb (at p (l .0)) (j .0) ≡ broken p (with-kind (Pair k j l))
+  unfolding ownHolds otherHolds
+  pair-broken k j l s m e =
+      same-tests (eqb (at p (l .0)) (j .0)) (broken p (with-kind (Pair k j l)))
+      (λ t. parts-broken p (with-kind (Pair k j l)) e t (here-placed (k .0) s m e))
+      (λ t. broken-parts p (with-kind (Pair k j l)) t .1)
+
+  pub pair-elsewhere : (k : Slot) (j : Bidder) (l : Slot) → eqb (at p (k .0)) (owner .0) ≡ false → broken p (with-kind (Pair k j l)) ≡ false
+  unfolding ownHolds
+  pair-elsewhere k j l e = fails (broken p (with-kind (Pair k j l))) (λ t. not-both (broken-parts p (with-kind (Pair k j l)) t .0) e)

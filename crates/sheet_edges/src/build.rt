@@ -4,7 +4,7 @@
 ghost use Prim.Native.Nat.{_<_};
 use basis::wide;
 
-// Room for the longest sheet: 9 + 4 x (16 + 64 + 1,025) bytes, and more.
+// Room for the longest sheet here, 9 + 4 x (16 + 64 + 1,025) bytes.
 pub const ROOM: usize = 4608;
 
 // One byte, where the buffer reaches it.
@@ -49,34 +49,34 @@ fn set_words(buf: &mut [u8], start: usize, count: u32, value: u32) {
     }
 }
 
-// "3 mark, the letters P A S (hexadecimal 50 41 53)"
+// 3 bytes: "mark, the letters P A S (hexadecimal 50 41 53)"
 fn set_mark(buf: &mut [u8]) {
     set_byte(buf, 0, 0x50);
     set_byte(buf, 1, 0x41);
     set_byte(buf, 2, 0x53);
 }
 
-// "2 version, 1"
+// 2 bytes: "version, 1"
 pub fn set_version(buf: &mut [u8], version: u32) {
     set_half(buf, 3, version);
 }
 
-// "1 n, bidders"
+// 1 byte: "n, bidders, 1 to 64"
 pub fn set_bidder_count(buf: &mut [u8], bidders: u8) {
     set_byte(buf, 5, bidders);
 }
 
-// "1 m, places"
+// 1 byte: "m, places, 1 to 16"
 pub fn set_slot_count(buf: &mut [u8], slots: u8) {
     set_byte(buf, 6, slots);
 }
 
-// "2 c, conditions"
+// 2 bytes: "c, conditions, 0 to 1,024"
 pub fn set_constraint_count(buf: &mut [u8], constraints: u32) {
     set_half(buf, 7, constraints);
 }
 
-// A right sheet, where the counts are right; its length. Every effect is 1,000, every bid 5, every constraint (1,1,0,0).
+// A sheet that is right where its counts are, and its length. Each effect is 1,000, each bid 5, each constraint (1,1,0,0).
 pub fn base(buf: &mut [u8], bidders: u8, slots: u8, constraints: u16) -> usize {
     let bids = 9 + 4 * (slots as usize);
     let rest = bids + 4 * (bidders as usize);
@@ -105,18 +105,18 @@ fn start(field: u32) -> usize
     (9 + 4 * field - 4) as usize
 }
 
-// "effect of places 1 to m", all of them.
+// 4 bytes each: "effect of places 1 to m", all of them.
 pub fn set_effects(buf: &mut [u8], value: u32) {
     let slots = count(buf, 6);
     set_words(buf, 9, slots, value);
 }
 
-// One effect.
+// The same, one of them.
 pub fn set_effect(buf: &mut [u8], slot: u8, value: u32) {
     set_word(buf, start(wide(slot)), value);
 }
 
-// "bid of bidders 1 to n", one of them.
+// 4 bytes each: "bid of bidders 1 to n", one of them.
 pub fn set_bid(buf: &mut [u8], bidder: u8, value: u32) {
     let slots = count(buf, 6);
     set_word(buf, start(slots + wide(bidder)), value);
@@ -132,7 +132,7 @@ fn set_fields(buf: &mut [u8], at: usize, fields: [u8; 4]) {
     }
 }
 
-// "condition: owner, own place, other bidder, other's place, one byte each"
+// 4 bytes each: "condition: owner, own place, other bidder, other's place, one byte each", one of them.
 pub fn set_constraint(buf: &mut [u8], constraint: u16, fields: [u8; 4]) {
     let before = count(buf, 6) + count(buf, 5);
     set_fields(buf, start(before + constraint as u32), fields);

@@ -19,7 +19,7 @@ fn counts(round: Round) {
     show::text(b"\n");
 }
 
-// A word of the line before its number, and the number.
+// An element of an array: what it is, its index and its value.
 fn amount(name: &[u8], index: usize, value: u32) {
     show::number(name, index as u64);
     show::end(value as u64);

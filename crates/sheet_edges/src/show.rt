@@ -23,7 +23,7 @@ pub fn end(value: u64) {
     text(b"\n");
 }
 
-// The first `length` bytes.
+// The first `length` bytes, or all where there are fewer.
 fn front(buf: &[u8], length: usize) -> &[u8] {
     if length <= buf.len() {
         return &buf[..length];

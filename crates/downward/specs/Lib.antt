@@ -1,0 +1,2 @@
+pub mod Downward
+pub mod Call
