@@ -76,7 +76,7 @@ own-stays p p′ o (OwnSlot k) f s e = stays p p′ (k .0) o f s e
 own-stays p p′ o (OtherSlot j l) f s e = refl
 own-stays p p′ o (Pair k j l) f s e = stays p p′ (k .0) o f s e
 
-other-stays : (p p′ : Page) (o : ℕ) (kind : Kind) → Keeps p p′ → ProperKind o kind → otherHolds p kind ≡ true → otherHolds p′ kind ≡ true
+pub other-stays : (p p′ : Page) (o : ℕ) (kind : Kind) → Keeps p p′ → ProperKind o kind → otherHolds p kind ≡ true → otherHolds p′ kind ≡ true
 unfolding otherHolds
 other-stays p p′ o (OwnSlot k) f s e = refl
 other-stays p p′ o (OtherSlot j l) f s e = stays p p′ (l .0) (j .0) f (s .0) e

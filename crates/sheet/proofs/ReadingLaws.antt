@@ -27,3 +27,10 @@ number-of (suc k) s = refl
 pub reading-number : (s : List ℕ) → readingOf s .refusal ≡ refusalOf s
 unfolding readingOf
 reading-number s = number-of (refusalOf s) s
+
+-- what a reading that was made says
+pub read-number : (s : List ℕ) (x : Reading) → x ≡ readingOf s → x .refusal ≡ refusalOf s
+read-number s x e = ap (λ (y : Reading). y .refusal) e ∙ reading-number s
+
+pub read-round : (s : List ℕ) (x : Reading) → Accepted s → x ≡ readingOf s → x .round ≡ roundOf s
+read-round s x ok e = ap (λ (y : Reading). y .round) (e ∙ reading-accepted s ok)

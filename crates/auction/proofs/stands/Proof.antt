@@ -1,3 +1,7 @@
+-- `auction::stands` meets its contract: it compares who stands there. Assumes nothing.
+use Prim.Native.Nat.{ℕ}
+use mathlib.Core.Path.{ap}
+use lib.Dec.{eqb}
 use borrow.Author.Needs.{needs}
 use Rattle.auction.proofs.stands.Statement.{statement}
 use Rattle.auction.proofs.stands.Tie as tie
@@ -11,7 +15,7 @@ bidder-at-requires c κs = search needs
 
 -- src/lib.rt:42:1
 returns : tie.Need-returns
-returns c = ?
+returns c = ap (λ (x : ℕ). eqb x (c .before .before .before .args .bidder .0)) (c .before .before .bidder-at .ensures)
 
 pub stands-spec : {M : Type 1} → statement M
 stands-spec = tie.close (tie.spec bidder-at-requires returns)

@@ -7,11 +7,10 @@ use native.Mathlib.Omega.{arith}
 use lib.ListN.{length, drop}
 use Rattle.basis.specs.Rows.{joined}
 use Rattle.basis.proofs.RowLaws.{length-padded}
-use Rattle.sheet.specs.declared.Reading.{Reading}
 use Rattle.sheet.specs.declared.Round.{Round}
-use Rattle.sheet.specs.Refusal.{refusalOf, Accepted}
-use Rattle.sheet.specs.Round.{roundOf, readingOf}
-use Rattle.sheet.proofs.ReadingLaws.{reading-number, reading-accepted}
+use Rattle.sheet.specs.Refusal.{Accepted}
+use Rattle.sheet.specs.Round.{roundOf}
+use Rattle.sheet.proofs.ReadingLaws.{read-number, read-round}
 use Rattle.auction.specs.Greedy.{greedyPage}
 use Rattle.auction.specs.Price.{price}
 use Rattle.auction.specs.Proper.{ProperRound}
@@ -25,13 +24,6 @@ use Rattle.play.proofs.PlayLaws.{sheet-refused, buffer-short, round-pla
 use borrow.Author.Needs.{needs}
 use Rattle.play.proofs.play.Statement.{statement}
 use Rattle.play.proofs.play.Tie as tie
-
--- what reading an accepted sheet gave
-read-number : (s : List ℕ) (x : Reading) → x ≡ readingOf s → x .refusal ≡ refusalOf s
-read-number s x e = ap (λ (y : Reading). y .refusal) e ∙ reading-number s
-
-read-round : (s : List ℕ) (x : Reading) → Accepted s → x ≡ readingOf s → x .round ≡ roundOf s
-read-round s x ok e = ap (λ (y : Reading). y .round) (e ∙ reading-accepted s ok)
 
 -- a played round has a page of 16 slots and as many prices
 outcome-sized : (r : Round) (o : Outcome) → ProperRound r → o ≡ outcomeOf r → (length (o .page .bidders) ≡ 16) × (length (o .prices) ≡ 16)

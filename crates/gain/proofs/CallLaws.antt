@@ -1,0 +1,140 @@
+-- The cases of a gain call. Assumes nothing.
+use Prim.Native.Nat.{ℕ, zero, suc, _-_, _<_, _≤_}
+use borrow.Author.Tests.{eqb-true, eqb-false, ltb-false, not-false}
+use mathlib.Core.Bool.{Bool, not, _||_}
+use mathlib.Core.List.{List}
+use mathlib.Core.Path.{_≡_, refl, sym, _∙_, ap, ap₂, subst}
+use native.Mathlib.Omega.{arith}
+use lib.Dec.{eqb, ltb}
+use lib.IntN.{ℤ, pos}
+use lib.ListN.{length, getD}
+use Rattle.basis.specs.Rows.{padded}
+use Rattle.basis.proofs.FirstLaws.{orElse-left, orElse-right, when-none}
+use Rattle.basis.proofs.TestLaws.{or-none}
+use Rattle.basis.proofs.RowLaws.{getD-padded}
+use Rattle.sheet.specs.declared.Page.{Page}
+use Rattle.sheet.specs.declared.Round.{Round}
+use Rattle.sheet.specs.Sheet.{bidderCount, slotCount}
+use Rattle.sheet.specs.Refusal.{refusalOf, Accepted}
+use Rattle.sheet.specs.Round.{roundOf}
+use Rattle.auction.specs.Greedy.{effectOf, greedyPage}
+use Rattle.auction.specs.Price.{price}
+use Rattle.auction.specs.Proper.{ProperRound}
+use Rattle.auction.proofs.GreedyLaws.{winner-bidder}
+use Rattle.auction.proofs.PriceLaws.{price-at-most-bid}
+use Rattle.greedy.specs.declared.Outcome.{Outcome}
+use Rattle.greedy.specs.Outcome.{outcomeOf}
+use Rattle.gain.specs.Gain.{slotOf, breaksOwn, gainIf, gainAt, gainOf}
+use Rattle.gain.specs.Call.{laterRefusal, gainRefusal, gainedFor, gainedOf}
+use Rattle.gain.specs.declared.Gained.{Gained}
+use Rattle.gain.proofs.SlotLaws.{slot-found}
+use Rattle.gain.proofs.HonestyLaws.{slot-won}
+
+-- a refused call
+for-refused : (k : ℕ) (s t : List ℕ) (i v : ℕ) → (k ≡ 0 → ⊥) → gainedFor k s t i v ≡ record { refusal = k; gain = pos 0 }
+unfolding gainedFor
+for-refused zero s t i v h = absurd (h refl)
+for-refused (suc k) s t i v h = refl
+
+refused : (s t : List ℕ) (i v k : ℕ) → k ≡ gainRefusal s t i v → (k ≡ 0 → ⊥) → record { refusal = k; gain = pos 0 } ≡ gainedOf s t i v
+unfolding gainedOf
+refused s t i v k e h = sym (for-refused k s t i v h) ∙ ap (λ (n : ℕ). gainedFor n s t i v) e
+
+pub played-refused : (s t : List ℕ) (i v k : ℕ) → k ≡ refusalOf s → (k ≡ 0 → ⊥) → record { refusal = k; gain = pos 0 } ≡ gainedOf s t i v
+unfolding gainRefusal
+played-refused s t i v k e h = refused s t i v k (e ∙ sym (orElse-left (refusalOf s) (laterRefusal s t i v) (λ z. h (e ∙ z)))) h
+
+pub later-refused : (s t : List ℕ) (i v k : ℕ) → Accepted s → k ≡ laterRefusal s t i v → (k ≡ 0 → ⊥) → record { refusal = k; gain = pos 0 } ≡ gainedOf s t i v
+unfolding gainRefusal
+later-refused s t i v k ok e h = refused s t i v k (e ∙ sym (orElse-right (refusalOf s) (laterRefusal s t i v) ok)) h
+
+-- a call that is not refused
+pub gained : (s t : List ℕ) (i v : ℕ) → Accepted s → laterRefusal s t i v ≡ 0 → record { refusal = 0; gain = gainOf (roundOf s) (roundOf t) i v } ≡ gainedOf s t i v
+unfolding gainedOf gainedFor gainRefusal
+gained s t i v ok e = sym (ap (λ (n : ℕ). gainedFor n s t i v) (orElse-right (refusalOf s) (laterRefusal s t i v) ok ∙ e))
+
+-- the played round's page and prices give the gain
+module _ (r t : Round) (i v : ℕ) (o : Outcome) (played : o ≡ outcomeOf r) where
+  page-of : o .page ≡ greedyPage r
+  unfolding outcomeOf
+  page-of = ap (λ (x : Outcome). x .page) played
+
+  pub gain-none : slotOf (o .page) i ≡ 0 → pos 0 ≡ gainOf r t i v
+  unfolding gainOf gainAt
+  gain-none e = sym (ap (λ (s : ℕ). gainAt s r t i v) (ap (λ (p : Page). slotOf p i) (sym page-of) ∙ e))
+
+  record Stands (k : ℕ) : Type 0 where
+    slot : slotOf (greedyPage r) i ≡ suc k
+    inside : k < r .slots
+    paid : getD (o .prices) k 0 ≡ price r (suc k)
+    low : price r (suc k) ≤ 1_000_000_000
+
+  stands-at : ProperRound r → 0 < i → (k : ℕ) → slotOf (o .page) i ≡ suc k → Stands k
+  unfolding outcomeOf
+  stands-at c some k e =
+      let here : slotOf (greedyPage r) i ≡ suc k = ap (λ (p : Page). slotOf p i) (sym page-of) ∙ e in
+      let won = slot-won r c i some k here in
+      let sized = c .sized-bids in
+      let many = c .most-bidders in
+      let listed = subst (λ (w : ℕ). w ≤ r .bidders) (won .1) (winner-bidder r _ (suc k)) in
+      let cheap = price-at-most-bid r k i (c .most-slots) (won .0) (omega arith) some (won .1) in
+      let most = c .most-bid i in
+      record {
+        slot = here;
+        inside = won .0;
+        paid = ap (λ (x : Outcome). getD (x .prices) k 0) played ∙ getD-padded (λ j. price r (suc j)) (r .slots) 16 0 0 k (won .0);
+        low = omega arith
+      }
+
+  pub gain-some : ProperRound r → 0 < i → (s : ℕ) → slotOf (o .page) i ≡ s → (s ≡ 0 → ⊥) →
+      gainIf (breaksOwn t (o .page) i) (getD (r .effects) (s - 1) 0) v (getD (o .prices) (s - 1) 0) ≡ gainOf r t i v
+  unfolding gainOf gainAt effectOf
+  gain-some c some zero e h = absurd (h refl)
+  gain-some c some (suc k) e h =
+      let w = stands-at c some k e in
+      let back : suc k - 1 ≡ k = omega arith in
+      ap (λ (n : ℕ). gainIf (breaksOwn t (o .page) i) (getD (r .effects) n 0) v (getD (o .prices) n 0)) back
+      ∙ ap₂ (λ (p : Page) (x : ℕ). gainIf (breaksOwn t p i) (getD (r .effects) k 0) v x) page-of (w .paid)
+      ∙ sym (ap (λ (n : ℕ). gainAt n r t i v) (w .slot))
+
+  -- and its numbers are in range
+  pub gain-low : ProperRound r → 0 < i → (s : ℕ) → slotOf (o .page) i ≡ s → (s ≡ 0 → ⊥) →
+      (getD (r .effects) (s - 1) 0 ≤ 1_000_000) × (getD (o .prices) (s - 1) 0 ≤ 1_000_000_000)
+  unfolding effectOf
+  gain-low c some zero e h = absurd (h refl)
+  gain-low c some (suc k) e h =
+      let w = stands-at c some k e in
+      let back : suc k - 1 ≡ k = omega arith in
+      (subst (λ (n : ℕ). getD (r .effects) n 0 ≤ 1_000_000) (sym back) (c .most-effect (suc k)),
+        subst (λ (n : ℕ). getD (o .prices) n 0 ≤ 1_000_000_000) (sym back) (subst (λ (x : ℕ). x ≤ 1_000_000_000) (sym (w .paid)) (w .low)))
+
+pub slot-index : (p : Page) (i s : ℕ) → slotOf p i ≡ s → (s ≡ 0 → ⊥) → s - 1 < 16
+slot-index p i zero e h = absurd (h refl)
+slot-index p i (suc k) e h = let l = slot-found p i k e .1 in omega arith
+
+-- what a call that 14 to 17 leave is known to satisfy
+pub record LaterAccepted (s t : List ℕ) (i v : ℕ) : Type 0 where
+  pub truth : Accepted t
+  pub same-n : bidderCount t ≡ bidderCount s
+  pub same-m : slotCount t ≡ slotCount s
+  pub some : 0 < i
+  pub listed : i ≤ bidderCount s
+  pub low : v ≤ 1_000_000_000
+
+pub later-accepted : (s t : List ℕ) (i v : ℕ) → laterRefusal s t i v ≡ 0 → LaterAccepted s t i v
+unfolding laterRefusal
+later-accepted s t i v e =
+    let fourteen = when-none 13 (not (eqb (refusalOf t) 0)) _ e in
+    let fifteen = when-none 14 (not (eqb (bidderCount t) (bidderCount s)) || not (eqb (slotCount t) (slotCount s))) _ (fourteen .1) in
+    let both = or-none (not (eqb (bidderCount t) (bidderCount s))) (not (eqb (slotCount t) (slotCount s))) (fifteen .0) in
+    let sixteen = when-none 15 (eqb i 0 || ltb (bidderCount s) i) _ (fifteen .1) in
+    let bounds = or-none (eqb i 0) (ltb (bidderCount s) i) (sixteen .0) in
+    let seventeen = when-none 16 (ltb 1_000_000_000 v) 0 (sixteen .1) in
+    record {
+      truth = eqb-true (refusalOf t) 0 (not-false (eqb (refusalOf t) 0) (fourteen .0));
+      same-n = eqb-true (bidderCount t) (bidderCount s) (not-false (eqb (bidderCount t) (bidderCount s)) (both .0));
+      same-m = eqb-true (slotCount t) (slotCount s) (not-false (eqb (slotCount t) (slotCount s)) (both .1));
+      some = (let h = eqb-false i 0 (bounds .0) in omega arith);
+      listed = ltb-false (bidderCount s) i (bounds .1);
+      low = ltb-false 1_000_000_000 v (seventeen .0)
+    }

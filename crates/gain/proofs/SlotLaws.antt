@@ -1,0 +1,148 @@
+-- Where a bidder stands, and what it gains there. Assumes nothing.
+use Prim.Native.Nat.{ℕ, zero, suc, _+_, _*_, _-_, _<_, _≤_}
+use borrow.Author.Tests.{eq-eqb, ne-eqb, lt-ltb, le-ltb}
+use mathlib.Core.Bool.{Bool, true, false, cond, _&&_}
+use mathlib.Core.Logic.{_⊎_, inl, inr, ⊎-elim}
+use mathlib.Core.Path.{_≡_, refl, sym, _∙_, ap, ap₂, subst}
+use native.Mathlib.Nat.{not-suc-le-zero, eq-or-lt-of-le, mul-zero, sub-zero, mul-le-mul}
+use native.Mathlib.Omega.{arith}
+use lib.Dec.{T, eqb, leb, le→leb}
+use lib.Signed.{_≤ℤ_, mag}
+use lib.IntN.{ℤ, pos, negsuc, negℤ, subℕ, _+ℤ_, _-ℤ_, _*ℤ_, pos-*ℤ-pos}
+use Rattle.basis.specs.First.{_when_otherwise_, firstOver}
+use Rattle.basis.specs.Tests.{anyBelow}
+use Rattle.basis.proofs.FirstLaws.{first-found, first-none, first-next, orElse-left, orElse-right}
+use Rattle.basis.proofs.TestLaws.{holds-or-fails, not-both, fails, and-holds, and-parts, any-at, any-where}
+use Rattle.sheet.specs.declared.Constraint.{Constraint}
+use Rattle.sheet.specs.declared.Page.{Page}
+use Rattle.sheet.specs.declared.Round.{Round}
+use Rattle.auction.specs.Page.{at, placed, Sized}
+use Rattle.auction.specs.Broken.{broken, constraintAt}
+use Rattle.auction.specs.Proper.{Has}
+use Rattle.auction.proofs.PageLaws.{same-or-not, placed-where, placed-at}
+use Rattle.gain.specs.Gain.{slotOf, breaksOwn, gainIf}
+
+abbrev pub seen : Page → ℕ → ℕ → ℕ
+seen p i k = suc k when eqb (at p (suc k)) i otherwise 0
+
+seen-here : (p : Page) (i k : ℕ) → at p (suc k) ≡ i → seen p i k ≡ suc k
+seen-here p i k e = simp (eq-eqb (at p (suc k)) i e)
+
+pub seen-not : (p : Page) (i k : ℕ) → (at p (suc k) ≡ i → ⊥) → seen p i k ≡ 0
+seen-not p i k d = simp (ne-eqb (at p (suc k)) i d)
+
+first-all-none : (f : ℕ → ℕ) (n : ℕ) → ((k : ℕ) → k < n → f k ≡ 0) → firstOver f n ≡ 0
+unfolding firstOver
+first-all-none f zero h = refl
+first-all-none f (suc n) h = first-next f n (first-all-none f n (λ k l. h k (omega arith))) (h n (omega arith))
+
+first-at : (p : Page) (i k n : ℕ) → firstOver (seen p i) n ≡ suc k → n ≤ 16 → (at p (suc k) ≡ i) × (k < 16)
+unfolding firstOver
+first-at p i k zero e m = absurd (omega arith)
+first-at p i k (suc n) e m =
+    ⊎-elim
+    (λ (z : firstOver (seen p i) n ≡ 0).
+        let last : seen p i n ≡ suc k = sym (orElse-right (firstOver (seen p i) n) (seen p i n) z) ∙ e in
+        ⊎-elim
+        (λ (h : at p (suc n) ≡ i).
+            let same : k ≡ n = (let q : suc k ≡ suc n = sym last ∙ seen-here p i n h in omega arith) in
+            (ap (λ (x : ℕ). at p (suc x)) same ∙ h, omega arith))
+        (λ (h : at p (suc n) ≡ i → ⊥). absurd (let q : suc k ≡ 0 = sym last ∙ seen-not p i n h in omega arith))
+        (same-or-not (at p (suc n)) i))
+    (λ (z : firstOver (seen p i) n ≡ 0 → ⊥).
+        first-at p i k n (sym (orElse-left (firstOver (seen p i) n) (seen p i n) z) ∙ e) (omega arith))
+    (same-or-not (firstOver (seen p i) n) 0)
+
+-- the bidder has no slot exactly when it is at none
+pub slot-none : (p : Page) (i : ℕ) → slotOf p i ≡ 0 → placed p i ≡ false
+unfolding slotOf
+slot-none p i e = fails (placed p i) (λ t. found (placed-where p i t))
+  where
+    found : (k : ℕ) × (0 < k) × (k ≤ 16) × (at p k ≡ i) → ⊥
+    found w = at-slot (w .0) (w .1) (w .2) (w .3)
+      where
+        at-slot : (k : ℕ) → 0 < k → k ≤ 16 → at p k ≡ i → ⊥
+        at-slot zero s m h = absurd (not-suc-le-zero s)
+        at-slot (suc k) s m h = let z : suc k ≡ 0 = sym (seen-here p i k h) ∙ first-none (seen p i) 16 e k m in absurd (omega arith)
+
+-- a slot that is found is one where the bidder stands
+pub slot-found : (p : Page) (i k : ℕ) → slotOf p i ≡ suc k → (at p (suc k) ≡ i) × (k < 16)
+unfolding slotOf
+slot-found p i k e = first-at p i k 16 e (omega arith)
+
+pub found-at : (p : Page) (i k : ℕ) → k < 16 → firstOver (seen p i) k ≡ 0 → at p (suc k) ≡ i → slotOf p i ≡ suc k
+unfolding slotOf
+found-at p i k m none e =
+    first-found (seen p i) k 16 m none (λ z. absurd (let q : suc k ≡ 0 = sym (seen-here p i k e) ∙ z in omega arith)) ∙ seen-here p i k e
+
+-- the slot where the bidder stands, and nowhere before it, is the one that is found
+pub slot-here : (p : Page) (i k : ℕ) → k < 16 → at p (suc k) ≡ i → ((j : ℕ) → j < k → at p (suc j) ≡ i → ⊥) → slotOf p i ≡ suc k
+slot-here p i k m e before = found-at p i k m (first-all-none (seen p i) k (λ j l. seen-not p i j (before j l))) e
+
+-- a broken constraint of the bidder's own
+pub breaks-own-at : (r : Round) (p : Page) (i : ℕ) (q : Constraint) → Has r q → q .owner .0 ≡ i → broken p q ≡ true → breaksOwn r p i ≡ true
+unfolding breaksOwn
+breaks-own-at r p i q h o e =
+    any-at (λ a. eqb (constraintAt r a .owner .0) i && broken p (constraintAt r a)) (r .used) (h .0) (h .1)
+    (and-holds (eq-eqb (constraintAt r (h .0) .owner .0) i (ap (λ (x : Constraint). x .owner .0) (h .2) ∙ o)) (ap (broken p) (h .2) ∙ e))
+
+pub breaks-own-where : (r : Round) (p : Page) (i : ℕ) → breaksOwn r p i ≡ true → (q : Constraint) × Has r q × (broken p q ≡ true)
+unfolding breaksOwn
+breaks-own-where r p i e =
+    let w = any-where (λ a. eqb (constraintAt r a .owner .0) i && broken p (constraintAt r a)) (r .used) e in
+    (constraintAt r (w .0), (w .0, w .1, refl), and-parts (eqb (constraintAt r (w .0) .owner .0) i) (broken p (constraintAt r (w .0))) (w .2) .1)
+
+-- a difference of two numbers, by which is larger
+less-from : (v p : ℕ) → p ≤ v → pos v -ℤ pos p ≡ pos (v - p)
+less-from v zero l = ap pos (let e : v + 0 ≡ v - 0 = omega arith in e)
+less-from v (suc p) l = ap (λ (t : Bool). cond t (negsuc (suc p - suc v)) (pos (v - suc p))) (le-ltb v (suc p) l)
+
+more-from : (v p : ℕ) → v ≤ p → pos v -ℤ pos p ≡ negℤ (pos (p - v))
+more-from v zero l =
+    ap pos (let e : v + 0 ≡ 0 = omega arith in e) ∙ ap (λ (n : ℕ). negℤ (pos n)) (let e : 0 ≡ 0 - v = omega arith in e)
+more-from v (suc p) l =
+    ⊎-elim
+    (λ (e : v ≡ suc p).
+        ap (λ (t : Bool). cond t (negsuc (suc p - suc v)) (pos (v - suc p))) (le-ltb v (suc p) (omega arith))
+        ∙ ap pos (let d : v - suc p ≡ 0 = omega arith in d)
+        ∙ ap (λ (n : ℕ). negℤ (pos n)) (let d : 0 ≡ suc p - v = omega arith in d))
+    (λ (e : v < suc p).
+        ap (λ (t : Bool). cond t (negsuc (suc p - suc v)) (pos (v - suc p))) (lt-ltb v (suc p) e)
+        ∙ ap (λ (n : ℕ). negℤ (pos n)) (let d : suc (suc p - suc v) ≡ suc p - v = omega arith in d))
+    (eq-or-lt-of-le l)
+
+times-negative : (e n : ℕ) → pos e *ℤ negℤ (pos n) ≡ negℤ (pos (e * n))
+times-negative e zero = ap pos (mul-zero e) ∙ ap (λ (n : ℕ). negℤ (pos n)) (sym (mul-zero e))
+times-negative e (suc n) = refl
+
+-- the gain by its sign
+pub gain-plus : (e v p : ℕ) → p ≤ v → gainIf false e v p ≡ pos (e * (v - p))
+unfolding gainIf
+gain-plus e v p l = ap (λ (z : ℤ). pos e *ℤ z) (less-from v p l)
+
+pub gain-minus : (e v p : ℕ) → v ≤ p → gainIf false e v p ≡ negℤ (pos (e * (p - v)))
+unfolding gainIf
+gain-minus e v p l = ap (λ (z : ℤ). pos e *ℤ z) (more-from v p l) ∙ times-negative e (p - v)
+
+-- a number below 0 or 0 is at most one above
+pub minus-at-most-plus : (m n : ℕ) → negℤ (pos m) ≤ℤ pos n
+minus-at-most-plus zero n = record { le = zero-least n }
+  where
+    zero-least : (n : ℕ) → T (leb 0 n)
+    zero-least n = le→leb 0 n (omega arith)
+minus-at-most-plus (suc m) n = record { le = tt }
+
+pub zero-at-most-plus : (n : ℕ) → pos 0 ≤ℤ pos n
+zero-at-most-plus n = record { le = le→leb 0 n (omega arith) }
+
+-- a negative number from 0, and its size
+pub zero-minus : (n : ℕ) → pos 0 -ℤ pos n ≡ negℤ (pos n)
+zero-minus n = more-from 0 n (omega arith) ∙ ap (λ (k : ℕ). negℤ (pos k)) (sub-zero n)
+
+pub minus-size : (n : ℕ) → mag (negℤ (pos n)) ≤ n
+minus-size zero = omega arith
+minus-size (suc n) = omega arith
+
+-- a product of two numbers in range is in range
+pub product-fits : (a b m n : ℕ) → a ≤ m → b ≤ n → a * b ≤ m * n
+product-fits a b m n h k = mul-le-mul h k

@@ -1,0 +1,3 @@
+pub mod Gain
+pub mod Call
+pub mod Honesty

@@ -1,0 +1,165 @@
+// The gain of a bidder from a played sheet, by its true constraints.
+ghost use mathlib.Core.Bool.{Bool, _&&_};
+ghost use lib.Dec.{eqb};
+ghost use Rattle.auction.specs.Broken.{broken};
+ghost use mathlib.Core.Path.{_≡_};
+ghost use Prim.Native.Nat.{_*_, _≤_, _<_};
+ghost use lib.IntN.{pos, negℤ};
+ghost use lib.ListN.{length};
+ghost use Rattle.sheet.specs.Refusal.{Accepted};
+ghost use Rattle.sheet.specs.Sheet.{bidderCount, slotCount};
+ghost use Rattle.auction.specs.Proper.{Proper, ProperRound};
+ghost use Rattle.gain.specs.Gain.{slotOf, breaksOwn, gainIf, gainOf};
+ghost use Rattle.gain.specs.Call.{laterRefusal, gainedOf};
+
+use sheet::{Bidder, Constraint, Page, Round, Slot};
+
+// "v, 0 to 1,000,000,000"
+const MAX_WORTH: u32 = 1000000000;
+
+// The answer: a refusal's number, or 0 and the gain.
+pub struct Gained {
+    pub refusal: u32,
+    pub gain: i64,
+}
+
+// The slot where a bidder stands, 0 for none.
+fn slot_of(page: Page, bidder: Bidder) -> Slot
+    ensures { λ r. ⌜ r .0 ≡ slotOf page (bidder .0) ⌝ }
+{
+    let mut k: u8 = 0;
+    while k < 16 {
+        if auction::stands(page, Slot(k + 1), bidder) {
+            return Slot(k + 1);
+        }
+        k += 1;
+    }
+    Slot(0)
+}
+
+// Whether a constraint is the bidder's and is broken on the page.
+fn own_broken(page: Page, constraint: Constraint, bidder: Bidder) -> bool
+    requires { ⌜ Proper constraint ⌝ }
+    ensures { λ r. ⌜ r ≡ (eqb (constraint .owner .0) (bidder .0) && broken page constraint) ⌝ }
+{
+    let owner = constraint.owner;
+    if owner.0 == bidder.0 {
+        return auction::is_broken(page, constraint);
+    }
+    false
+}
+
+// Whether a constraint of the bidder is broken on the page.
+fn breaks_own(truth: Round, page: Page, bidder: Bidder) -> bool
+    requires { ⌜ ProperRound truth ⌝ }
+    ensures { λ r. ⌜ r ≡ breaksOwn truth page (bidder .0) ⌝ }
+{
+    let used = truth.used;
+    let mut a = 0;
+    while a < used {
+        if own_broken(page, truth.constraints[a], bidder) {
+            return true;
+        }
+        a += 1;
+    }
+    false
+}
+
+// effect × (worth − paid), or −(effect × paid) where a true constraint is broken.
+fn gain_if(broken: bool, effect: u32, worth: u32, paid: u32) -> i64
+    requires { ⌜ (effect ≤ 1000000) × (worth ≤ 1000000000) × (paid ≤ 1000000000) ⌝ }
+    ensures { λ r. ⌜ r ≡ gainIf broken effect worth paid ⌝ }
+{
+    let clicks = effect as u64;
+    if broken {
+        return minus(clicks * paid as u64);
+    }
+    if paid <= worth {
+        return plus(clicks * (worth - paid) as u64);
+    }
+    minus(clicks * (paid - worth) as u64)
+}
+
+// A signed number from its size.
+fn plus(size: u64) -> i64
+    requires { ⌜ size ≤ 1000000000000000 ⌝ }
+    ensures { λ r. ⌜ r ≡ pos size ⌝ }
+{
+    size as i64
+}
+
+fn minus(size: u64) -> i64
+    requires { ⌜ size ≤ 1000000000000000 ⌝ }
+    ensures { λ r. ⌜ r ≡ negℤ (pos size) ⌝ }
+{
+    0 - size as i64
+}
+
+// The gain of a bidder from a played round.
+fn gain_of(played: Round, truth: Round, bidder: Bidder, worth: u32) -> i64
+    requires { ⌜ ProperRound played × ProperRound truth × (worth ≤ 1000000000) × (0 < bidder .0) ⌝ }
+    ensures { λ r. ⌜ r ≡ gainOf played truth (bidder .0) worth ⌝ }
+{
+    let effects = played.effects;
+    let outcome = greedy::played(played);
+    let page = outcome.page;
+    let prices = outcome.prices;
+    let slot = slot_of(page, bidder);
+    if slot.0 == 0 {
+        return 0;
+    }
+    let k = slot.0 as usize - 1;
+    gain_if(breaks_own(truth, page, bidder), effects[k], worth, prices[k])
+}
+
+// 14 to 17: the truth sheet, and the numbers of the call.
+fn later_refusal(played: &[u8], truth: &[u8], bidder: u32, worth: u32) -> u32
+    requires { ⌜ Accepted (now played) ⌝ }
+    ensures { λ r. ⌜ r ≡ laterRefusal (now (played .entry)) (now (truth .entry)) bidder worth ⌝ }
+{
+    if sheet::check(truth) != 0 {
+        return 14;
+    }
+    if truth[5] != played[5] {
+        return 15;
+    }
+    if truth[6] != played[6] {
+        return 15;
+    }
+    if bidder == 0 {
+        return 16;
+    }
+    if (played[5] as u32) < bidder {
+        return 16;
+    }
+    if MAX_WORTH < worth {
+        return 17;
+    }
+    0
+}
+
+// The number of the first rule that the call breaks, 1 to 17; or 0 and the bidder's gain from the played sheet at a worth per click,
+// by its constraints in the truth sheet.
+pub fn gain(played: &[u8], truth: &[u8], bidder: u32, worth: u32) -> Gained
+    ensures { λ r. ⌜ r ≡ gainedOf (now (played .entry)) (now (truth .entry)) bidder worth ⌝ }
+{
+    let reading = sheet::read(played);
+    let refusal = reading.refusal;
+    if refusal != 0 {
+        return Gained { refusal, gain: 0 };
+    }
+    let later = later_refusal(played, truth, bidder, worth);
+    if later != 0 {
+        return Gained {
+            refusal: later,
+            gain: 0,
+        };
+    }
+    let round = reading.round;
+    let told = sheet::read(truth);
+    let true_round = told.round;
+    Gained {
+        refusal: 0,
+        gain: gain_of(round, true_round, Bidder(bidder as u8), worth),
+    }
+}
