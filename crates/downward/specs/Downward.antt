@@ -50,5 +50,5 @@ unfoldable pub downward : Round → ℕ → Bool
 downward r i =
     allBelow
     (λ a.
-        not (eqb (constraintAt r a .owner .0) i && asksLower r (constraintAt r a .kind)) || listHas r i (oneLower (constraintAt r a .kind)))
+    not (eqb (constraintAt r a .owner .0) i && asksLower r (constraintAt r a .kind)) || listHas r i (oneLower (constraintAt r a .kind)))
     (r .used)

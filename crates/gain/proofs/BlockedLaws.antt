@@ -24,7 +24,7 @@ use Rattle.auction.specs.Proper.{ProperKind, Proper, Has, ProperRound}
 use Rattle.auction.proofs.PageLaws.{same-or-not, at-put-same, at-put-other, at-within, placed-at, put-placed, Keeps, put-keeps}
 use Rattle.auction.proofs.BrokenLaws.{broken-parts, parts-broken, other-stays, eligible-unbroken}
 use Rattle.downward.specs.Downward.{ownSlot, oneLower, downward}
-use Rattle.gain.proofs.DownwardLaws.{downward-lower}
+use Rattle.downward.proofs.DownwardLaws.{downward-lower}
 
 -- the own part is true of an owner at slot l
 abbrev OwnAt : Kind → ℕ → Type 0
@@ -48,9 +48,9 @@ module _ (p : Page) (k i : ℕ) (s : Sized p) (k-some : 0 < k) (k-most : k ≤ 1
       ⊎-elim
       (λ (x : t ≡ k). x)
       (λ (x : t ≡ k → ⊥).
-          let there : at p t ≡ i = sym (at-put-other p k i t x) ∙ eqb-true (at (put p k i) t) i e in
-          let place = at-within p t s (λ z. i-some (sym there ∙ z)) in
-          absurd (not-both (placed-at p i t (place .0) (place .1) there) unplaced))
+      let there : at p t ≡ i = sym (at-put-other p k i t x) ∙ eqb-true (at (put p k i) t) i e in
+      let place = at-within p t s (λ z. i-some (sym there ∙ z)) in
+      absurd (not-both (placed-at p i t (place .0) (place .1) there) unplaced))
       (same-or-not t k)
 
   -- and another bidder stands where it stood
@@ -73,7 +73,7 @@ module _ (p : Page) (k i : ℕ) (s : Sized p) (k-some : 0 < k) (k-most : k ≤ 1
   broken-blocks r q h proper o e =
       let parts = broken-parts (put p k i) q e in
       let both = block-parts (q .kind) (subst (λ (x : ℕ). ProperKind x (q .kind)) o (proper .named))
-            (subst (λ (x : ℕ). ownHolds (put p k i) x (q .kind) ≡ true) o (parts .0)) (parts .1) in
+      (subst (λ (x : ℕ). ownHolds (put p k i) x (q .kind) ≡ true) o (parts .0)) (parts .1) in
       record { by = q; has = h; owned = o; own = both .0; other = both .1 }
 
 -- one slot lower
@@ -100,16 +100,16 @@ pub blocked-lower : (r : Round) (i : ℕ) (p : Page) (l : ℕ) → downward r i 
 blocked-lower r i p l down some less b =
     let q = b .by in
     let has′ : Has r (record { owner = q .owner; kind = oneLower (q .kind) })
-        = ⊎-elim
-          (λ (e : ownSlot (q .kind) ≡ l). downward-lower r i down q (b .has) (b .owned) (omega arith) (omega arith))
-          (λ (e : oneLower (q .kind) ≡ q .kind). subst (λ (x : Kind). Has r (record { owner = q .owner; kind = x })) (sym e) (b .has))
-          (own-slot-at (q .kind) l (b .own)) in
+    = ⊎-elim
+    (λ (e : ownSlot (q .kind) ≡ l). downward-lower r i down q (b .has) (b .owned) (omega arith) (omega arith))
+    (λ (e : oneLower (q .kind) ≡ q .kind). subst (λ (x : Kind). Has r (record { owner = q .owner; kind = x })) (sym e) (b .has))
+    (own-slot-at (q .kind) l (b .own)) in
     record {
       by = record { owner = q .owner; kind = oneLower (q .kind) };
       has = has′;
       owned = b .owned;
       own = lower-own (q .kind) l (b .own);
-      other = lower-other p (q .kind) (b .other)
+      other = lower-other p (q .kind) (b .other);
     }
 
 -- and so every lower slot
@@ -119,7 +119,7 @@ blocked-below r i p k (suc l) down some h m b =
     ⊎-elim
     (λ (e : k ≡ suc l). subst (Blocked r i p) e b)
     (λ (lt : k < suc l).
-        blocked-lower r i p l down (omega arith) (omega arith) (blocked-below r i p k l down some (le-of-suc-le-suc lt) (omega arith) b))
+    blocked-lower r i p l down (omega arith) (omega arith) (blocked-below r i p k l down some (le-of-suc-le-suc lt) (omega arith) b))
     (eq-or-lt-of-le h)
 
 own-holds : (p : Page) (kind : Kind) (i l : ℕ) → at p l ≡ i → OwnAt kind l → ownHolds p i kind ≡ true
@@ -138,8 +138,8 @@ blocked-ineligible r c i p p′ l b keeps s some most empty able =
     let proper = c .proper q (b .has) in
     not-both
     (parts-broken two q
-      (subst (λ (x : ℕ). ownHolds two x (q .kind) ≡ true) (sym (b .owned)) (own-holds two (q .kind) i l here (b .own)))
-      (other-stays p′ two (q .owner .0) (q .kind) (put-keeps p′ l i empty) (proper .named)
-        (other-stays p p′ (q .owner .0) (q .kind) keeps (proper .named) (b .other)))
-      (ap (placed two) (b .owned) ∙ put-placed p′ l i s some most))
+    (subst (λ (x : ℕ). ownHolds two x (q .kind) ≡ true) (sym (b .owned)) (own-holds two (q .kind) i l here (b .own)))
+    (other-stays p′ two (q .owner .0) (q .kind) (put-keeps p′ l i empty) (proper .named)
+    (other-stays p p′ (q .owner .0) (q .kind) keeps (proper .named) (b .other)))
+    (ap (placed two) (b .owned) ∙ put-placed p′ l i s some most))
     (eligible-unbroken r p′ l i s some most able q (b .has))

@@ -83,7 +83,7 @@ module _ (r t : Round) (i v : ℕ) (o : Outcome) (played : o ≡ outcomeOf r) wh
         slot = here;
         inside = won .0;
         paid = ap (λ (x : Outcome). getD (x .prices) k 0) played ∙ getD-padded (λ j. price r (suc j)) (r .slots) 16 0 0 k (won .0);
-        low = omega arith
+        low = omega arith;
       }
 
   pub gain-some : ProperRound r → 0 < i → (s : ℕ) → slotOf (o .page) i ≡ s → (s ≡ 0 → ⊥) →
@@ -104,9 +104,10 @@ module _ (r t : Round) (i v : ℕ) (o : Outcome) (played : o ≡ outcomeOf r) wh
   gain-low c some zero e h = absurd (h refl)
   gain-low c some (suc k) e h =
       let w = stands-at c some k e in
-      let back : suc k - 1 ≡ k = omega arith in
-      (subst (λ (n : ℕ). getD (r .effects) n 0 ≤ 1_000_000) (sym back) (c .most-effect (suc k)),
-        subst (λ (n : ℕ). getD (o .prices) n 0 ≤ 1_000_000_000) (sym back) (subst (λ (x : ℕ). x ≤ 1_000_000_000) (sym (w .paid)) (w .low)))
+      let back : suc k - 1 ≡ k = omega arith in (
+        subst (λ (n : ℕ). getD (r .effects) n 0 ≤ 1_000_000) (sym back) (c .most-effect (suc k)),
+        subst (λ (n : ℕ). getD (o .prices) n 0 ≤ 1_000_000_000) (sym back) (subst (λ (x : ℕ). x ≤ 1_000_000_000) (sym (w .paid)) (w .low)),
+      )
 
 pub slot-index : (p : Page) (i s : ℕ) → slotOf p i ≡ s → (s ≡ 0 → ⊥) → s - 1 < 16
 slot-index p i zero e h = absurd (h refl)
@@ -136,5 +137,5 @@ later-accepted s t i v e =
       same-m = eqb-true (slotCount t) (slotCount s) (not-false (eqb (slotCount t) (slotCount s)) (both .1));
       some = (let h = eqb-false i 0 (bounds .0) in omega arith);
       listed = ltb-false (bidderCount s) i (bounds .1);
-      low = ltb-false 1_000_000_000 v (seventeen .0)
+      low = ltb-false 1_000_000_000 v (seventeen .0);
     }

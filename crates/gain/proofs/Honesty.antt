@@ -27,7 +27,7 @@ use Rattle.gain.specs.Gain.{gainOf}
 use Rattle.gain.specs.Call.{laterRefusal, gainRefusal, gainedFor, gainedOf}
 use Rattle.gain.specs.Honesty.{Lists, DifferOnlyInList, Honesty}
 use Rattle.gain.specs.declared.Gained.{Gained}
-use Rattle.gain.proofs.DownwardLaws.{tested-yes}
+use Rattle.downward.proofs.DownwardLaws.{tested-yes}
 use Rattle.gain.proofs.HonestyLaws.{honest-pays}
 
 -- what a sheet lists is what its round has
@@ -60,9 +60,14 @@ not-refused : (s t : List ℕ) (i v : ℕ) → Accepted s → Accepted t → bid
 unfolding gainRefusal laterRefusal
 not-refused s t i v ok ok′ n m some listed low =
     orElse-right (refusalOf s) (laterRefusal s t i v) ok
-    ∙ simp
-      (eq-eqb (refusalOf t) 0 ok′, eq-eqb (bidderCount t) (bidderCount s) n, eq-eqb (slotCount t) (slotCount s) m, ne-eqb i 0 (omega arith),
-        le-ltb (bidderCount s) i listed, le-ltb 1_000_000_000 v low)
+    ∙ simp (
+      eq-eqb (refusalOf t) 0 ok′,
+      eq-eqb (bidderCount t) (bidderCount s) n,
+      eq-eqb (slotCount t) (slotCount s) m,
+      ne-eqb i 0 (omega arith),
+      le-ltb (bidderCount s) i listed,
+      le-ltb 1_000_000_000 v low,
+    )
 
 gained-is : (s t : List ℕ) (i v : ℕ) → gainRefusal s t i v ≡ 0 → gainedOf s t i v ≡ record { refusal = 0; gain = gainOf (roundOf s) (roundOf t) i v }
 unfolding gainedOf gainedFor
@@ -88,7 +93,7 @@ rounds-except i s t ok ok′ d =
       slots = rounds-m s t (d .same-m);
       bids = λ a e. bids-of s t (d .same-n) (d .same-bids) a;
       there = λ q e h. lists-has t ok′ q (d .listed q e (has-lists s ok q h));
-      back = λ q e h. lists-has s ok q (d .listed-back q e (has-lists t ok′ q h))
+      back = λ q e h. lists-has s ok q (d .listed-back q e (has-lists t ok′ q h));
     }
 
 pub honesty : Honesty
@@ -102,7 +107,8 @@ honesty s o b v ok ok′ d passed low worth =
     let bids = bids-of s o (d .same-n) (d .same-bids) in
     let except = rounds-except i s o ok ok′ d in
     let pays = honest-pays (roundOf s) (roundOf o) i v (round-proper s ok) (round-proper o ok′) except (bids i)
-          (effects-of s o (d .same-m) (d .same-effects)) (tested .1 .1) (omega arith) (rounds-listed s i listed) (subst (λ (a : ℕ). a ≤ v) (sym (round-bid s ok b listed)) low) in
-    (ap (λ (g : Gained). g .refusal) (gained-is s s i v first),
+    (effects-of s o (d .same-m) (d .same-effects)) (tested .1 .1) (omega arith) (rounds-listed s i listed) (subst (λ (a : ℕ). a ≤ v) (sym (round-bid s ok b listed)) low) in (
+      ap (λ (g : Gained). g .refusal) (gained-is s s i v first),
       ap (λ (g : Gained). g .refusal) (gained-is o s i v second),
-      subst₂ (λ (g h : ℤ). g ≤ℤ h) (sym (ap (λ (g : Gained). g .gain) (gained-is o s i v second))) (sym (ap (λ (g : Gained). g .gain) (gained-is s s i v first))) pays)
+      subst₂ (λ (g h : ℤ). g ≤ℤ h) (sym (ap (λ (g : Gained). g .gain) (gained-is o s i v second))) (sym (ap (λ (g : Gained). g .gain) (gained-is s s i v first))) pays,
+    )

@@ -30,14 +30,29 @@ use Rattle.auction.specs.Except.{Except}
 use Rattle.auction.proofs.PageLaws.{same-or-not, below-or-not, placed-where, placed-at, Keeps, keeps-placed}
 use Rattle.auction.proofs.BrokenLaws.{broken-stays, breaks-where, breaks-none, none-breaks, eligible-unplaced, eligible-unbroken, unbroken-eligible}
 use Rattle.auction.proofs.GreedyLaws.{
-  upTo-next, upTo-sized, upTo-later, upTo-keeps, upTo-settled, slot-winner, winner-eligible, nobody-twice, greedy-unbroken,
+  upTo-next,
+  upTo-sized,
+  upTo-later,
+  upTo-keeps,
+  upTo-settled,
+  slot-winner,
+  winner-eligible,
+  nobody-twice,
+  greedy-unbroken,
 }
 use Rattle.auction.proofs.ExceptLaws.{eligible-except, pages-agree}
 use Rattle.auction.proofs.PriceLaws.{price-at-most-bid, price-except}
 use Rattle.downward.specs.Downward.{downward}
 use Rattle.gain.specs.Gain.{slotOf, breaksOwn, gainIf, gainAt, gainOf}
 use Rattle.gain.proofs.SlotLaws.{
-  slot-none, slot-found, slot-here, breaks-own-at, breaks-own-where, gain-plus, minus-at-most-plus, zero-at-most-plus,
+  slot-none,
+  slot-found,
+  slot-here,
+  breaks-own-at,
+  breaks-own-where,
+  gain-plus,
+  minus-at-most-plus,
+  zero-at-most-plus,
 }
 use Rattle.gain.proofs.BlockedLaws.{Blocked, broken-blocks, blocked-below, blocked-ineligible}
 
@@ -55,10 +70,10 @@ won-among r i k s m e = at-slot (placed-where (pageUpTo r k) i e)
     by-slot zero p h = absurd (not-suc-le-zero p)
     by-slot (suc j) p h =
         let inside : j < k
-            = ⊎-elim
-              (λ (l : j < k). l)
-              (λ (l : k ≤ j). absurd (s (sym h ∙ upTo-later r k (suc j) (omega arith))))
-              (below-or-not j k) in
+        = ⊎-elim
+        (λ (l : j < k). l)
+        (λ (l : k ≤ j). absurd (s (sym h ∙ upTo-later r k (suc j) (omega arith))))
+        (below-or-not j k) in
         (j, inside, sym (upTo-settled r j k inside m) ∙ h)
 
     at-slot : (x : ℕ) × (0 < x) × (x ≤ 16) × (at (pageUpTo r k) x ≡ i) → (j : ℕ) × (j < k) × (winnerAt r (pageUpTo r j) (suc j) ≡ i)
@@ -69,7 +84,7 @@ winner-unplaced : (r : Round) (i k : ℕ) → (i ≡ 0 → ⊥) → winnerAt r (
     (eligible r (pageUpTo r k) (suc k) i ≡ true) × (placed (pageUpTo r k) i ≡ false)
 winner-unplaced r i k s e =
     let able : eligible r (pageUpTo r k) (suc k) i ≡ true
-        = subst (λ (x : ℕ). eligible r (pageUpTo r k) (suc k) x ≡ true) e (winner-eligible r (pageUpTo r k) (suc k) (λ z. s (sym e ∙ z)) .able) in
+    = subst (λ (x : ℕ). eligible r (pageUpTo r k) (suc k) x ≡ true) e (winner-eligible r (pageUpTo r k) (suc k) (λ z. s (sym e ∙ z)) .able) in
     (able, eligible-unplaced r (pageUpTo r k) (suc k) i able)
 
 -- The two rounds: r has i's true list, r′ another.
@@ -87,10 +102,10 @@ module _ (r r′ : Round) (i : ℕ) (c : ProperRound r) (c′ : ProperRound r′
   both-eligible p k s l m u e e′ =
       winner-same (eligible r p k) (eligible r′ p k) (bidOf r) (bidOf r′) (r .bidders)
       (λ j a z.
-          ⊎-elim
-          (λ (q : j ≡ i). ap (eligible r p k) q ∙ e ∙ sym e′ ∙ ap (eligible r′ p k) (sym q))
-          (λ (d : j ≡ i → ⊥). eligible-except i r r′ x p k j s l m u d)
-          (same-or-not j i))
+      ⊎-elim
+      (λ (q : j ≡ i). ap (eligible r p k) q ∙ e ∙ sym e′ ∙ ap (eligible r′ p k) (sym q))
+      (λ (d : j ≡ i → ⊥). eligible-except i r r′ x p k j s l m u d)
+      (same-or-not j i))
       (λ j a z. bids-same j)
       ∙ ap (winner (eligible r′ p k) (bidOf r′)) (x .bidders)
 
@@ -101,7 +116,7 @@ module _ (r r′ : Round) (i : ℕ) (c : ProperRound r) (c′ : ProperRound r′
       ⊎-elim
       (λ (o : w .0 .owner .0 ≡ i). broken-blocks p k i s l m u i-some r′ (w .0) (w .1) (c′ .proper (w .0) (w .1)) o (w .2))
       (λ (o : w .0 .owner .0 ≡ i → ⊥).
-          absurd (not-both (w .2) (eligible-unbroken r p k i s l m e (w .0) (x .back (w .0) o (w .1)))))
+      absurd (not-both (w .2) (eligible-unbroken r p k i s l m e (w .0) (x .back (w .0) o (w .1)))))
       (same-or-not (w .0 .owner .0) i)
 
   few : r .slots ≤ 16
@@ -116,7 +131,7 @@ module _ (r r′ : Round) (i : ℕ) (c : ProperRound r) (c′ : ProperRound r′
     unplaced′ j l =
         fails (placed (pageUpTo r′ j) i)
         (λ t.
-            not-both (keeps-placed (pageUpTo r′ j) (pageUpTo r′ k) i i-some (upTo-keeps r′ j k l) t) (winner-unplaced r′ i k i-some won .1))
+        not-both (keeps-placed (pageUpTo r′ j) (pageUpTo r′ k) i i-some (upTo-keeps r′ j k l) t) (winner-unplaced r′ i k i-some won .1))
 
     -- the honest round gives i no slot before
     no-slot-before : placed (pageUpTo r k) i ≡ false
@@ -131,21 +146,21 @@ module _ (r r′ : Round) (i : ℕ) (c : ProperRound r) (c′ : ProperRound r′
             let first = winner-unplaced r i j i-some (w .2) in
             let same : pageUpTo r j ≡ pageUpTo r′ j = pages-agree i r r′ x i-some j (omega arith) (first .1) (unplaced′ j (omega arith)) in
             let lost : winnerAt r′ p (suc j) ≡ i → ⊥
-                = (λ e.
-                      let e′ : winnerAt r′ (pageUpTo r′ j) (suc j) ≡ i = ap (λ (q : Page). winnerAt r′ q (suc j)) (sym same) ∙ e in
-                      not-both
-                      (placed-at (pageUpTo r′ k) i (suc j) (omega arith) room (upTo-settled r′ j k less (let h = few′ in omega arith) ∙ e′))
-                      (unplaced′ k (omega arith))) in
+            = (λ e.
+            let e′ : winnerAt r′ (pageUpTo r′ j) (suc j) ≡ i = ap (λ (q : Page). winnerAt r′ q (suc j)) (sym same) ∙ e in
+            not-both
+            (placed-at (pageUpTo r′ k) i (suc j) (omega arith) room (upTo-settled r′ j k less (let h = few′ in omega arith) ∙ e′))
+            (unplaced′ k (omega arith))) in
             ⊎-elim
             (λ (t : eligible r′ p (suc j) i ≡ true).
-                lost (sym (both-eligible p (suc j) (upTo-sized r j) (omega arith) room (first .1) (first .0) t) ∙ w .2))
+            lost (sym (both-eligible p (suc j) (upTo-sized r j) (omega arith) room (first .1) (first .0) t) ∙ w .2))
             (λ (t : eligible r′ p (suc j) i ≡ false).
-                let stopped = blocks p (suc j) (upTo-sized r j) (omega arith) room (first .1) (first .0) t in
-                let later : Blocked r′ i p (suc k) = blocked-below r′ i p (suc j) (suc k) down (omega arith) (omega arith) (omega arith) stopped in
-                blocked-ineligible r′ c′ i p (pageUpTo r′ k) (suc k) later
-                (subst (λ (q : Page). Keeps q (pageUpTo r′ k)) (sym same) (upTo-keeps r′ j k (omega arith)))
-                (upTo-sized r′ k) (omega arith) (let h = few′ in omega arith) (upTo-later r′ k (suc k) (omega arith))
-                (winner-unplaced r′ i k i-some won .0))
+            let stopped = blocks p (suc j) (upTo-sized r j) (omega arith) room (first .1) (first .0) t in
+            let later : Blocked r′ i p (suc k) = blocked-below r′ i p (suc j) (suc k) down (omega arith) (omega arith) (omega arith) stopped in
+            blocked-ineligible r′ c′ i p (pageUpTo r′ k) (suc k) later
+            (subst (λ (q : Page). Keeps q (pageUpTo r′ k)) (sym same) (upTo-keeps r′ j k (omega arith)))
+            (upTo-sized r′ k) (omega arith) (let h = few′ in omega arith) (upTo-later r′ k (suc k) (omega arith))
+            (winner-unplaced r′ i k i-some won .0))
             (holds-or-fails (eligible r′ p (suc j) i))
 
     same-before : pageUpTo r k ≡ pageUpTo r′ k
@@ -158,24 +173,24 @@ module _ (r r′ : Round) (i : ℕ) (c : ProperRound r) (c′ : ProperRound r′
         let p = pageUpTo r k in
         let room : suc k ≤ 16 = (let h = few′ in omega arith) in
         let able′ : eligible r′ p (suc k) i ≡ true
-            = ap (λ (q : Page). eligible r′ q (suc k) i) same-before ∙ winner-unplaced r′ i k i-some won .0 in
+        = ap (λ (q : Page). eligible r′ q (suc k) i) same-before ∙ winner-unplaced r′ i k i-some won .0 in
         let able : eligible r p (suc k) i ≡ true
-            = holds (eligible r p (suc k) i)
-              (λ f.
-                  let w = ineligible-where r p (suc k) i no-slot-before f in
-                  ⊎-elim
-                  (λ (o : w .0 .owner .0 ≡ i).
-                      let next : put p (suc k) i ≡ pageUpTo r′ (suc k)
-                          = ap₂ (λ (q : Page) (v : ℕ). put q (suc k) v) same-before (sym won) ∙ sym (upTo-next r′ k) in
-                      not-both
-                      (breaks-own-at r (pageUpTo r′ (r′ .slots)) i (w .0) (w .1) o
-                        (broken-stays (pageUpTo r′ (suc k)) (pageUpTo r′ (r′ .slots)) (w .0) (upTo-keeps r′ (suc k) (r′ .slots) inside)
-                          (c .proper (w .0) (w .1)) (ap (λ (q : Page). broken q (w .0)) (sym next) ∙ w .2)))
-                      unbroken)
-                  (λ (o : w .0 .owner .0 ≡ i → ⊥).
-                      not-both (w .2)
-                      (eligible-unbroken r′ p (suc k) i (upTo-sized r k) (omega arith) room able′ (w .0) (x .there (w .0) o (w .1))))
-                  (same-or-not (w .0 .owner .0) i)) in
+        = holds (eligible r p (suc k) i)
+        (λ f.
+        let w = ineligible-where r p (suc k) i no-slot-before f in
+        ⊎-elim
+        (λ (o : w .0 .owner .0 ≡ i).
+        let next : put p (suc k) i ≡ pageUpTo r′ (suc k)
+        = ap₂ (λ (q : Page) (v : ℕ). put q (suc k) v) same-before (sym won) ∙ sym (upTo-next r′ k) in
+        not-both
+        (breaks-own-at r (pageUpTo r′ (r′ .slots)) i (w .0) (w .1) o
+        (broken-stays (pageUpTo r′ (suc k)) (pageUpTo r′ (r′ .slots)) (w .0) (upTo-keeps r′ (suc k) (r′ .slots) inside)
+        (c .proper (w .0) (w .1)) (ap (λ (q : Page). broken q (w .0)) (sym next) ∙ w .2)))
+        unbroken)
+        (λ (o : w .0 .owner .0 ≡ i → ⊥).
+        not-both (w .2)
+        (eligible-unbroken r′ p (suc k) i (upTo-sized r k) (omega arith) room able′ (w .0) (x .there (w .0) o (w .1))))
+        (same-or-not (w .0 .owner .0) i)) in
         both-eligible p (suc k) (upTo-sized r k) (omega arith) room no-slot-before able able′
         ∙ ap (λ (q : Page). winnerAt r′ q (suc k)) same-before
         ∙ won
@@ -187,10 +202,10 @@ module _ (r : Round) (c : ProperRound r) (i : ℕ) (some : 0 < i) where
   slot-won k e =
       let here = slot-found (pageUpTo r (r .slots)) i k e .0 in
       let inside : k < r .slots
-          = ⊎-elim
-            (λ (l : k < r .slots). l)
-            (λ (l : r .slots ≤ k). absurd (let z : i ≡ 0 = sym here ∙ upTo-later r (r .slots) (suc k) (omega arith) in omega arith))
-            (below-or-not k (r .slots)) in
+      = ⊎-elim
+      (λ (l : k < r .slots). l)
+      (λ (l : r .slots ≤ k). absurd (let z : i ≡ 0 = sym here ∙ upTo-later r (r .slots) (suc k) (omega arith) in omega arith))
+      (below-or-not k (r .slots)) in
       (inside, sym (slot-winner r (c .most-slots) k inside) ∙ here)
 
   pub won-slot : (k : ℕ) → k < r .slots → winnerAt r (pageUpTo r k) (suc k) ≡ i → slotOf (greedyPage r) i ≡ suc k
@@ -201,16 +216,16 @@ module _ (r : Round) (c : ProperRound r) (i : ℕ) (some : 0 < i) where
       let here : at page (suc k) ≡ i = slot-winner r few k inside ∙ won in
       slot-here page i k (omega arith) here
       (λ j l e.
-          let same = nobody-twice r (r .slots) (suc j) (suc k) few (λ z. absurd (let q : i ≡ 0 = sym e ∙ z in omega arith)) (e ∙ sym here) in
-          absurd (omega arith))
+      let same = nobody-twice r (r .slots) (suc j) (suc k) few (λ z. absurd (let q : i ≡ 0 = sym e ∙ z in omega arith)) (e ∙ sym here) in
+      absurd (omega arith))
 
   -- the greedy page breaks no true constraint of anybody
   pub true-unbroken : breaksOwn r (greedyPage r) i ≡ false
   true-unbroken =
       fails (breaksOwn r (greedyPage r) i)
       (λ t.
-          let w = breaks-own-where r (greedyPage r) i t in
-          not-both (w .2) (breaks-none r (greedyPage r) (greedy-unbroken r c) (w .0) (w .1)))
+      let w = breaks-own-where r (greedyPage r) i t in
+      not-both (w .2) (breaks-none r (greedyPage r) (greedy-unbroken r c) (w .0) (w .1)))
 
   -- what an honest bidder gains: nothing without a slot, and else what the worth is above the price
   pub honest-gain : (v : ℕ) → bidOf r i ≤ v → i ≤ r .bidders → (n : ℕ) × (gainOf r r i v ≡ pos n)
@@ -223,11 +238,12 @@ module _ (r : Round) (c : ProperRound r) (i : ℕ) (some : 0 < i) where
           let won = slot-won k e in
           let sized = c .sized-bids in
           let many = c .most-bidders in
-          let paid = price-at-most-bid r k i (c .most-slots) (won .0) (omega arith) some (won .1) in
-          (effectOf r (suc k) * (v - price r (suc k)),
+          let paid = price-at-most-bid r k i (c .most-slots) (won .0) (omega arith) some (won .1) in (
+            effectOf r (suc k) * (v - price r (suc k)),
             ap (λ (s : ℕ). gainAt s r r i v) e
-            ∙ ap (λ (t : Bool). gainIf t (effectOf r (suc k)) v (price r (suc k))) true-unbroken
-            ∙ gain-plus (effectOf r (suc k)) v (price r (suc k)) (omega arith))
+                ∙ ap (λ (t : Bool). gainIf t (effectOf r (suc k)) v (price r (suc k))) true-unbroken
+                ∙ gain-plus (effectOf r (suc k)) v (price r (suc k)) (omega arith),
+          )
 
 -- Demand 3 over rounds.
 pub honest-pays : (r r′ : Round) (i v : ℕ) → ProperRound r → ProperRound r′ → Except i r r′ → bidOf r i ≡ bidOf r′ i →
@@ -249,23 +265,23 @@ honest-pays r r′ i v c c′ x same-bid same-effects down some listed low = by-
         let here = ap (λ (s : ℕ). gainAt s r′ r i v) e in
         ⊎-elim
         (λ (t : breaksOwn r (greedyPage r′) i ≡ true).
-            at-most (negℤ (pos (effectOf r′ (suc k) * price r′ (suc k))))
-            (here ∙ ap (λ (b : Bool). gainIf b (effectOf r′ (suc k)) v (price r′ (suc k))) t)
-            (minus-at-most-plus (effectOf r′ (suc k) * price r′ (suc k)) (honest .0)))
+        at-most (negℤ (pos (effectOf r′ (suc k) * price r′ (suc k))))
+        (here ∙ ap (λ (b : Bool). gainIf b (effectOf r′ (suc k)) v (price r′ (suc k))) t)
+        (minus-at-most-plus (effectOf r′ (suc k) * price r′ (suc k)) (honest .0)))
         (λ (t : breaksOwn r (greedyPage r′) i ≡ false).
-            let won-honest = won-too r r′ i c c′ x same-bid some down k (won .0) (won .1) t in
-            let slots = x .slots in
-            let sized = c .sized-bids in
-            let sized′ = c′ .sized-bids in
-            let many = c .most-bidders in
-            let inside : k < r .slots = (let l = won .0 in omega arith) in
-            let paid : price r (suc k) ≡ price r′ (suc k)
-                = price-except r r′ k i x (c .most-slots) inside some (omega arith) (omega arith)
-                  (same-before r r′ i c c′ x same-bid some down k (won .0) (won .1)) won-honest (won .1) in
-            let equal : gainOf r′ r i v ≡ gainOf r r i v
-                = here
-                  ∙ ap (λ (b : Bool). gainIf b (effectOf r′ (suc k)) v (price r′ (suc k))) (t ∙ sym (true-unbroken r c i some))
-                  ∙ ap₂ (λ (a p : ℕ). gainIf (breaksOwn r (greedyPage r) i) a v p) (sym (same-effects (suc k))) (sym paid)
-                  ∙ sym (ap (λ (s : ℕ). gainAt s r r i v) (won-slot r c i some k inside won-honest)) in
-            subst (λ (g : ℤ). gainOf r′ r i v ≤ℤ g) equal (≤ℤ-refl (gainOf r′ r i v)))
+        let won-honest = won-too r r′ i c c′ x same-bid some down k (won .0) (won .1) t in
+        let slots = x .slots in
+        let sized = c .sized-bids in
+        let sized′ = c′ .sized-bids in
+        let many = c .most-bidders in
+        let inside : k < r .slots = (let l = won .0 in omega arith) in
+        let paid : price r (suc k) ≡ price r′ (suc k)
+        = price-except r r′ k i x (c .most-slots) inside some (omega arith) (omega arith)
+        (same-before r r′ i c c′ x same-bid some down k (won .0) (won .1)) won-honest (won .1) in
+        let equal : gainOf r′ r i v ≡ gainOf r r i v
+        = here
+        ∙ ap (λ (b : Bool). gainIf b (effectOf r′ (suc k)) v (price r′ (suc k))) (t ∙ sym (true-unbroken r c i some))
+        ∙ ap₂ (λ (a p : ℕ). gainIf (breaksOwn r (greedyPage r) i) a v p) (sym (same-effects (suc k))) (sym paid)
+        ∙ sym (ap (λ (s : ℕ). gainAt s r r i v) (won-slot r c i some k inside won-honest)) in
+        subst (λ (g : ℤ). gainOf r′ r i v ≤ℤ g) equal (≤ℤ-refl (gainOf r′ r i v)))
         (holds-or-fails (breaksOwn r (greedyPage r′) i))

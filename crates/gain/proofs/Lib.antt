@@ -1,4 +1,4 @@
-pub mod DownwardLaws
+-- Where a bidder stands and what it gains, the cases of a call, and demand 3.
 pub mod SlotLaws
 pub mod BlockedLaws
 pub mod HonestyLaws

@@ -42,15 +42,15 @@ first-at p i k zero e m = absurd (omega arith)
 first-at p i k (suc n) e m =
     ⊎-elim
     (λ (z : firstOver (seen p i) n ≡ 0).
-        let last : seen p i n ≡ suc k = sym (orElse-right (firstOver (seen p i) n) (seen p i n) z) ∙ e in
-        ⊎-elim
-        (λ (h : at p (suc n) ≡ i).
-            let same : k ≡ n = (let q : suc k ≡ suc n = sym last ∙ seen-here p i n h in omega arith) in
-            (ap (λ (x : ℕ). at p (suc x)) same ∙ h, omega arith))
-        (λ (h : at p (suc n) ≡ i → ⊥). absurd (let q : suc k ≡ 0 = sym last ∙ seen-not p i n h in omega arith))
-        (same-or-not (at p (suc n)) i))
+    let last : seen p i n ≡ suc k = sym (orElse-right (firstOver (seen p i) n) (seen p i n) z) ∙ e in
+    ⊎-elim
+    (λ (h : at p (suc n) ≡ i).
+    let same : k ≡ n = (let q : suc k ≡ suc n = sym last ∙ seen-here p i n h in omega arith) in
+    (ap (λ (x : ℕ). at p (suc x)) same ∙ h, omega arith))
+    (λ (h : at p (suc n) ≡ i → ⊥). absurd (let q : suc k ≡ 0 = sym last ∙ seen-not p i n h in omega arith))
+    (same-or-not (at p (suc n)) i))
     (λ (z : firstOver (seen p i) n ≡ 0 → ⊥).
-        first-at p i k n (sym (orElse-left (firstOver (seen p i) n) (seen p i n) z) ∙ e) (omega arith))
+    first-at p i k n (sym (orElse-left (firstOver (seen p i) n) (seen p i n) z) ∙ e) (omega arith))
     (same-or-not (firstOver (seen p i) n) 0)
 
 -- the bidder has no slot exactly when it is at none
@@ -103,12 +103,12 @@ more-from v zero l =
 more-from v (suc p) l =
     ⊎-elim
     (λ (e : v ≡ suc p).
-        ap (λ (t : Bool). cond t (negsuc (suc p - suc v)) (pos (v - suc p))) (le-ltb v (suc p) (omega arith))
-        ∙ ap pos (let d : v - suc p ≡ 0 = omega arith in d)
-        ∙ ap (λ (n : ℕ). negℤ (pos n)) (let d : 0 ≡ suc p - v = omega arith in d))
+    ap (λ (t : Bool). cond t (negsuc (suc p - suc v)) (pos (v - suc p))) (le-ltb v (suc p) (omega arith))
+    ∙ ap pos (let d : v - suc p ≡ 0 = omega arith in d)
+    ∙ ap (λ (n : ℕ). negℤ (pos n)) (let d : 0 ≡ suc p - v = omega arith in d))
     (λ (e : v < suc p).
-        ap (λ (t : Bool). cond t (negsuc (suc p - suc v)) (pos (v - suc p))) (lt-ltb v (suc p) e)
-        ∙ ap (λ (n : ℕ). negℤ (pos n)) (let d : suc (suc p - suc v) ≡ suc p - v = omega arith in d))
+    ap (λ (t : Bool). cond t (negsuc (suc p - suc v)) (pos (v - suc p))) (lt-ltb v (suc p) e)
+    ∙ ap (λ (n : ℕ). negℤ (pos n)) (let d : suc (suc p - suc v) ≡ suc p - v = omega arith in d))
     (eq-or-lt-of-le l)
 
 times-negative : (e n : ℕ) → pos e *ℤ negℤ (pos n) ≡ negℤ (pos (e * n))

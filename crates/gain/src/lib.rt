@@ -11,8 +11,11 @@ ghost use Rattle.sheet.specs.Sheet.{bidderCount, slotCount};
 ghost use Rattle.auction.specs.Proper.{Proper, ProperRound};
 ghost use Rattle.gain.specs.Gain.{slotOf, breaksOwn, gainIf, gainOf};
 ghost use Rattle.gain.specs.Call.{laterRefusal, gainedOf};
-
-use sheet::{Bidder, Constraint, Page, Round, Slot};
+use sheet::Bidder;
+use sheet::Constraint;
+use sheet::Page;
+use sheet::Round;
+use sheet::Slot;
 
 // "v, 0 to 1,000,000,000"
 const MAX_WORTH: u32 = 1000000000;
@@ -109,7 +112,12 @@ fn gain_of(played: Round, truth: Round, bidder: Bidder, worth: u32) -> i64
         return 0;
     }
     let k = slot.0 as usize - 1;
-    gain_if(breaks_own(truth, page, bidder), effects[k], worth, prices[k])
+    gain_if(
+        breaks_own(truth, page, bidder),
+        effects[k],
+        worth,
+        prices[k],
+    )
 }
 
 // 14 to 17: the truth sheet, and the numbers of the call.

@@ -58,10 +58,11 @@ unfolding anyBelow
 loop-again c =
     let p = c .before .before .before .before .args .page in
     let i = c .before .before .before .before .args .bidder .0 in
-    let k = c .before .before .before .loop .k in
-    (omega arith,
+    let k = c .before .before .before .loop .k in (
+      omega arith,
       rw (add-one k)
-      (or-fails (c .before .before .before .loop .inv .1) (ap (λ (x : ℕ). eqb (at p x) i) (sym (add-one k)) ∙ sym (c .before .stands .ensures) ∙ c .if1 .left)))
+          (or-fails (c .before .before .before .loop .inv .1) (ap (λ (x : ℕ). eqb (at p x) i) (sym (add-one k)) ∙ sym (c .before .stands .ensures) ∙ c .if1 .left)),
+    )
 
 -- src/lib.rt:51:1
 returns-2 : tie.Need-returns-2 Inv-loop μ-loop

@@ -12,9 +12,6 @@ use Rattle.auction.specs.Broken.{broken, constraintAt}
 use Rattle.gain.specs.Gain.{breaksOwn}
 use Rattle.gain.proofs.breaks_own.Statement.{statement}
 use Rattle.gain.proofs.breaks_own.Tie as tie
-use Rattle.gain.proofs.breaks_own.Reads as reads
-use Rattle.gain.proofs.breaks_own.Lts as lts
-use Rattle.gain.proofs.own_broken.Reads as own-broken-reads
 
 abbrev Inv-loop : tie.InvT-loop
 Inv-loop page bidder truth used a₀ a = (a ≤ used) × (anyBelow (λ j. eqb (constraintAt truth j .owner .0) (bidder .0) && broken page (constraintAt truth j)) a ≡ false)
@@ -22,25 +19,20 @@ Inv-loop page bidder truth used a₀ a = (a ≤ used) × (anyBelow (λ j. eqb (c
 abbrev μ-loop : tie.MeasureT-loop
 μ-loop page bidder truth used a₀ a = used - a
 
--- src/lib.rt:59:5
 loop-holds : tie.Need-loop-holds Inv-loop μ-loop
 unfolding anyBelow
 loop-holds c = (omega arith, refl)
 
--- src/lib.rt:60:29
 mul-own-broken : tie.Need-mul-own-broken Inv-loop μ-loop
 mul-own-broken c = let p = c .before .before .pre in omega arith
 
--- src/lib.rt:60:29
 element-copy-out-own-broken : tie.Need-element-copy-out-own-broken Inv-loop μ-loop
 element-copy-out-own-broken c = let p = c .before .before .pre in omega arith
 
--- src/lib.rt:60:12
 own-broken-requires : tie.Need-own-broken-requires Inv-loop μ-loop
 unfolding constraintAt
 own-broken-requires c κs = c .before .before .before .pre .proper _ (c .before .before .loop .a, c .before .loop-test .taken, refl)
 
--- src/lib.rt:61:13
 returns : tie.Need-returns Inv-loop μ-loop
 unfolding breaksOwn constraintAt
 returns c =
@@ -51,22 +43,19 @@ returns c =
     (any-at (λ j. eqb (constraintAt r j .owner .0) i && broken p (constraintAt r j)) (r .used) (c .before .before .before .before .loop .a) (c .before .before .before .loop-test .taken)
     (sym (c .before .own-broken .ensures) ∙ c .if1 .taken))
 
--- src/lib.rt:63:9
 add-a : tie.Need-add-a Inv-loop μ-loop
 add-a c = let p = c .before .before .before .before .before .pre in omega arith
 
--- src/lib.rt:59:5
 loop-less : tie.Need-loop-less Inv-loop μ-loop
 loop-less c = omega arith
 
--- src/lib.rt:59:5
 loop-again : tie.Need-loop-again Inv-loop μ-loop
 unfolding anyBelow constraintAt
-loop-again c =
-    (omega arith,
-      rw (add-one (c .before .before .before .before .loop .a)) (or-fails (c .before .before .before .before .loop .inv .1) (sym (c .before .own-broken .ensures) ∙ c .if1 .left)))
+loop-again c = (
+  omega arith,
+  rw (add-one (c .before .before .before .before .loop .a)) (or-fails (c .before .before .before .before .loop .inv .1) (sym (c .before .own-broken .ensures) ∙ c .if1 .left)),
+)
 
--- src/lib.rt:53:1
 returns-2 : tie.Need-returns-2 Inv-loop μ-loop
 unfolding breaksOwn
 returns-2 c =

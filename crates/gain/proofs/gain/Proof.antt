@@ -15,23 +15,15 @@ use Rattle.gain.proofs.CallLaws.{played-refused, later-refused, later-a
 use borrow.Author.Needs.{needs}
 use Rattle.gain.proofs.gain.Statement.{statement}
 use Rattle.gain.proofs.gain.Tie as tie
-use Rattle.gain.proofs.gain.Reads as reads
-use Rattle.gain.proofs.gain.Lts as lts
-use Rattle.gain.proofs.gain_of.Reads as gain-of-reads
-use Rattle.gain.proofs.later_refusal.Reads as later-refusal-reads
-use Rattle.sheet.proofs.read.Reads as read-reads
 
--- src/lib.rt:146:9
 read-requires : tie.Need-read-requires
 read-requires c κs = search needs
 
--- src/lib.rt:149:9
 returns : tie.Need-returns
 returns c =
     let s = c .before .before .before .before .args .played .now in
     played-refused s (c .before .before .before .before .args .truth .now) (c .before .before .before .before .args .bidder) (c .before .before .before .before .args .worth) _ (read-number s (c .before .read .result) (c .before .read .ensures)) (c .if1 .taken)
 
--- src/lib.rt:151:9
 later-refusal-requires : tie.Need-later-refusal-requires
 later-refusal-requires c κs =
     let s = c .before .before .before .before .args .played .now in
@@ -41,7 +33,6 @@ later-refusal-requires c κs =
     let ok : Accepted s = sym (read-number s (c .before .read .result) (c .before .read .ensures)) ∙ c .if1 .left in
     ok
 
--- src/lib.rt:153:9
 returns-2 : tie.Need-returns-2
 returns-2 c =
     let s = c .before .before .before .before .before .before .args .played .now in
@@ -51,11 +42,9 @@ returns-2 c =
     let ok : Accepted s = sym (read-number s (c .before .before .before .read .result) (c .before .before .before .read .ensures)) ∙ c .before .before .if1 .left in
     later-refused s t i v _ ok (c .before .later-refusal .ensures) (c .if2 .taken)
 
--- src/lib.rt:159:9
 read-requires-2 : tie.Need-read-requires-2
 read-requires-2 c κs = search needs
 
--- src/lib.rt:163:49
 cast-t13 : tie.Need-cast-t13
 cast-t13 c =
     let s = c .before .before .before .before .before .before .before .before .before .args .played .now in
@@ -68,7 +57,6 @@ cast-t13 c =
     let many = accepted-sheet s ok .counts .most-bidders in
     omega arith
 
--- src/lib.rt:163:15
 gain-of-requires : tie.Need-gain-of-requires
 gain-of-requires c κs =
     let s = c .before .before .before .before .before .before .before .before .before .args .played .now in
@@ -77,13 +65,13 @@ gain-of-requires c κs =
     let v = c .before .before .before .before .before .before .before .before .before .args .worth in
     let ok : Accepted s = sym (read-number s (c .before .before .before .before .before .before .read .result) (c .before .before .before .before .before .before .read .ensures)) ∙ c .before .before .before .before .before .if1 .left in
     let none : laterRefusal s t i v ≡ 0 = sym (c .before .before .before .before .later-refusal .ensures) ∙ c .before .before .before .if2 .left in
-    let facts = later-accepted s t i v none in
-    (subst ProperRound (sym (read-round s (c .before .before .before .before .before .before .read .result) ok (c .before .before .before .before .before .before .read .ensures))) (round-proper s ok),
+    let facts = later-accepted s t i v none in (
+      subst ProperRound (sym (read-round s (c .before .before .before .before .before .before .read .result) ok (c .before .before .before .before .before .before .read .ensures))) (round-proper s ok),
       subst ProperRound (sym (read-round t (c .before .read2 .result) (facts .truth) (c .before .read2 .ensures))) (round-proper t (facts .truth)),
       facts .low,
-      facts .some)
+      facts .some,
+    )
 
--- src/lib.rt:143:1
 returns-3 : tie.Need-returns-3
 returns-3 c =
     let s = c .before .before .before .before .before .before .before .before .before .before .args .played .now in
@@ -94,11 +82,11 @@ returns-3 c =
     let none : laterRefusal s t i v ≡ 0 = sym (c .before .before .before .before .before .later-refusal .ensures) ∙ c .before .before .before .before .if2 .left in
     let facts = later-accepted s t i v none in
     (λ j. record {
-        refusal = 0;
-        gain =
-            (toZ-ofZ {w = w64} {z = c .gain-of .result} (record { sfits = c .gain-of .ok })
-            ∙ c .gain-of .ensures
-            ∙ ap₂ (λ (a d : Round). gainOf a d i v) (read-round s (c .before .before .before .before .before .before .before .read .result) ok (c .before .before .before .before .before .before .before .read .ensures)) (read-round t (c .before .before .read2 .result) (facts .truth) (c .before .before .read2 .ensures))) j
+      refusal = 0;
+      gain =
+          (toZ-ofZ {w = w64} {z = c .gain-of .result} (record { sfits = c .gain-of .ok })
+          ∙ c .gain-of .ensures
+          ∙ ap₂ (λ (a d : Round). gainOf a d i v) (read-round s (c .before .before .before .before .before .before .before .read .result) ok (c .before .before .before .before .before .before .before .read .ensures)) (read-round t (c .before .before .read2 .result) (facts .truth) (c .before .before .read2 .ensures))) j;
     })
     ∙ gained s t i v ok none
 

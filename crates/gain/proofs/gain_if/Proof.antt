@@ -11,49 +11,38 @@ use Rattle.gain.proofs.SlotLaws.{gain-plus, gain-minus, product-fits}
 use borrow.Author.Needs.{needs}
 use Rattle.gain.proofs.gain_if.Statement.{statement}
 use Rattle.gain.proofs.gain_if.Tie as tie
-use Rattle.gain.proofs.gain_if.Reads as reads
-use Rattle.gain.proofs.gain_if.Lts as lts
-use Rattle.gain.proofs.minus.Reads as minus-reads
-use Rattle.gain.proofs.plus.Reads as plus-reads
 
--- src/lib.rt:65:22
 mul-minus : tie.Need-mul-minus
 mul-minus c =
     let p = c .before .pre in
     let fits : (c .before .args .effect) * (c .before .args .paid) ≤ 1000000 * 1000000000 = product-fits (c .before .args .effect) (c .before .args .paid) 1000000 1000000000 (p .0) (p .2) in
     omega arith
 
--- src/lib.rt:65:9
 minus-requires : tie.Need-minus-requires
 minus-requires c κs =
     let p = c .before .pre in
     let fits : (c .before .args .effect) * (c .before .args .paid) ≤ 1000000 * 1000000000 = product-fits (c .before .args .effect) (c .before .args .paid) 1000000 1000000000 (p .0) (p .2) in
     omega arith
 
--- src/lib.rt:65:9
 returns : tie.Need-returns
 unfolding gainIf
 returns c = toZ-ofZ {w = w64} {z = c .minus .result} (record { sfits = c .minus .ok }) ∙ c .minus .ensures ∙ ap (λ (t : Bool). gainIf t (c .before .before .args .effect) (c .before .before .args .worth) (c .before .before .args .paid)) (sym (c .before .if1 .taken))
 
--- src/lib.rt:68:30
 cast-plus : tie.Need-cast-plus
 cast-plus c = search needs
 
--- src/lib.rt:68:21
 mul-plus : tie.Need-mul-plus
 mul-plus c =
     let p = c .before .before .pre in
     let fits : (c .before .before .args .effect) * ((c .before .before .args .worth) - (c .before .before .args .paid)) ≤ 1000000 * 1000000000 = product-fits (c .before .before .args .effect) ((c .before .before .args .worth) - (c .before .before .args .paid)) 1000000 1000000000 (p .0) (omega arith) in
     omega arith
 
--- src/lib.rt:68:9
 plus-requires : tie.Need-plus-requires
 plus-requires c κs =
     let p = c .before .before .pre in
     let fits : (c .before .before .args .effect) * ((c .before .before .args .worth) - (c .before .before .args .paid)) ≤ 1000000 * 1000000000 = product-fits (c .before .before .args .effect) ((c .before .before .args .worth) - (c .before .before .args .paid)) 1000000 1000000000 (p .0) (omega arith) in
     omega arith
 
--- src/lib.rt:68:9
 returns-2 : tie.Need-returns-2
 returns-2 c =
     toZ-ofZ {w = w64} {z = c .plus .result} (record { sfits = c .plus .ok })
@@ -61,29 +50,24 @@ returns-2 c =
     ∙ sym (gain-plus (c .before .before .before .args .effect) (c .before .before .before .args .worth) (c .before .before .before .args .paid) (c .before .if2 .taken))
     ∙ ap (λ (t : Bool). gainIf t (c .before .before .before .args .effect) (c .before .before .before .args .worth) (c .before .before .before .args .paid)) (sym (c .before .before .if1 .left))
 
--- src/lib.rt:70:21
 sub-minus : tie.Need-sub-minus
 sub-minus c = search needs
 
--- src/lib.rt:70:20
 cast-minus : tie.Need-cast-minus
 cast-minus c = search needs
 
--- src/lib.rt:70:11
 mul-minus-2 : tie.Need-mul-minus-2
 mul-minus-2 c =
     let p = c .before .before .pre in
     let fits : (c .before .before .args .effect) * ((c .before .before .args .paid) - (c .before .before .args .worth)) ≤ 1000000 * 1000000000 = product-fits (c .before .before .args .effect) ((c .before .before .args .paid) - (c .before .before .args .worth)) 1000000 1000000000 (p .0) (omega arith) in
     omega arith
 
--- src/lib.rt:70:5
 minus-requires-2 : tie.Need-minus-requires-2
 minus-requires-2 c κs =
     let p = c .before .before .pre in
     let fits : (c .before .before .args .effect) * ((c .before .before .args .paid) - (c .before .before .args .worth)) ≤ 1000000 * 1000000000 = product-fits (c .before .before .args .effect) ((c .before .before .args .paid) - (c .before .before .args .worth)) 1000000 1000000000 (p .0) (omega arith) in
     omega arith
 
--- src/lib.rt:59:1
 returns-3 : tie.Need-returns-3
 returns-3 c =
     let above = c .before .if2 .left in

@@ -10,15 +10,10 @@ use Rattle.gain.specs.Call.{laterRefusal}
 use borrow.Author.Needs.{needs}
 use Rattle.gain.proofs.later_refusal.Statement.{statement}
 use Rattle.gain.proofs.later_refusal.Tie as tie
-use Rattle.gain.proofs.later_refusal.Reads as reads
-use Rattle.gain.proofs.later_refusal.Lts as lts
-use Rattle.sheet.proofs.check.Reads as check-reads
 
--- src/lib.rt:110:8
 check-requires : tie.Need-check-requires
 check-requires c κs = search needs
 
--- src/lib.rt:111:9
 returns : tie.Need-returns
 unfolding laterRefusal
 returns c =
@@ -28,20 +23,17 @@ returns c =
     let v = c .before .before .before .before .args .worth in
     simp (ne-eqb (refusalOf t) 0 (λ z. c .if1 .taken (c .before .check .ensures ∙ z)))
 
--- src/lib.rt:113:8
 shared-slice-read-if2 : tie.Need-shared-slice-read-if2
 shared-slice-read-if2 c =
     let ok : Accepted (c .before .before .before .before .before .args .truth .now) = sym (c .before .before .check .ensures) ∙ c .before .if1 .left in
     let size = accepted-sheet (c .before .before .before .before .before .args .truth .now) ok .form .header in
     omega arith
 
--- src/lib.rt:113:20
 shared-slice-read-if2-2 : tie.Need-shared-slice-read-if2-2
 shared-slice-read-if2-2 c =
     let size = accepted-sheet (c .before .before .before .before .before .before .args .played .now) (c .before .before .before .before .before .before .pre) .form .header in
     omega arith
 
--- src/lib.rt:114:9
 returns-2 : tie.Need-returns-2
 unfolding laterRefusal
 returns-2 c =
@@ -52,20 +44,17 @@ returns-2 c =
     let ok : refusalOf t ≡ 0 = sym (c .before .before .before .before .check .ensures) ∙ c .before .before .before .if1 .left in
     simp (eq-eqb (refusalOf t) 0 ok, ne-eqb (bidderCount t) (bidderCount s) (omega arith))
 
--- src/lib.rt:116:8
 shared-slice-read-if3 : tie.Need-shared-slice-read-if3
 shared-slice-read-if3 c =
     let ok : Accepted (c .before .before .before .before .before .before .before .before .args .truth .now) = sym (c .before .before .before .before .before .check .ensures) ∙ c .before .before .before .before .if1 .left in
     let size = accepted-sheet (c .before .before .before .before .before .before .before .before .args .truth .now) ok .form .header in
     omega arith
 
--- src/lib.rt:116:20
 shared-slice-read-if3-2 : tie.Need-shared-slice-read-if3-2
 shared-slice-read-if3-2 c =
     let size = accepted-sheet (c .before .before .before .before .before .before .before .before .before .args .played .now) (c .before .before .before .before .before .before .before .before .before .pre) .form .header in
     omega arith
 
--- src/lib.rt:117:9
 returns-3 : tie.Need-returns-3
 unfolding laterRefusal
 returns-3 c =
@@ -76,7 +65,6 @@ returns-3 c =
     let ok : refusalOf t ≡ 0 = sym (c .before .before .before .before .before .before .before .check .ensures) ∙ c .before .before .before .before .before .before .if1 .left in
     simp (eq-eqb (refusalOf t) 0 ok, eq-eqb (bidderCount t) (bidderCount s) (omega arith), ne-eqb (slotCount t) (slotCount s) (omega arith))
 
--- src/lib.rt:120:9
 returns-4 : tie.Need-returns-4
 unfolding laterRefusal
 returns-4 c =
@@ -87,17 +75,14 @@ returns-4 c =
     let ok : refusalOf t ≡ 0 = sym (c .before .before .before .before .before .before .before .before .check .ensures) ∙ c .before .before .before .before .before .before .before .if1 .left in
     simp (eq-eqb (refusalOf t) 0 ok, eq-eqb (bidderCount t) (bidderCount s) (omega arith), eq-eqb (slotCount t) (slotCount s) (omega arith), eq-eqb i 0 (omega arith))
 
--- src/lib.rt:122:9
 shared-slice-read-if5 : tie.Need-shared-slice-read-if5
 shared-slice-read-if5 c =
     let size = accepted-sheet (c .before .before .before .before .before .before .before .before .before .before .before .before .args .played .now) (c .before .before .before .before .before .before .before .before .before .before .before .before .pre) .form .header in
     omega arith
 
--- src/lib.rt:122:9
 cast-if5 : tie.Need-cast-if5
 cast-if5 c = omega (arith, c .shared-slice-known7 .given 5)
 
--- src/lib.rt:123:9
 returns-5 : tie.Need-returns-5
 unfolding laterRefusal
 returns-5 c =
@@ -108,7 +93,6 @@ returns-5 c =
     let ok : refusalOf t ≡ 0 = sym (c .before .before .before .before .before .before .before .before .before .before .check .ensures) ∙ c .before .before .before .before .before .before .before .before .before .if1 .left in
     simp (eq-eqb (refusalOf t) 0 ok, eq-eqb (bidderCount t) (bidderCount s) (omega arith), eq-eqb (slotCount t) (slotCount s) (omega arith), ne-eqb i 0 (omega arith), lt-ltb (bidderCount s) i (omega arith))
 
--- src/lib.rt:126:9
 returns-6 : tie.Need-returns-6
 unfolding laterRefusal
 returns-6 c =
@@ -119,7 +103,6 @@ returns-6 c =
     let ok : refusalOf t ≡ 0 = sym (c .before .before .before .before .before .before .before .before .before .before .before .check .ensures) ∙ c .before .before .before .before .before .before .before .before .before .before .if1 .left in
     simp (eq-eqb (refusalOf t) 0 ok, eq-eqb (bidderCount t) (bidderCount s) (omega arith), eq-eqb (slotCount t) (slotCount s) (omega arith), ne-eqb i 0 (omega arith), le-ltb (bidderCount s) i (omega arith), lt-ltb 1000000000 v (omega arith))
 
--- src/lib.rt:106:1
 returns-7 : tie.Need-returns-7
 unfolding laterRefusal
 returns-7 c =

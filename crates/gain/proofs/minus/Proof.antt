@@ -11,8 +11,6 @@ use Rattle.gain.proofs.SlotLaws.{zero-minus, minus-size}
 use borrow.Author.Needs.{needs}
 use Rattle.gain.proofs.minus.Statement.{statement}
 use Rattle.gain.proofs.minus.Tie as tie
-use Rattle.gain.proofs.minus.Reads as reads
-use Rattle.gain.proofs.minus.Lts as lts
 
 below-zero : (n : ℕ) → n ≤ 1000000000000000 → pos 0 -ℤ toZ w64 n ≡ negℤ (pos n)
 below-zero n l = ap (λ (z : ℤ). pos 0 -ℤ z) (toZ-pos w64 {n = n} (omega arith)) ∙ zero-minus n
@@ -20,15 +18,12 @@ below-zero n l = ap (λ (z : ℤ). pos 0 -ℤ z) (toZ-pos w64 {n = n} (omega ari
 fits-below : (n : ℕ) → n ≤ 1000000000000000 → SFits w64 (pos 0 -ℤ toZ w64 n)
 fits-below n l = subst (SFits w64) (sym (below-zero n l)) (record { sfits = (let h = minus-size n in omega arith) })
 
--- src/lib.rt:85:9
 cast-result : tie.Need-cast-result
 cast-result c = search needs
 
--- src/lib.rt:85:5
 sub-result : tie.Need-sub-result
 sub-result c = fits-below (c .args .size) (c .pre)
 
--- src/lib.rt:81:1
 returns : tie.Need-returns
 returns c = toZ-ofZ (fits-below (c .args .size) (c .pre)) ∙ below-zero (c .args .size) (c .pre)
 

@@ -6,21 +6,15 @@ use Rattle.auction.specs.Broken.{broken}
 use borrow.Author.Needs.{needs}
 use Rattle.gain.proofs.own_broken.Statement.{statement}
 use Rattle.gain.proofs.own_broken.Tie as tie
-use Rattle.gain.proofs.own_broken.Reads as reads
-use Rattle.gain.proofs.own_broken.Lts as lts
-use Rattle.auction.proofs.is_broken.Reads as is-broken-reads
 
--- src/lib.rt:47:9
 is-broken-requires : tie.Need-is-broken-requires
 is-broken-requires c κs = search needs
 
--- src/lib.rt:47:9
 returns : tie.Need-returns
 returns c =
     c .is-broken .ensures
     ∙ sym (ap (λ (t : Bool). t && broken (c .before .before .before .before .before .args .page) (c .before .before .before .before .before .args .constraint)) (eq-eqb _ (c .before .before .before .before .before .args .bidder .0) (c .before .if1 .taken)))
 
--- src/lib.rt:41:1
 returns-2 : tie.Need-returns-2
 returns-2 c = sym (ap (λ (t : Bool). t && broken (c .before .before .before .before .args .page) (c .before .before .before .before .args .constraint)) (ne-eqb _ (c .before .before .before .before .args .bidder .0) (c .if1 .left)))
 

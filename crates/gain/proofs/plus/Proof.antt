@@ -5,14 +5,10 @@ use native.Mathlib.Omega.{arith}
 use borrow.Author.Needs.{needs}
 use Rattle.gain.proofs.plus.Statement.{statement}
 use Rattle.gain.proofs.plus.Tie as tie
-use Rattle.gain.proofs.plus.Reads as reads
-use Rattle.gain.proofs.plus.Lts as lts
 
--- src/lib.rt:78:5
 cast-result : tie.Need-cast-result
 cast-result c = search needs
 
--- src/lib.rt:74:1
 returns : tie.Need-returns
 returns c = toZ-pos w64 (let h = c .pre in omega arith)
 

@@ -12,9 +12,6 @@ use Rattle.gain.specs.Gain.{slotOf}
 use Rattle.gain.proofs.SlotLaws.{seen, seen-not, found-at}
 use Rattle.gain.proofs.slot_of.Statement.{statement}
 use Rattle.gain.proofs.slot_of.Tie as tie
-use Rattle.gain.proofs.slot_of.Reads as reads
-use Rattle.gain.proofs.slot_of.Lts as lts
-use Rattle.auction.proofs.stands.Reads as stands-reads
 
 abbrev Inv-loop : tie.InvT-loop
 Inv-loop page bidder k₀ k = (k ≤ 16) × (firstOver (seen page (bidder .0)) k ≡ 0)
@@ -22,24 +19,19 @@ Inv-loop page bidder k₀ k = (k ≤ 16) × (firstOver (seen page (bidder .0)) k
 abbrev μ-loop : tie.MeasureT-loop
 μ-loop page bidder k₀ k = 16 - k
 
--- src/lib.rt:29:5
 loop-holds : tie.Need-loop-holds Inv-loop μ-loop
 unfolding firstOver
 loop-holds c = (omega arith, refl)
 
--- src/lib.rt:30:39
 add-t6 : tie.Need-add-t6 Inv-loop μ-loop
 add-t6 c = omega arith
 
--- src/lib.rt:30:12
 stands-requires : tie.Need-stands-requires Inv-loop μ-loop
 stands-requires c κs = omega arith
 
--- src/lib.rt:31:25
 add-t8 : tie.Need-add-t8 Inv-loop μ-loop
 add-t8 c = omega arith
 
--- src/lib.rt:31:13
 returns : tie.Need-returns Inv-loop μ-loop
 unfolding slotOf
 returns c =
@@ -49,15 +41,12 @@ returns c =
     let here : at p (suc k) ≡ i = eqb-true (at p (suc k)) i (ap (λ (x : ℕ). eqb (at p x) i) (sym (add-one k)) ∙ sym (c .before .stands .ensures) ∙ c .if1 .taken) in
     add-one k ∙ sym (found-at p i k (c .before .before .loop-test .taken) (c .before .before .before .loop .inv .1) here)
 
--- src/lib.rt:33:9
 add-k : tie.Need-add-k Inv-loop μ-loop
 add-k c = omega arith
 
--- src/lib.rt:29:5
 loop-less : tie.Need-loop-less Inv-loop μ-loop
 loop-less c = omega arith
 
--- src/lib.rt:29:5
 loop-again : tie.Need-loop-again Inv-loop μ-loop
 loop-again c =
     let p = c .before .before .before .before .args .page in
@@ -66,7 +55,6 @@ loop-again c =
     let not-here : at p (suc k) ≡ i → ⊥ = eqb-false (at p (suc k)) i (ap (λ (x : ℕ). eqb (at p x) i) (sym (add-one k)) ∙ sym (c .before .stands .ensures) ∙ c .if1 .left) in
     (omega arith, rw (add-one k) (first-next (seen p i) k (c .before .before .before .loop .inv .1) (seen-not p i k not-here)))
 
--- src/lib.rt:25:1
 returns-2 : tie.Need-returns-2 Inv-loop μ-loop
 unfolding slotOf
 returns-2 c =

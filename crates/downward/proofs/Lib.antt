@@ -1,0 +1,6 @@
+-- Laws of the downward test: what it says of a list, that the test over a list's numbers is the test over the list, and how the
+-- numbers are gathered.
+pub mod DownwardLaws
+pub mod KeyLaws
+pub mod GatherLaws
+pub mod CallLaws

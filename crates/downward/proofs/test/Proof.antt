@@ -1,0 +1,79 @@
+-- `downward::test` meets its contract, by the cases of the call: a bidder within the sheet's is below 256, so it is not cut.
+-- Assumes nothing.
+use Prim.Native.Nat.{ℕ, _<_, _≤_}
+use mathlib.Core.Bool.{Bool}
+use mathlib.Core.List.{List}
+use mathlib.Core.Path.{_≡_, sym, _∙_, ap, subst}
+use native.Mathlib.Omega.{arith}
+use Rattle.sheet.specs.declared.Reading.{Reading}
+use Rattle.sheet.specs.declared.Round.{Round}
+use Rattle.sheet.specs.Refusal.{refusalOf, Accepted}
+use Rattle.sheet.specs.Round.{roundOf, readingOf}
+use Rattle.sheet.proofs.ReadingLaws.{reading-number, reading-accepted}
+use Rattle.auction.specs.Proper.{ProperRound}
+use Rattle.auction.proofs.AcceptedLaws.{round-proper}
+use Rattle.downward.specs.Downward.{downward}
+use Rattle.downward.proofs.CallLaws.{sheet-refused, no-bidder, bidder-above, list-tested}
+use borrow.Author.Needs.{needs}
+use Rattle.downward.proofs.test.Statement.{statement}
+use Rattle.downward.proofs.test.Tie as tie
+
+-- what reading an accepted sheet gave
+read-number : (s : List ℕ) (x : Reading) → x ≡ readingOf s → x .refusal ≡ refusalOf s
+read-number s x e = ap (λ (y : Reading). y .refusal) e ∙ reading-number s
+
+read-round : (s : List ℕ) (x : Reading) → Accepted s → x ≡ readingOf s → x .round ≡ roundOf s
+read-round s x ok e = ap (λ (y : Reading). y .round) (e ∙ reading-accepted s ok)
+
+read-requires : tie.Need-read-requires
+read-requires c κs = search needs
+
+returns : tie.Need-returns
+returns c =
+    let s = c .before .before .before .args .sheet .now in
+    sheet-refused s _ _ (read-number s (c .before .read .result) (c .before .read .ensures)) (c .if1 .taken)
+
+returns-2 : tie.Need-returns-2
+returns-2 c =
+    let s = c .before .before .before .before .before .args .sheet .now in
+    let ok : Accepted s = sym (read-number s (c .before .before .before .read .result) (c .before .before .before .read .ensures)) ∙ c .before .before .if1 .left in
+    no-bidder s _ ok (c .if2 .taken)
+
+returns-3 : tie.Need-returns-3
+unfolding roundOf
+returns-3 c =
+    let s = c .before .before .before .before .before .before .args .sheet .now in
+    let ok : Accepted s = sym (read-number s (c .before .before .before .before .read .result) (c .before .before .before .before .read .ensures)) ∙ c .before .before .before .if1 .left in
+    let round = read-round s (c .before .before .before .before .read .result) ok (c .before .before .before .before .read .ensures) in
+    bidder-above s _ ok (subst (λ (r : Round). r .bidders < c .before .before .before .before .before .before .args .bidder) round (c .if3 .taken))
+
+cast-t9 : tie.Need-cast-t9
+cast-t9 c =
+    let s = c .before .before .before .before .before .before .args .sheet .now in
+    let ok : Accepted s = sym (read-number s (c .before .before .before .before .read .result) (c .before .before .before .before .read .ensures)) ∙ c .before .before .before .if1 .left in
+    let round = read-round s (c .before .before .before .before .read .result) ok (c .before .before .before .before .read .ensures) in
+    let few = round-proper s ok .most-bidders in
+    let same = ap (λ (r : Round). r .bidders) round in
+    omega arith
+
+is-downward-requires : tie.Need-is-downward-requires
+is-downward-requires c κs =
+    let s = c .before .before .before .before .before .before .args .sheet .now in
+    let ok : Accepted s = sym (read-number s (c .before .before .before .before .read .result) (c .before .before .before .before .read .ensures)) ∙ c .before .before .before .if1 .left in
+    let round = read-round s (c .before .before .before .before .read .result) ok (c .before .before .before .before .read .ensures) in
+    subst ProperRound (sym round) (round-proper s ok)
+
+returns-4 : tie.Need-returns-4
+unfolding roundOf
+returns-4 c =
+    let s = c .before .before .before .before .before .before .before .args .sheet .now in
+    let i = c .before .before .before .before .before .before .before .args .bidder in
+    let ok : Accepted s = sym (read-number s (c .before .before .before .before .before .read .result) (c .before .before .before .before .before .read .ensures)) ∙ c .before .before .before .before .if1 .left in
+    let round = read-round s (c .before .before .before .before .before .read .result) ok (c .before .before .before .before .before .read .ensures) in
+    ap (λ (t : Bool). record { refusal = 0; yes = t }) (c .is-downward .ensures ∙ ap (λ (r : Round). downward r i) round)
+    ∙ list-tested s i ok (c .before .before .if2 .left) (subst (λ (r : Round). i ≤ r .bidders) round (c .before .if3 .left))
+
+pub test-spec : {M : Type 1} → statement M
+test-spec =
+    tie.close
+    (tie.spec read-requires returns returns-2 returns-3 cast-t9 is-downward-requires returns-4)

@@ -1,0 +1,2 @@
+-- The worked rounds, established together.
+pub mod Rounds

@@ -1,0 +1,96 @@
+-- The worked rounds of document 01 as sheets, byte for byte.
+use Prim.Native.Nat.{ℕ, _%_, _/_}
+use mathlib.Core.List.{List, [], _∷_, _++_}
+use lib.ListN.{length}
+use Rattle.basis.specs.Bytes.{bytes32}
+
+-- numbers of 4 bytes, one after another
+unfoldable pub words : List ℕ → List ℕ
+unfolding bytes32
+words [] = []
+words (x ∷ xs) = bytes32 x ++ words xs
+
+-- a condition as document 01 writes it: (owner, own place, other, other's place)
+pub record Condition : Type 0 where
+  pub owner : ℕ
+  pub own : ℕ
+  pub other : ℕ
+  pub others : ℕ
+
+abbrev pub on : ℕ → ℕ → ℕ → ℕ → Condition
+on a b c d = record { owner = a; own = b; other = c; others = d }
+
+unfoldable pub quads : List Condition → List ℕ
+quads [] = []
+quads (q ∷ qs) = q .owner ∷ q .own ∷ q .other ∷ q .others ∷ quads qs
+
+-- the sheet of these bids, effects and conditions
+unfoldable pub sheetOf : (bids effects : List ℕ) → List Condition → List ℕ
+unfolding words quads bytes32
+sheetOf bids effects qs =
+    0x50 ∷ 0x41 ∷ 0x53 ∷ 1 ∷ 0 ∷ length bids ∷ length effects ∷ length qs % 256 ∷ length qs / 256 ∷ (words effects ++ (words bids ++ quads qs))
+
+-- bids 30, 20, 10; effects 10, 9; (1,0,2,1)
+unfoldable pub A : List ℕ
+unfolding sheetOf
+A = sheetOf (30 ∷ 20 ∷ 10 ∷ []) (10 ∷ 9 ∷ []) (on 1 0 2 1 ∷ [])
+
+-- bids 60, 40, 10; effects 100, 90, 81; none
+unfoldable pub B : List ℕ
+unfolding sheetOf
+B = sheetOf (60 ∷ 40 ∷ 10 ∷ []) (100 ∷ 90 ∷ 81 ∷ []) ([])
+
+-- as B with (1,1,0,0)
+unfoldable pub C : List ℕ
+unfolding sheetOf
+C = sheetOf (60 ∷ 40 ∷ 10 ∷ []) (100 ∷ 90 ∷ 81 ∷ []) (on 1 1 0 0 ∷ [])
+
+-- bids 40, 30, 20, 10; effects 100, 90, 81; 2 bars 3 and 3 bars 2 from places 1 to 3, own place 0
+unfoldable pub D : List ℕ
+unfolding sheetOf
+D = sheetOf (40 ∷ 30 ∷ 20 ∷ 10 ∷ []) (100 ∷ 90 ∷ 81 ∷ []) (on 2 0 3 1 ∷ on 2 0 3 2 ∷ on 2 0 3 3 ∷ on 3 0 2 1 ∷ on 3 0 2 2 ∷ on 3 0 2 3 ∷ [])
+
+-- bids 5, 5; effect 1
+unfoldable pub E : List ℕ
+unfolding sheetOf
+E = sheetOf (5 ∷ 5 ∷ []) (1 ∷ []) ([])
+
+-- bids 5, 6; effect 1
+unfoldable pub F : List ℕ
+unfolding sheetOf
+F = sheetOf (5 ∷ 6 ∷ []) (1 ∷ []) ([])
+
+-- F with the condition (2,1,0,0)
+unfoldable pub F-true : List ℕ
+unfolding sheetOf
+F-true = sheetOf (5 ∷ 6 ∷ []) (1 ∷ []) (on 2 1 0 0 ∷ [])
+
+-- one bidder, bid 0, effects 1, 1, (1,1,0,0)
+unfoldable pub G : List ℕ
+unfolding sheetOf
+G = sheetOf (0 ∷ []) (1 ∷ 1 ∷ []) (on 1 1 0 0 ∷ [])
+
+-- bids 30, 32, 36, 40; effects 10000, 4500, 2025; 1 above 2, 2 above 3, 3 above 4
+unfoldable pub H : List ℕ
+unfolding sheetOf
+H = sheetOf (30 ∷ 32 ∷ 36 ∷ 40 ∷ []) (10000 ∷ 4500 ∷ 2025 ∷ []) (on 1 2 2 1 ∷ on 1 3 2 1 ∷ on 1 3 2 2 ∷ on 2 2 3 1 ∷ on 2 3 3 1 ∷ on 2 3 3 2 ∷ on 3 2 4 1 ∷ on 3 3 4 1 ∷ on 3 3 4 2 ∷ [])
+
+-- H with a fourth place, effect 911, and the pairs (i,4,j,1), (i,4,j,2), (i,4,j,3)
+unfoldable pub H-longer : List ℕ
+unfolding sheetOf
+H-longer = sheetOf (30 ∷ 32 ∷ 36 ∷ 40 ∷ []) (10000 ∷ 4500 ∷ 2025 ∷ 911 ∷ []) (on 1 2 2 1 ∷ on 1 3 2 1 ∷ on 1 3 2 2 ∷ on 2 2 3 1 ∷ on 2 3 3 1 ∷ on 2 3 3 2 ∷ on 3 2 4 1 ∷ on 3 3 4 1 ∷ on 3 3 4 2 ∷ on 1 4 2 1 ∷ on 1 4 2 2 ∷ on 1 4 2 3 ∷ on 2 4 3 1 ∷ on 2 4 3 2 ∷ on 2 4 3 3 ∷ on 3 4 4 1 ∷ on 3 4 4 2 ∷ on 3 4 4 3 ∷ [])
+
+-- bids 2, 1; effects 1, 1; (1,0,2,2): only the earlier winner's own condition keeps 2 from place 2
+unfoldable pub earlier-winner : List ℕ
+unfolding sheetOf
+earlier-winner = sheetOf (2 ∷ 1 ∷ []) (1 ∷ 1 ∷ []) (on 1 0 2 2 ∷ [])
+
+-- bids 5, 3; effect 1: a worth of 2 is below the bid of 1
+unfoldable pub overbid : List ℕ
+unfolding sheetOf
+overbid = sheetOf (5 ∷ 3 ∷ []) (1 ∷ []) ([])
+
+-- the same with (1,1,0,0), which is downward monotonic for one place
+unfoldable pub overbid-barred : List ℕ
+unfolding sheetOf
+overbid-barred = sheetOf (5 ∷ 3 ∷ []) (1 ∷ []) (on 1 1 0 0 ∷ [])
