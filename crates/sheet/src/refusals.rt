@@ -9,6 +9,7 @@ ghost use Rattle.sheet.specs.Refusal.{formRefusal, countsRefusal, effect
 use basis::wide;
 use basis::word16;
 use basis::word32;
+use crate::{MAX_BIDDERS, MAX_CONSTRAINTS, MAX_SLOTS};
 
 // "1 to 1,000,000"
 const MAX_EFFECT: u32 = 1000000;
@@ -49,16 +50,16 @@ pub fn counts_refusal(sheet: &[u8]) -> u32
     if bidders == 0 {
         return 4;
     }
-    if 64 < bidders {
+    if MAX_BIDDERS < bidders {
         return 4;
     }
     if slots == 0 {
         return 5;
     }
-    if 16 < slots {
+    if MAX_SLOTS < slots {
         return 5;
     }
-    if 1024 < constraints {
+    if MAX_CONSTRAINTS < constraints {
         return 6;
     }
     if sheet.len() != 9 + 4 * (slots + bidders + constraints) {

@@ -15,13 +15,17 @@ use Rattle.gain.proofs.gain_if.Tie as tie
 mul-minus : tie.Need-mul-minus
 mul-minus c =
     let p = c .before .pre in
-    let fits : (c .before .args .effect) * (c .before .args .paid) ≤ 1000000 * 1000000000 = product-fits (c .before .args .effect) (c .before .args .paid) 1000000 1000000000 (p .0) (p .2) in
+    let fits = product-fits (c .before .args .effect) (c .before .args .paid) 1000000 1000000000 (p .0) (p .2) in
+    let worth-fits = product-fits (c .before .args .effect) (c .before .args .worth) 1000000 1000000000 (p .0) (p .1) in
+    let paid-fits = product-fits (c .before .args .effect) (c .before .args .paid) 1000000 1000000000 (p .0) (p .2) in
     omega arith
 
 minus-requires : tie.Need-minus-requires
 minus-requires c κs =
     let p = c .before .pre in
-    let fits : (c .before .args .effect) * (c .before .args .paid) ≤ 1000000 * 1000000000 = product-fits (c .before .args .effect) (c .before .args .paid) 1000000 1000000000 (p .0) (p .2) in
+    let fits = product-fits (c .before .args .effect) (c .before .args .paid) 1000000 1000000000 (p .0) (p .2) in
+    let worth-fits = product-fits (c .before .args .effect) (c .before .args .worth) 1000000 1000000000 (p .0) (p .1) in
+    let paid-fits = product-fits (c .before .args .effect) (c .before .args .paid) 1000000 1000000000 (p .0) (p .2) in
     omega arith
 
 returns : tie.Need-returns
@@ -34,13 +38,17 @@ cast-plus c = search needs
 mul-plus : tie.Need-mul-plus
 mul-plus c =
     let p = c .before .before .pre in
-    let fits : (c .before .before .args .effect) * ((c .before .before .args .worth) - (c .before .before .args .paid)) ≤ 1000000 * 1000000000 = product-fits (c .before .before .args .effect) ((c .before .before .args .worth) - (c .before .before .args .paid)) 1000000 1000000000 (p .0) (omega arith) in
+    let fits = product-fits (c .before .before .args .effect) ((c .before .before .args .worth) - (c .before .before .args .paid)) 1000000 1000000000 (p .0) (omega arith) in
+    let worth-fits = product-fits (c .before .before .args .effect) (c .before .before .args .worth) 1000000 1000000000 (p .0) (p .1) in
+    let paid-fits = product-fits (c .before .before .args .effect) (c .before .before .args .paid) 1000000 1000000000 (p .0) (p .2) in
     omega arith
 
 plus-requires : tie.Need-plus-requires
 plus-requires c κs =
     let p = c .before .before .pre in
-    let fits : (c .before .before .args .effect) * ((c .before .before .args .worth) - (c .before .before .args .paid)) ≤ 1000000 * 1000000000 = product-fits (c .before .before .args .effect) ((c .before .before .args .worth) - (c .before .before .args .paid)) 1000000 1000000000 (p .0) (omega arith) in
+    let fits = product-fits (c .before .before .args .effect) ((c .before .before .args .worth) - (c .before .before .args .paid)) 1000000 1000000000 (p .0) (omega arith) in
+    let worth-fits = product-fits (c .before .before .args .effect) (c .before .before .args .worth) 1000000 1000000000 (p .0) (p .1) in
+    let paid-fits = product-fits (c .before .before .args .effect) (c .before .before .args .paid) 1000000 1000000000 (p .0) (p .2) in
     omega arith
 
 returns-2 : tie.Need-returns-2
@@ -59,13 +67,17 @@ cast-minus c = search needs
 mul-minus-2 : tie.Need-mul-minus-2
 mul-minus-2 c =
     let p = c .before .before .pre in
-    let fits : (c .before .before .args .effect) * ((c .before .before .args .paid) - (c .before .before .args .worth)) ≤ 1000000 * 1000000000 = product-fits (c .before .before .args .effect) ((c .before .before .args .paid) - (c .before .before .args .worth)) 1000000 1000000000 (p .0) (omega arith) in
+    let fits = product-fits (c .before .before .args .effect) ((c .before .before .args .paid) - (c .before .before .args .worth)) 1000000 1000000000 (p .0) (omega arith) in
+    let worth-fits = product-fits (c .before .before .args .effect) (c .before .before .args .worth) 1000000 1000000000 (p .0) (p .1) in
+    let paid-fits = product-fits (c .before .before .args .effect) (c .before .before .args .paid) 1000000 1000000000 (p .0) (p .2) in
     omega arith
 
 minus-requires-2 : tie.Need-minus-requires-2
 minus-requires-2 c κs =
     let p = c .before .before .pre in
-    let fits : (c .before .before .args .effect) * ((c .before .before .args .paid) - (c .before .before .args .worth)) ≤ 1000000 * 1000000000 = product-fits (c .before .before .args .effect) ((c .before .before .args .paid) - (c .before .before .args .worth)) 1000000 1000000000 (p .0) (omega arith) in
+    let fits = product-fits (c .before .before .args .effect) ((c .before .before .args .paid) - (c .before .before .args .worth)) 1000000 1000000000 (p .0) (omega arith) in
+    let worth-fits = product-fits (c .before .before .args .effect) (c .before .before .args .worth) 1000000 1000000000 (p .0) (p .1) in
+    let paid-fits = product-fits (c .before .before .args .effect) (c .before .before .args .paid) 1000000 1000000000 (p .0) (p .2) in
     omega arith
 
 returns-3 : tie.Need-returns-3

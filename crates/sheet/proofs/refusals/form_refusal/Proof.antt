@@ -1,3 +1,5 @@
+-- `sheet::refusals::form_refusal` meets its contract: each way out rewrites the definition with the tests that led there.
+-- Assumes nothing.
 use borrow.Author.Tests.{eq-eqb, ne-eqb, lt-ltb, le-ltb}
 use native.Mathlib.Omega.{arith}
 use lib.ListN.{length}

@@ -1,3 +1,5 @@
+-- `sheet::refusals::in_range` meets its contract: each way out rewrites the definition with the tests that led there.
+-- Assumes nothing.
 use borrow.Author.Tests.{eq-eqb, ne-eqb, lt-ltb, le-ltb}
 use Rattle.sheet.specs.Refusal.{inRange}
 use Rattle.sheet.proofs.refusals.in_range.Statement.{statement}

@@ -1,0 +1,16 @@
+-- What a function that writes text leaves in the lent buffer, and what it returns.
+use Prim.Native.Nat.{ℕ, _+_}
+use mathlib.Core.List.{List, _++_}
+use mathlib.Core.Path.{_≡_}
+use lib.ListN.{length, drop}
+use lib.Seq.{sets}
+
+-- The bytes stand at an offset of the buffer and the rest is as it was; the answer is the offset after them.
+pub record Put (text : List ℕ) (at : ℕ) (bytes : List ℕ) (answer : ℕ) (text′ : List ℕ) : Type 0 where
+  pub next : answer ≡ at + length bytes
+  pub buffer : text′ ≡ sets text at bytes
+
+-- The bytes stand at the buffer's front and the rest is as it was; the answer is how many they are.
+pub record Written (text bytes : List ℕ) (answer : ℕ) (text′ : List ℕ) : Type 0 where
+  pub count : answer ≡ length bytes
+  pub buffer : text′ ≡ bytes ++ drop (length bytes) text

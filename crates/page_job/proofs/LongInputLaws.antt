@@ -1,0 +1,121 @@
+-- The first 4,426 bytes of a longer input are refused with the number of the whole: the header's tests read 9 bytes, and no length
+-- that rule 7 asks for, at most 4,425, is that of either. Assumes nothing.
+use Prim.Native.Nat.{ℕ, _+_, _*_, _<_, _≤_}
+use borrow.Author.Tests.{le-ltb, ltb-true, ltb-false, ne-eqb}
+use mathlib.Core.Bool.{Bool, true, false, not, _||_}
+use mathlib.Core.List.{List}
+use mathlib.Core.Logic.{⊎-elim}
+use mathlib.Core.Path.{_≡_, refl, sym, _∙_, ap, ap₂}
+use native.Mathlib.Omega.{arith}
+use lib.Dec.{eqb, ltb}
+use lib.ListN.{length, take}
+use lib.Seq.{take-all, getD-take, length-take-le}
+use Rattle.basis.specs.Bytes.{byteAt, word16At}
+use Rattle.basis.specs.First.{_when_otherwise_, orElse}
+use Rattle.basis.proofs.FirstLaws.{orElse-left, orElse-none}
+use Rattle.basis.proofs.TestLaws.{holds-or-fails, or-none}
+use Rattle.sheet.specs.Sheet.{bidderCount, slotCount, constraintCount, sheetLength}
+use Rattle.sheet.specs.Refusal.{formRefusal, countsRefusal, refusalOf}
+use Rattle.sheet.specs.Round.{roundOf}
+use Rattle.sheet.proofs.AcceptedLaws.{counts-accepted}
+use Rattle.lines.specs.Lines.{refusedLine}
+use Rattle.page_job.specs.PageText.{pageText, FirstBytesDecide}
+use Rattle.page_job.proofs.PageTextLaws.{refused-for}
+
+-- two rows of tests 4 to 7 that differ only in the last, where it matters only if the others fail
+last-test : (a b c d e : Bool) → (a ≡ false → b ≡ false → c ≡ false → d ≡ e) →
+    (4 when a otherwise 5 when b otherwise 6 when c otherwise 7 when d otherwise 0)
+    ≡ (4 when a otherwise 5 when b otherwise 6 when c otherwise 7 when e otherwise 0)
+last-test true b c d e h = refl
+last-test false true c d e h = refl
+last-test false false true d e h = refl
+last-test false false false d e h = ap (λ (t : Bool). 7 when t otherwise 0) (h refl refl refl)
+
+-- rule 7 refuses an input of so many bytes, if no rule before it does
+counts-refused : (t : List ℕ) → 4426 ≤ length t → countsRefusal t ≡ 0 → ⊥
+counts-refused t more e =
+    let counts = counts-accepted t e in
+    let n = counts .most-bidders in
+    let m = counts .most-slots in
+    let c = counts .most-constraints in
+    let whole = counts .whole in
+    omega arith
+
+module _ (s : List ℕ) (long : 4426 ≤ length s) where
+  front-length : length (take 4426 s) ≡ 4426
+  front-length = length-take-le 4426 s long
+
+  same-byte : (i : ℕ) → i < 9 → byteAt (take 4426 s) i ≡ byteAt s i
+  same-byte i l = getD-take 4426 s i 0 (omega arith)
+
+  same-word : (i : ℕ) → i < 8 → word16At (take 4426 s) i ≡ word16At s i
+  unfolding word16At
+  same-word i l = ap₂ (λ (a b : ℕ). a + 256 * b) (same-byte i (omega arith)) (same-byte (i + 1) (omega arith))
+
+  same-form : formRefusal (take 4426 s) ≡ formRefusal s
+  unfolding formRefusal
+  same-form =
+      let a = same-byte 0 (omega arith) in
+      let b = same-byte 1 (omega arith) in
+      let d = same-byte 2 (omega arith) in
+      let v = same-word 3 (omega arith) in
+      let size = front-length in
+      let here : ltb (length (take 4426 s)) 9 ≡ ltb (length s) 9
+      = le-ltb (length (take 4426 s)) 9 (omega arith) ∙ sym (le-ltb (length s) 9 (omega arith)) in
+      cc
+
+  -- where rules 4 to 6 hold, neither length is the one that rule 7 asks for
+  same-counts : countsRefusal (take 4426 s) ≡ countsRefusal s
+  unfolding countsRefusal
+  same-counts =
+      let n = same-byte 5 (omega arith) in
+      let m = same-byte 6 (omega arith) in
+      let w = same-word 7 (omega arith) in
+      let size = front-length in
+      let asked : sheetLength (take 4426 s) ≡ sheetLength s
+      = ap₂ (λ (a b : ℕ). 9 + 4 * (a + b)) (ap₂ (λ (a b : ℕ). a + b) m n) w in
+      _∙_ {b =
+      4 when eqb (bidderCount s) 0 || ltb 64 (bidderCount s) otherwise
+      5 when eqb (slotCount s) 0 || ltb 16 (slotCount s) otherwise
+      6 when ltb 1024 (constraintCount s) otherwise
+      7 when not (eqb (length (take 4426 s)) (sheetLength s)) otherwise
+      0}
+      (cc)
+      (last-test _ _ _ _ _
+      (λ a b c.
+      let bidders = ltb-false 64 (bidderCount s) (or-none (eqb (bidderCount s) 0) _ a .1) in
+      let slots = ltb-false 16 (slotCount s) (or-none (eqb (slotCount s) 0) _ b .1) in
+      let constraints = ltb-false 1024 (constraintCount s) c in
+      ap not
+      (ne-eqb (length (take 4426 s)) (sheetLength s) (λ e. absurd (omega arith))
+      ∙ sym (ne-eqb (length s) (sheetLength s) (λ e. absurd (omega arith))))))
+
+  -- so the two numbers are one
+  same-refusal : refusalOf (take 4426 s) ≡ refusalOf s
+  unfolding refusalOf
+  same-refusal =
+      let size = front-length in
+      ap₂ orElse same-form
+      (orElse-left (countsRefusal (take 4426 s)) _ (counts-refused (take 4426 s) (omega arith))
+      ∙ same-counts
+      ∙ sym (orElse-left (countsRefusal s) _ (counts-refused s long)))
+
+  is-refused : refusalOf s ≡ 0 → ⊥
+  unfolding refusalOf
+  is-refused e =
+      let later = orElse-none (formRefusal s) _ e .1 in
+      counts-refused s long (orElse-none (countsRefusal s) _ later .0)
+
+  same-text : pageText (take 4426 s) ≡ pageText s
+  unfolding pageText
+  same-text =
+      refused-for (refusalOf (take 4426 s)) (roundOf (take 4426 s)) (λ e. is-refused (sym same-refusal ∙ e))
+      ∙ ap refusedLine same-refusal
+      ∙ sym (refused-for (refusalOf s) (roundOf s) is-refused)
+
+pub first-bytes-decide : FirstBytesDecide
+first-bytes-decide s =
+    ⊎-elim
+    (λ (t : ltb (length s) 4426 ≡ true). ap pageText (take-all 4426 s (let h = ltb-true (length s) 4426 t in omega arith)))
+    (λ (t : ltb (length s) 4426 ≡ false). same-text s (ltb-false (length s) 4426 t))
+    (holds-or-fails (ltb (length s) 4426))

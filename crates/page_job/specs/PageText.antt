@@ -1,0 +1,30 @@
+-- What the page program prints for a sheet: "one line a place: place, bidder, price", or a refused sheet's one line instead.
+use Prim.Native.Nat.{ℕ, zero, suc}
+use mathlib.Core.List.{List}
+use mathlib.Core.Path.{_≡_}
+use lib.ListN.{take}
+use Rattle.basis.specs.Rows.{joined}
+use Rattle.sheet.specs.declared.Round.{Round}
+use Rattle.sheet.specs.Refusal.{refusalOf}
+use Rattle.sheet.specs.Round.{roundOf}
+use Rattle.auction.specs.Page.{at}
+use Rattle.auction.specs.Greedy.{greedyPage}
+use Rattle.auction.specs.Price.{price}
+use Rattle.lines.specs.Lines.{line, refusedLine}
+
+-- the line of slot k + 1. "An empty place shows bidder 0 and price 0."
+unfoldable pub slotLine : Round → ℕ → List ℕ
+slotLine r k = line (suc k) (at (greedyPage r) (suc k)) (price r (suc k))
+
+-- the text for a refusal's number, 0 for an accepted sheet
+unfoldable pub textFor : ℕ → Round → List ℕ
+textFor zero r = joined (slotLine r) (r .slots)
+textFor (suc k) r = refusedLine (suc k)
+
+-- all that the program prints for a sheet
+unfoldable pub pageText : List ℕ → List ℕ
+pageText s = textFor (refusalOf s) (roundOf s)
+
+-- A longer input prints what its first 4,426 bytes print: no accepted sheet has more than 4,425.
+abbrev pub FirstBytesDecide : Type 0
+FirstBytesDecide = (s : List ℕ) → pageText (take 4426 s) ≡ pageText s

@@ -1,0 +1,91 @@
+#!/usr/bin/env python3
+"""Writes the sheets of this folder from the numbers of the rounds that document 01 works by hand, and the page programs' inputs.
+
+A sheet is its header (mark, version, the counts of bidders, places and conditions), then the effects, the bids and the
+conditions, every number low byte first. Run with no argument, it writes the sheets beside itself and each program's input
+under crates/; with --check it writes nothing, and fails if a file there differs.
+"""
+import pathlib
+import struct
+import sys
+
+SHEETS_FOLDER = pathlib.Path(__file__).resolve().parent
+CRATES_FOLDER = SHEETS_FOLDER.parent / "crates"
+
+
+def sheet(bids, effects, conditions=(), version=1):
+    """The bytes of a sheet. A condition is (owner, own place, other bidder, other's place)."""
+    header = b"PAS" + struct.pack("<HBBH", version, len(bids), len(effects), len(conditions))
+    effect_bytes = b"".join(struct.pack("<I", effect) for effect in effects)
+    bid_bytes = b"".join(struct.pack("<I", bid) for bid in bids)
+    return header + effect_bytes + bid_bytes + b"".join(bytes(condition) for condition in conditions)
+
+
+def above(pairs, places):
+    """Each pair (i, j) asks that i stand above j: i's own place k is barred with j at every place before k."""
+    return [
+        (i, own, j, others)
+        for i, j in pairs
+        for own in range(2, places + 1)
+        for others in range(1, own)
+    ]
+
+
+# "1 above 2, 2 above 3, 3 above 4"
+IN_ORDER = [(1, 2), (2, 3), (3, 4)]
+
+SHEETS = {
+    "A": sheet([30, 20, 10], [10, 9], [(1, 0, 2, 1)]),
+    "B": sheet([60, 40, 10], [100, 90, 81]),
+    "C": sheet([60, 40, 10], [100, 90, 81], [(1, 1, 0, 0)]),
+    "D": sheet(
+        [40, 30, 20, 10],
+        [100, 90, 81],
+        [(2, 0, 3, place) for place in (1, 2, 3)] + [(3, 0, 2, place) for place in (1, 2, 3)],
+    ),
+    "E": sheet([5, 5], [1]),
+    "F": sheet([5, 6], [1]),
+    "G": sheet([0], [1, 1], [(1, 1, 0, 0)]),
+    "H": sheet([30, 32, 36, 40], [10000, 4500, 2025], above(IN_ORDER, 3)),
+    "H4": sheet([30, 32, 36, 40], [10000, 4500, 2025, 911], above(IN_ORDER, 4)),
+    "own": sheet([2, 1], [1, 1], [(1, 0, 2, 2)]),
+}
+
+# 64 bidders, 16 places and 1,024 conditions: the largest right sheet, of 4,425 bytes. Each bidder has 16 conditions: one of
+# places 1 and 2 is barred to it, and so is each place from 2 on while the next bidder stands just above it.
+FULL = sheet(
+    [1000 + 7 * bidder for bidder in range(64)],
+    [16000 - 900 * place for place in range(16)],
+    [
+        (bidder, bidder % 2 + 1, 0, 0) if place == 1 else (bidder, place, bidder % 64 + 1, place - 1)
+        for bidder in range(1, 65)
+        for place in range(1, 17)
+    ],
+)
+
+# What each program of the gate reads.
+INPUTS = {
+    "page": SHEETS["F"],
+    "page_refused": sheet([5, 6], [1], version=2),
+    "page_empty": SHEETS["G"],
+    "page_chain": SHEETS["H"],
+    # longer than any sheet: the largest right one, and then its bytes again
+    "page_long": FULL + FULL,
+}
+
+
+def main():
+    check = sys.argv[1:] == ["--check"]
+    if sys.argv[1:] and not check:
+        sys.exit("usage: make.py [--check]")
+    files = {SHEETS_FOLDER / f"{name}.pas": content for name, content in SHEETS.items()}
+    files.update({CRATES_FOLDER / name / "stdin": content for name, content in INPUTS.items()})
+    for path, content in files.items():
+        if not check:
+            path.write_bytes(content)
+        elif path.read_bytes() != content:
+            sys.exit(f"{path} is not what make.py writes")
+
+
+if __name__ == "__main__":
+    main()
