@@ -1,5 +1,5 @@
--- Laws of the downward test: what it says of a list, that the test over a list's numbers is the test over the list, and how the
--- numbers are gathered.
+-- Laws of the downward test: what it says of a list, that the test over a list's numbers is the test over the list, how the numbers
+-- are gathered, and the cases of the call.
 pub mod DownwardLaws
 pub mod KeyLaws
 pub mod GatherLaws

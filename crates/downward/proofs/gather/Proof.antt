@@ -64,7 +64,7 @@ loop-again c =
     let next = add-one (c .before .before .before .before .before .before .loop .i) in (
       omega arith,
       ⊎-elim
-          (λ w. rw (w .2, w .3, w .1 .ensures, next, add-one) (own-gathered _ _ _ _ _ (v .1) (omega arith) (w .0 .taken)))
+          (λ w. rw (w .2, w .3, w .1 .ensures, next, add-one) (own-gathered _ _ _ _ _ (v .1) (omega arith) (omega (arith, w .0 .taken))))
           (λ w. rw (w .1, w .2, next) (other-passed _ _ _ _ _ (v .1) (w .0 .left)))
           (c .if1 .came),
     )

@@ -28,6 +28,11 @@ asking-own : (m key : ℕ) → keyAsksLower m key ≡ true → key % 32 < m
 unfolding keyAsksLower
 asking-own m key e = ltb-true (key % 32) m (and-parts (ltb 0 (key % 32)) (ltb (key % 32) m) e .1)
 
+-- the number sought is the next one
+next-sought : (keys : List ℕ) (count key sought : ℕ) (t : Bool) → t ≡ keyIn keys count sought → sought ≡ suc key →
+    keyIn keys count (suc key) ≡ t
+next-sought keys count key sought t e same = ap (keyIn keys count) (sym same) ∙ sym e
+
 abbrev Inv-loop : tie.InvT-loop
 Inv-loop keys count slots p₀ p = (p ≤ count) × (allBelow (hasNext keys count slots) p ≡ true)
 
@@ -66,7 +71,8 @@ returns c =
     let m = c .before .before .before .before .before .before .before .before .args .slots in
     let p = c .before .before .before .before .before .before .loop .p in
     let asked = sym (c .before .before .before .asks-lower .ensures) ∙ c .before .before .if1 .taken in
-    let missing : keyIn keys count (suc (getD keys p 0)) ≡ false = sym (c .before .holds .ensures ∙ ap (keyIn keys count) (add-one (getD keys p 0))) ∙ not-true _ (c .if2 .taken) in
+    let missing : keyIn keys count (suc (getD keys p 0)) ≡ false
+    = next-sought keys count (getD keys p 0) _ _ (c .before .holds .ensures) (omega arith) ∙ not-true _ (c .if2 .taken) in
     sym
     (fails (allBelow (hasNext keys count m) count)
     (λ e.
@@ -93,7 +99,7 @@ loop-again c =
     = ⊎-elim
     (λ w.
     or-right (not (keyAsksLower m (getD keys p 0)))
-    (sym (w .1 .ensures ∙ ap (keyIn keys count) (add-one (getD keys p 0))) ∙ not-false _ (w .2 .left)))
+    (next-sought keys count (getD keys p 0) _ _ (w .1 .ensures) (omega arith) ∙ not-false _ (w .2 .left)))
     (λ w. or-left (keyIn keys count (suc (getD keys p 0))) (not-holds (sym (c .before .asks-lower .ensures) ∙ w .left)))
     (c .if1 .came) in
     (omega arith, rw (add-one p) (and-holds (c .before .before .before .before .loop .inv .1) here))

@@ -1,6 +1,6 @@
 -- `downward::test` meets its contract, by the cases of the call: a bidder within the sheet's is below 256, so it is not cut.
 -- Assumes nothing.
-use Prim.Native.Nat.{ℕ, _<_, _≤_}
+use Prim.Native.Nat.{ℕ}
 use mathlib.Core.Bool.{Bool}
 use mathlib.Core.List.{List}
 use mathlib.Core.Path.{_≡_, sym, _∙_, ap, subst}
@@ -36,16 +36,20 @@ returns c =
 returns-2 : tie.Need-returns-2
 returns-2 c =
     let s = c .before .before .before .before .before .args .sheet .now in
+    let i = c .before .before .before .before .before .args .bidder in
     let ok : Accepted s = sym (read-number s (c .before .before .before .read .result) (c .before .before .before .read .ensures)) ∙ c .before .before .if1 .left in
-    no-bidder s _ ok (c .if2 .taken)
+    no-bidder s i ok (omega arith)
 
 returns-3 : tie.Need-returns-3
 unfolding roundOf
 returns-3 c =
     let s = c .before .before .before .before .before .before .args .sheet .now in
+    let i = c .before .before .before .before .before .before .args .bidder in
     let ok : Accepted s = sym (read-number s (c .before .before .before .before .read .result) (c .before .before .before .before .read .ensures)) ∙ c .before .before .before .if1 .left in
     let round = read-round s (c .before .before .before .before .read .result) ok (c .before .before .before .before .read .ensures) in
-    bidder-above s _ ok (subst (λ (r : Round). r .bidders < c .before .before .before .before .before .before .args .bidder) round (c .if3 .taken))
+    let few = round-proper s ok .most-bidders in
+    let same = ap (λ (r : Round). r .bidders) round in
+    bidder-above s i ok (omega arith)
 
 cast-t9 : tie.Need-cast-t9
 cast-t9 c =
@@ -70,8 +74,9 @@ returns-4 c =
     let i = c .before .before .before .before .before .before .before .args .bidder in
     let ok : Accepted s = sym (read-number s (c .before .before .before .before .before .read .result) (c .before .before .before .before .before .read .ensures)) ∙ c .before .before .before .before .if1 .left in
     let round = read-round s (c .before .before .before .before .before .read .result) ok (c .before .before .before .before .before .read .ensures) in
+    let same = ap (λ (r : Round). r .bidders) round in
     ap (λ (t : Bool). record { refusal = 0; yes = t }) (c .is-downward .ensures ∙ ap (λ (r : Round). downward r i) round)
-    ∙ list-tested s i ok (c .before .before .if2 .left) (subst (λ (r : Round). i ≤ r .bidders) round (c .before .if3 .left))
+    ∙ list-tested s i ok (omega arith) (omega arith)
 
 pub test-spec : {M : Type 1} → statement M
 test-spec =
