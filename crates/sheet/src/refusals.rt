@@ -6,10 +6,12 @@ ghost use lib.ListN.{length};
 ghost use Rattle.basis.specs.First.{firstOver, orElse};
 ghost use Rattle.sheet.specs.Sheet.{bidderCount, slotCount, constraintCount, effectsStart, bidsStart, constraintsStart, sheetLength};
 ghost use Rattle.sheet.specs.Refusal.{formRefusal, countsRefusal, effectRefusal, bidRefusal, constraintRefusal, inRange, fieldsRefusal};
+use crate::MAX_BIDDERS;
+use crate::MAX_CONSTRAINTS;
+use crate::MAX_SLOTS;
 use basis::wide;
 use basis::word16;
 use basis::word32;
-use crate::{MAX_BIDDERS, MAX_CONSTRAINTS, MAX_SLOTS};
 
 // "1 to 1,000,000"
 const MAX_EFFECT: u32 = 1000000;

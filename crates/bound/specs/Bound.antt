@@ -1,0 +1,61 @@
+-- What the slots left can add at most: the free bidders in falling order of their bids, against the effects in falling order.
+-- Slots are counted by index here: index j is slot j + 1.
+use Prim.Native.Nat.{ℕ, zero, suc, _+_, _*_, _<_, _≤_}
+use mathlib.Core.Bool.{Bool, true, cond, _&&_}
+use mathlib.Core.List.{List}
+use mathlib.Core.Logic.{_⊎_}
+use mathlib.Core.Path.{_≡_}
+use lib.Dec.{ltb}
+use lib.ListN.{length, getD}
+
+-- the sum of bid × effect of an assignment f of bidders to the slot indices k, .., k + left - 1
+unfoldable pub sumFrom : (bid effect f : ℕ → ℕ) → ℕ → ℕ → ℕ
+sumFrom bid effect f k zero = 0
+sumFrom bid effect f k (suc left) = sumFrom bid effect f k left + bid (f (k + left)) * effect (k + left)
+
+-- the slot index that the next free bidder gets, after the first i of the ranked bidders, from index k and below m
+unfoldable pub slotAfter : (free : ℕ → Bool) (rank : ℕ → ℕ) (k m : ℕ) → ℕ → ℕ
+slotAfter free rank k m zero = k
+slotAfter free rank k m (suc i) =
+    cond (free (rank i) && ltb (slotAfter free rank k m i) m) (suc (slotAfter free rank k m i)) (slotAfter free rank k m i)
+
+-- what those bidders add
+unfoldable pub addAfter : (free : ℕ → Bool) (rank bid effect : ℕ → ℕ) (k m : ℕ) → ℕ → ℕ
+addAfter free rank bid effect k m zero = 0
+addAfter free rank bid effect k m (suc i) =
+    addAfter free rank bid effect k m i
+    + cond (free (rank i) && ltb (slotAfter free rank k m i) m) (bid (rank i) * effect (slotAfter free rank k m i)) 0
+
+-- the ranked bidders' bids fall
+abbrev pub Falling : (rank bid : ℕ → ℕ) → ℕ → Type 0
+Falling rank bid n = (i j : ℕ) → i ≤ j → j < n → bid (rank j) ≤ bid (rank i)
+
+-- effects do not rise from index k to below m
+abbrev pub NoRise : (effect : ℕ → ℕ) → ℕ → Type 0
+NoRise effect m = (i j : ℕ) → i ≤ j → j < m → effect j ≤ effect i
+
+-- f gives each slot index from k to below m nobody, or a free bidder among the ranked ones, and nobody two of them
+pub record Assigns (free : ℕ → Bool) (rank : ℕ → ℕ) (n k m : ℕ) (f : ℕ → ℕ) : Type 0 where
+  pub ranked : (j : ℕ) → k ≤ j → j < m → (f j ≡ 0) ⊎ ((i : ℕ) × (i < n) × (rank i ≡ f j) × (free (f j) ≡ true))
+  pub once : (i j : ℕ) → k ≤ i → i < m → k ≤ j → j < m → (f i ≡ 0 → ⊥) → f i ≡ f j → i ≡ j
+
+-- The bound: no assignment of free bidders to the slots left adds more.
+unfoldable pub BoundHolds : Type 0
+BoundHolds =
+    (free : ℕ → Bool) (rank bid effect : ℕ → ℕ) (n k left : ℕ) → bid 0 ≡ 0 →
+    ((i : ℕ) → i < n → rank i ≡ 0 → ⊥) → ((i j : ℕ) → i < n → j < n → rank i ≡ rank j → i ≡ j) →
+    Falling rank bid n → NoRise effect (k + left) →
+    (f : ℕ → ℕ) → Assigns free rank n k (k + left) f →
+    sumFrom bid effect f k left ≤ addAfter free rank bid effect k (k + left) n
+
+-- lists as functions
+unfoldable pub listed : List ℕ → ℕ → ℕ
+listed l i = getD l i 0
+
+-- the first n of a list name the bidders 1 to n, each once, in falling order of their bids
+pub record Ranked (bid : ℕ → ℕ) (n : ℕ) (ranked : List ℕ) : Type 0 where
+  pub size : length ranked ≡ 8
+  pub some : (i : ℕ) → i < n → (0 < getD ranked i 0) × (getD ranked i 0 ≤ n)
+  pub once : (i j : ℕ) → i < n → j < n → getD ranked i 0 ≡ getD ranked j 0 → i ≡ j
+  pub everybody : (b : ℕ) → 0 < b → b ≤ n → (i : ℕ) × (i < n) × (getD ranked i 0 ≡ b)
+  pub falls : (i j : ℕ) → i ≤ j → j < n → bid (getD ranked j 0) ≤ bid (getD ranked i 0)

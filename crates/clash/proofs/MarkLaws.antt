@@ -1,0 +1,435 @@
+-- What a store marks, how the marks of a loop add up, and why the marks of a constraint are the pairs that break it: on a page of two a
+-- constraint is broken by one of them at its own slot, or by the owner and the other in one order or the other. Assumes nothing.
+use Prim.Native.Nat.{ℕ, zero, suc, _+_, _*_, _-_, _<_, _≤_}
+use borrow.Author.Tests.{eq-eqb, eqb-true, le-leb, lt-leb, leb-true, lt-ltb, le-ltb, ltb-true}
+use mathlib.Core.Bool.{Bool, true, false, not, _&&_, _||_, and-true, or-false}
+use mathlib.Core.List.{List}
+use mathlib.Core.Logic.{_⊎_, inl, inr, ⊎-elim}
+use mathlib.Core.Path.{_≡_, refl, sym, _∙_, ap, ap₂}
+use native.Mathlib.Nat.{not-suc-le-zero}
+use native.Mathlib.Omega.{arith}
+use lib.Dec.{eqb, leb, ltb}
+use lib.ListN.{length, getD, set, length-set}
+use lib.Seq.{getD-set-same, getD-set-other}
+use Rattle.basis.specs.Tests.{anyBelow}
+use Rattle.basis.proofs.TestLaws.{fails, same-tests, and-holds, and-parts, or-left, or-right, or-parts, or-fails}
+use Rattle.sheet.specs.declared.Bidder.{Bidder}
+use Rattle.sheet.specs.declared.Slot.{Slot}
+use Rattle.sheet.specs.declared.Kind.{Kind}
+use Rattle.sheet.specs.declared.Kind.the-variants.{OwnSlot, OtherSlot, Pair}
+use Rattle.sheet.specs.declared.Page.{Page}
+use Rattle.sheet.specs.declared.Round.{Round}
+use Rattle.auction.specs.Page.{at, placed}
+use Rattle.auction.specs.Broken.{ownHolds, otherHolds, broken, constraintAt, breaks}
+use Rattle.auction.specs.Proper.{Proper, ProperRound}
+use Rattle.auction.proofs.PageLaws.{same-or-not, placed-at, placed-where}
+use Rattle.auction.proofs.BrokenLaws.{broken-parts, parts-broken}
+use Rattle.clash.specs.Clash.{pairPage, clash, entryAt}
+use Rattle.clash.specs.Marks.{Entry, Numbered, marked, sameAt, bothAre, eitherWay, anywhere, among, marks}
+use Rattle.clash.proofs.ClashLaws.{second-here, first-here, only-two, any-same}
+
+same-at : (b k j l : ℕ) → b ≡ j → k ≡ l → sameAt b k j l ≡ true
+same-at b k j l e f = and-holds (eq-eqb b j e) (eq-eqb k l f)
+
+at-same : (b k j l : ℕ) → sameAt b k j l ≡ true → (b ≡ j) × (k ≡ l)
+at-same b k j l e = let both = and-parts (eqb b j) (eqb k l) e in (eqb-true b j (both .0), eqb-true k l (both .1))
+
+-- the number of bidder b at slot k in the table
+abbrev placeOf : ℕ → ℕ → ℕ
+placeOf b k = 8 * (b - 1) + (k - 1)
+
+place-same : (x s u b k : ℕ) → 0 < x → x ≤ 8 → 0 < s → s ≤ 8 → u ≡ 8 * (x - 1) + (s - 1) → 0 < b → b ≤ 8 → 0 < k → k ≤ 8 →
+    eqb (placeOf b k) u ≡ sameAt x s b k
+place-same x s u b k x-some x-most s-some s-most at-u b-some b-most k-some k-most =
+    same-tests (eqb (placeOf b k) u) (sameAt x s b k)
+    (λ e. let h = eqb-true (placeOf b k) u e in same-at x s b k (omega arith) (omega arith))
+    (λ e.
+    let same = at-same x s b k e in
+    let x-b : x ≡ b = same .0 in
+    let s-k : s ≡ k = same .1 in
+    eq-eqb (placeOf b k) u (omega arith))
+
+-- one store marks one entry
+pub store-at : (table : List ℕ) (u v : ℕ) → length table ≡ 4096 → u < 64 → v < 64 → (b k j l : ℕ) → Entry b k j l →
+    marked (set table (64 * u + v) 1) b k j l ≡ (marked table b k j l || (eqb (placeOf b k) u && eqb (placeOf j l) v))
+unfolding marked entryAt
+store-at table u v size u-most v-most zero k j l i = absurd (not-suc-le-zero (i .some-b))
+store-at table u v size u-most v-most (suc b) zero j l i = absurd (not-suc-le-zero (i .some-k))
+store-at table u v size u-most v-most (suc b) (suc k) zero l i = absurd (not-suc-le-zero (i .some-j))
+store-at table u v size u-most v-most (suc b) (suc k) (suc j) zero i = absurd (not-suc-le-zero (i .some-l))
+store-at table u v size u-most v-most (suc b) (suc k) (suc j) (suc l) i =
+    ⊎-elim
+    (λ (e : 64 * (8 * b + k) + (8 * j + l) ≡ 64 * u + v).
+    ap (λ (n : ℕ). not (eqb n 0))
+    (ap (λ (n : ℕ). getD (set table (64 * u + v) 1) n 0) e ∙ getD-set-same table (64 * u + v) 1 0 (omega arith))
+    ∙ sym
+    (or-right (not (eqb (getD table (64 * (8 * b + k) + (8 * j + l)) 0) 0))
+    (and-holds (eq-eqb (placeOf (suc b) (suc k)) u (omega arith)) (eq-eqb (placeOf (suc j) (suc l)) v (omega arith)))))
+    (λ (d : 64 * (8 * b + k) + (8 * j + l) ≡ 64 * u + v → ⊥).
+    ap (λ (n : ℕ). not (eqb n 0)) (getD-set-other table (64 * u + v) (64 * (8 * b + k) + (8 * j + l)) 1 0 d)
+    ∙ sym
+    (ap (λ (n : Bool). not (eqb (getD table (64 * (8 * b + k) + (8 * j + l)) 0) 0) || n)
+    (fails (eqb (placeOf (suc b) (suc k)) u && eqb (placeOf (suc j) (suc l)) v)
+    (λ f.
+    let both = and-parts (eqb (placeOf (suc b) (suc k)) u) (eqb (placeOf (suc j) (suc l)) v) f in
+    let one = eqb-true (placeOf (suc b) (suc k)) u (both .0) in
+    let two = eqb-true (placeOf (suc j) (suc l)) v (both .1) in
+    d (omega arith)))
+    ∙ or-false (not (eqb (getD table (64 * (8 * b + k) + (8 * j + l)) 0) 0))))
+    (same-or-not (64 * (8 * b + k) + (8 * j + l)) (64 * u + v))
+
+module _ (table : List ℕ) (x s y t u v : ℕ) (size : length table ≡ 4096) (x-some : 0 < x) (x-most : x ≤ 8) (s-some : 0 < s) (s-most : s ≤ 8)
+    (y-some : 0 < y) (y-most : y ≤ 8) (t-some : 0 < t) (t-most : t ≤ 8) (at-u : u ≡ 8 * (x - 1) + (s - 1)) (at-v : v ≡ 8 * (y - 1) + (t - 1)) where
+  pub store-marks : (b k j l : ℕ) → Entry b k j l →
+      marked (set table (64 * u + v) 1) b k j l ≡ (marked table b k j l || bothAre x s y t b k j l)
+  store-marks b k j l i =
+      store-at table u v size (omega arith) (omega arith) b k j l i
+      ∙ ap₂ (λ (m n : Bool). marked table b k j l || (m && n))
+      (place-same x s u b k x-some x-most s-some s-most at-u (i .some-b) (i .most-b) (i .some-k) (i .most-k))
+      (place-same y t v j l y-some y-most t-some t-most at-v (i .some-j) (i .most-j) (i .some-l) (i .most-l))
+
+-- a bidder or a slot that the table does not have marks nothing
+pub first-left-out : (n x s y t b k j l : ℕ) (m : Bool) → Numbered x s n → 64 ≤ n → Entry b k j l → m ≡ (m || bothAre x s y t b k j l)
+first-left-out n x s y t b k j l m d past i =
+    sym
+    (ap (λ (z : Bool). m || z)
+    (fails (bothAre x s y t b k j l)
+    (λ f.
+    let one = at-same x s b k (and-parts (sameAt x s b k) (sameAt y t j l) f .0) in
+    let x-b : x ≡ b = one .0 in
+    let s-k : s ≡ k = one .1 in
+    d .left-out past (omega arith) (omega arith)))
+    ∙ or-false m)
+
+pub second-left-out : (n x s y t b k j l : ℕ) (m : Bool) → Numbered y t n → 64 ≤ n → Entry b k j l → m ≡ (m || bothAre x s y t b k j l)
+second-left-out n x s y t b k j l m d past i =
+    sym
+    (ap (λ (z : Bool). m || z)
+    (fails (bothAre x s y t b k j l)
+    (λ f.
+    let two = at-same y t j l (and-parts (sameAt x s b k) (sameAt y t j l) f .1) in
+    let y-j : y ≡ j = two .0 in
+    let t-l : t ≡ l = two .1 in
+    d .left-out past (omega arith) (omega arith)))
+    ∙ or-false m)
+
+-- two reasons to be marked, one after the other
+pub marked-also : (m x y : Bool) → ((m || x) || y) ≡ (m || (x || y))
+marked-also true x y = refl
+marked-also false x y = refl
+
+-- 1 to n and the next one
+below-or-next : (k n : ℕ) → (leb k n || eqb (n + 1) k) ≡ leb k (n + 1)
+below-or-next k n =
+    same-tests (leb k n || eqb (n + 1) k) (leb k (n + 1))
+    (λ e.
+    ⊎-elim
+    (λ (t : leb k n ≡ true). le-leb k (n + 1) (let h = leb-true k n t in omega arith))
+    (λ (t : eqb (n + 1) k ≡ true). le-leb k (n + 1) (let h = eqb-true (n + 1) k t in omega arith))
+    (or-parts (leb k n) (eqb (n + 1) k) e))
+    (λ e.
+    ⊎-elim
+    (λ (t : n + 1 ≡ k). or-right (leb k n) (eq-eqb (n + 1) k t))
+    (λ (t : n + 1 ≡ k → ⊥). or-left (eqb (n + 1) k) (le-leb k n (let h = leb-true k (n + 1) e in omega arith)))
+    (same-or-not (n + 1) k))
+
+-- two either-or tests of one shape are one
+or-crossed : (a b c d : Bool) → ((a || b) || (c || d)) ≡ ((a || c) || (b || d))
+or-crossed true b c d = refl
+or-crossed false true true d = refl
+or-crossed false false true d = refl
+or-crossed false true false d = refl
+or-crossed false false false d = refl
+
+joined-left : (a u v s : Bool) → (((a && u) && s) || ((a && v) && s)) ≡ ((a && (u || v)) && s)
+joined-left true true v true = refl
+joined-left true true true false = refl
+joined-left true true false false = refl
+joined-left true false v s = refl
+joined-left false u v s = refl
+
+joined-right : (s a u v : Bool) → ((s && (a && u)) || (s && (a && v))) ≡ (s && (a && (u || v)))
+joined-right true true u v = refl
+joined-right true false u v = refl
+joined-right false a u v = refl
+
+joined : (a s s′ a′ u v u′ v′ : Bool) →
+    ((((a && u) && s) || (s′ && (a′ && u′))) || (((a && v) && s) || (s′ && (a′ && v′))))
+    ≡ (((a && (u || v)) && s) || (s′ && (a′ && (u′ || v′))))
+joined a s s′ a′ u v u′ v′ =
+    or-crossed ((a && u) && s) (s′ && (a′ && u′)) ((a && v) && s) (s′ && (a′ && v′))
+    ∙ ap₂ _||_ (joined-left a u v s) (joined-right s′ a′ u′ v′)
+
+none-joined : (a s s′ a′ : Bool) → (((a && false) && s) || (s′ && (a′ && false))) ≡ false
+none-joined true s true true = refl
+none-joined true s true false = refl
+none-joined true s false a′ = refl
+none-joined false s true true = refl
+none-joined false s true false = refl
+none-joined false s false a′ = refl
+
+-- bidder x at slots 1 to n and y at t: none at first, one slot more with each turn, and any slot at the end
+unfoldable pub someSlots : ℕ → ℕ → ℕ → ℕ → ℕ → ℕ → ℕ → ℕ → Bool
+someSlots x y t n b k j l = ((eqb x b && leb k n) && sameAt y t j l) || (sameAt y t b k && (eqb x j && leb l n))
+
+pub no-slots : (m : Bool) (x y t b k j l : ℕ) → Entry b k j l → m ≡ (m || someSlots x y t 0 b k j l)
+unfolding someSlots
+no-slots m x y t b k j l i =
+    sym
+    (ap₂ (λ (u v : Bool). m || (((eqb x b && u) && sameAt y t j l) || (sameAt y t b k && (eqb x j && v)))) (lt-leb k 0 (i .some-k)) (lt-leb l 0 (i .some-l))
+    ∙ ap (λ (z : Bool). m || z) (none-joined (eqb x b) (sameAt y t j l) (sameAt y t b k) (eqb x j))
+    ∙ or-false m)
+
+pub slot-more : (m before after : Bool) (x y t n b k j l : ℕ) → after ≡ (before || eitherWay x (n + 1) y t b k j l) →
+    before ≡ (m || someSlots x y t n b k j l) → after ≡ (m || someSlots x y t (n + 1) b k j l)
+unfolding someSlots
+slot-more m before after x y t n b k j l now was =
+    now
+    ∙ ap (λ (z : Bool). z || eitherWay x (n + 1) y t b k j l) was
+    ∙ marked-also m (someSlots x y t n b k j l) (eitherWay x (n + 1) y t b k j l)
+    ∙ ap (λ (z : Bool). m || z)
+    (joined (eqb x b) (sameAt y t j l) (sameAt y t b k) (eqb x j) (leb k n) (eqb (n + 1) k) (leb l n) (eqb (n + 1) l)
+    ∙ ap₂ (λ (u v : Bool). ((eqb x b && u) && sameAt y t j l) || (sameAt y t b k && (eqb x j && v))) (below-or-next k n) (below-or-next l n))
+
+pub every-slot : (m : Bool) (x y t n b k j l : ℕ) → Entry b k j l → 8 ≤ n → (m || someSlots x y t n b k j l) ≡ (m || anywhere x y t b k j l)
+unfolding someSlots
+every-slot m x y t n b k j l i h =
+    ap₂ (λ (u v : Bool). m || (((eqb x b && u) && sameAt y t j l) || (sameAt y t b k && (eqb x j && v)))) (le-leb k n (omega arith)) (le-leb l n (omega arith))
+    ∙ ap₂ (λ (u v : Bool). m || ((u && sameAt y t j l) || (sameAt y t b k && v))) (and-true (eqb x b)) (and-true (eqb x j))
+
+-- the first n entries of row u and of column u: none at first, one more of each with each turn, and all at the end
+unfoldable pub someOfRow : ℕ → ℕ → ℕ → ℕ → ℕ → ℕ → Bool
+someOfRow u n b k j l = (ltb (placeOf b k) n && eqb (placeOf j l) u) || (eqb (placeOf b k) u && ltb (placeOf j l) n)
+
+pub none-of-row : (m : Bool) (u b k j l : ℕ) → m ≡ (m || someOfRow u 0 b k j l)
+unfolding someOfRow
+none-of-row m u b k j l =
+    sym
+    (ap₂ (λ (v w : Bool). m || ((v && eqb (placeOf j l) u) || (eqb (placeOf b k) u && w))) (le-ltb (placeOf b k) 0 (omega arith)) (le-ltb (placeOf j l) 0 (omega arith))
+    ∙ ap (λ (z : Bool). m || z) (none-joined true (eqb (placeOf j l) u) (eqb (placeOf b k) u) true)
+    ∙ or-false m)
+
+lower-or-next : (a n : ℕ) → (ltb a n || eqb a n) ≡ ltb a (n + 1)
+lower-or-next a n =
+    same-tests (ltb a n || eqb a n) (ltb a (n + 1))
+    (λ e.
+    ⊎-elim
+    (λ (t : ltb a n ≡ true). lt-ltb a (n + 1) (let h = ltb-true a n t in omega arith))
+    (λ (t : eqb a n ≡ true). lt-ltb a (n + 1) (let h = eqb-true a n t in omega arith))
+    (or-parts (ltb a n) (eqb a n) e))
+    (λ e.
+    ⊎-elim
+    (λ (t : a ≡ n). or-right (ltb a n) (eq-eqb a n t))
+    (λ (t : a ≡ n → ⊥). or-left (eqb a n) (lt-ltb a n (let h = ltb-true a (n + 1) e in omega arith)))
+    (same-or-not a n))
+
+pub row-more : (table₀ table : List ℕ) (u n : ℕ) → length table ≡ 4096 → u < 64 → n < 64 → (b k j l : ℕ) → Entry b k j l →
+    marked table b k j l ≡ (marked table₀ b k j l || someOfRow u n b k j l) →
+    marked (set (set table (64 * n + u) 1) (64 * u + n) 1) b k j l ≡ (marked table₀ b k j l || someOfRow u (n + 1) b k j l)
+unfolding someOfRow
+row-more table₀ table u n size u-most n-most b k j l i before =
+    store-at (set table (64 * n + u) 1) u n (length-set table (64 * n + u) 1 ∙ size) u-most n-most b k j l i
+    ∙ ap (λ (z : Bool). z || (eqb (placeOf b k) u && eqb (placeOf j l) n))
+    (store-at table n u size n-most u-most b k j l i
+    ∙ ap (λ (z : Bool). z || (eqb (placeOf b k) n && eqb (placeOf j l) u)) before)
+    ∙ marked-also (marked table₀ b k j l || someOfRow u n b k j l) (eqb (placeOf b k) n && eqb (placeOf j l) u) (eqb (placeOf b k) u && eqb (placeOf j l) n)
+    ∙ marked-also (marked table₀ b k j l) (someOfRow u n b k j l)
+    ((eqb (placeOf b k) n && eqb (placeOf j l) u) || (eqb (placeOf b k) u && eqb (placeOf j l) n))
+    ∙ ap (λ (z : Bool). marked table₀ b k j l || z)
+    (joined true (eqb (placeOf j l) u) (eqb (placeOf b k) u) true (ltb (placeOf b k) n) (eqb (placeOf b k) n) (ltb (placeOf j l) n) (eqb (placeOf j l) n)
+    ∙ ap₂ (λ (v w : Bool). (v && eqb (placeOf j l) u) || (eqb (placeOf b k) u && w)) (lower-or-next (placeOf b k) n) (lower-or-next (placeOf j l) n))
+
+pub all-of-row : (m : Bool) (x s u n b k j l : ℕ) → 0 < x → 0 < s → Numbered x s u → u < 64 → 64 ≤ n → Entry b k j l →
+    (m || someOfRow u n b k j l) ≡ (m || among x s b k j l)
+unfolding someOfRow
+all-of-row m x s u n b k j l x-some s-some d here past i =
+    let told = d .told here in
+    ap₂ (λ (v w : Bool). m || ((v && eqb (placeOf j l) u) || (eqb (placeOf b k) u && w))) (lt-ltb (placeOf b k) n (omega arith)) (lt-ltb (placeOf j l) n (omega arith))
+    ∙ ap (λ (w : Bool). m || (eqb (placeOf j l) u || w)) (and-true (eqb (placeOf b k) u))
+    ∙ ap₂ (λ (v w : Bool). m || (v || w))
+    (place-same x s u j l x-some (told .0) s-some (told .1) (told .2) (i .some-j) (i .most-j) (i .some-l) (i .most-l))
+    (place-same x s u b k x-some (told .0) s-some (told .1) (told .2) (i .some-b) (i .most-b) (i .some-k) (i .most-k))
+
+pub row-left-out : (m : Bool) (x s u b k j l : ℕ) → Numbered x s u → 64 ≤ u → Entry b k j l → m ≡ (m || among x s b k j l)
+row-left-out m x s u b k j l d past i =
+    sym (ap (λ (z : Bool). m || z) (or-fails (unlike j l (i .most-j) (i .most-l)) (unlike b k (i .most-b) (i .most-k))) ∙ or-false m)
+  where
+    unlike : (y t : ℕ) → y ≤ 8 → t ≤ 8 → sameAt x s y t ≡ false
+    unlike y t y-most t-most =
+        fails (sameAt x s y t)
+        (λ e.
+        let same = at-same x s y t e in
+        let x-y : x ≡ y = same .0 in
+        let s-t : s ≡ t = same .1 in
+        d .left-out past (omega arith) (omega arith))
+
+-- A page with b at k and j at l, and nobody else, breaks a constraint exactly when the constraint marks the pair.
+module _ (p : Page) (b k j l : ℕ) (k-some : 0 < k) (k-most : k ≤ 16) (l-some : 0 < l) (l-most : l ≤ 16) (first : at p k ≡ b) (second : at p l ≡ j)
+    (only : (x y : ℕ) → (y ≡ 0 → ⊥) → at p x ≡ y → ((y ≡ b) × (x ≡ k)) ⊎ ((y ≡ j) × (x ≡ l))) where
+  at-first : (x y : ℕ) → sameAt y x b k ≡ true → at p x ≡ y
+  at-first x y e = let same = at-same y x b k e in ap (at p) (same .1) ∙ first ∙ sym (same .0)
+
+  at-second : (x y : ℕ) → sameAt y x j l ≡ true → at p x ≡ y
+  at-second x y e = let same = at-same y x j l e in ap (at p) (same .1) ∙ second ∙ sym (same .0)
+
+  first-placed : (o : ℕ) → eqb o b ≡ true → placed p o ≡ true
+  first-placed o e = placed-at p o k k-some k-most (first ∙ sym (eqb-true o b e))
+
+  second-placed : (o : ℕ) → eqb o j ≡ true → placed p o ≡ true
+  second-placed o e = placed-at p o l l-some l-most (second ∙ sym (eqb-true o j e))
+
+  one-of-two : (o : ℕ) → (o ≡ 0 → ⊥) → placed p o ≡ true → (o ≡ b) ⊎ (o ≡ j)
+  one-of-two o some e =
+      let w = placed-where p o e in
+      ⊎-elim (λ (f : (o ≡ b) × (w .0 ≡ k)). inl (f .0)) (λ (f : (o ≡ j) × (w .0 ≡ l)). inr (f .0)) (only (w .0) o some (w .3))
+
+  own-marked : (owner : Bidder) (s : Slot) → Proper (record { owner = owner; kind = OwnSlot s }) →
+      ((owner .0 ≡ b) × (s .0 ≡ k)) ⊎ ((owner .0 ≡ j) × (s .0 ≡ l)) → among (owner .0) (s .0) b k j l ≡ true
+  own-marked owner s q (inl e) = or-right (sameAt (owner .0) (s .0) j l) (same-at (owner .0) (s .0) b k (e .0) (e .1))
+  own-marked owner s q (inr e) = or-left (sameAt (owner .0) (s .0) b k) (same-at (owner .0) (s .0) j l (e .0) (e .1))
+
+  other-marked : (owner i : Bidder) (m : Slot) → Proper (record { owner = owner; kind = OtherSlot i m }) →
+      ((i .0 ≡ b) × (m .0 ≡ k)) ⊎ ((i .0 ≡ j) × (m .0 ≡ l)) → (owner .0 ≡ b) ⊎ (owner .0 ≡ j) → anywhere (owner .0) (i .0) (m .0) b k j l ≡ true
+  other-marked owner i m q (inl e) (inl o) = absurd (q .named .1 (e .0 ∙ sym o))
+  other-marked owner i m q (inl e) (inr o) =
+      or-right (eqb (owner .0) b && sameAt (i .0) (m .0) j l) (and-holds (same-at (i .0) (m .0) b k (e .0) (e .1)) (eq-eqb (owner .0) j o))
+  other-marked owner i m q (inr e) (inl o) =
+      or-left (sameAt (i .0) (m .0) b k && eqb (owner .0) j) (and-holds (eq-eqb (owner .0) b o) (same-at (i .0) (m .0) j l (e .0) (e .1)))
+  other-marked owner i m q (inr e) (inr o) = absurd (q .named .1 (e .0 ∙ sym o))
+
+  pair-marked : (owner : Bidder) (s : Slot) (i : Bidder) (m : Slot) → Proper (record { owner = owner; kind = Pair s i m }) →
+      ((owner .0 ≡ b) × (s .0 ≡ k)) ⊎ ((owner .0 ≡ j) × (s .0 ≡ l)) → ((i .0 ≡ b) × (m .0 ≡ k)) ⊎ ((i .0 ≡ j) × (m .0 ≡ l)) →
+      eitherWay (owner .0) (s .0) (i .0) (m .0) b k j l ≡ true
+  pair-marked owner s i m q (inl o) (inl e) = absurd (q .named .1 (e .0 ∙ sym (o .0)))
+  pair-marked owner s i m q (inl o) (inr e) =
+      or-left (bothAre (i .0) (m .0) (owner .0) (s .0) b k j l)
+      (and-holds (same-at (owner .0) (s .0) b k (o .0) (o .1)) (same-at (i .0) (m .0) j l (e .0) (e .1)))
+  pair-marked owner s i m q (inr o) (inl e) =
+      or-right (bothAre (owner .0) (s .0) (i .0) (m .0) b k j l)
+      (and-holds (same-at (i .0) (m .0) b k (e .0) (e .1)) (same-at (owner .0) (s .0) j l (o .0) (o .1)))
+  pair-marked owner s i m q (inr o) (inr e) = absurd (q .named .1 (e .0 ∙ sym (o .0)))
+
+  broken-marked : (owner : Bidder) (kind : Kind) → Proper (record { owner = owner; kind = kind }) →
+      broken p (record { owner = owner; kind = kind }) ≡ true → marks kind (owner .0) b k j l ≡ true
+  unfolding marks ownHolds otherHolds
+  broken-marked owner (OwnSlot s) q e =
+      let parts = broken-parts p (record { owner = owner; kind = OwnSlot s }) e in
+      own-marked owner s q (only (s .0) (owner .0) (q .owned) (eqb-true (at p (s .0)) (owner .0) (parts .0)))
+  broken-marked owner (OtherSlot i m) q e =
+      let parts = broken-parts p (record { owner = owner; kind = OtherSlot i m }) e in
+      other-marked owner i m q (only (m .0) (i .0) (q .named .0) (eqb-true (at p (m .0)) (i .0) (parts .1)))
+      (one-of-two (owner .0) (q .owned) (parts .2))
+  broken-marked owner (Pair s i m) q e =
+      let parts = broken-parts p (record { owner = owner; kind = Pair s i m }) e in
+      pair-marked owner s i m q (only (s .0) (owner .0) (q .owned) (eqb-true (at p (s .0)) (owner .0) (parts .0)))
+      (only (m .0) (i .0) (q .named .0) (eqb-true (at p (m .0)) (i .0) (parts .1)))
+
+  own-broken : (owner : Bidder) (s : Slot) → Proper (record { owner = owner; kind = OwnSlot s }) → at p (s .0) ≡ owner .0 →
+      broken p (record { owner = owner; kind = OwnSlot s }) ≡ true
+  unfolding ownHolds otherHolds
+  own-broken owner s q e =
+      parts-broken p (record { owner = owner; kind = OwnSlot s }) (eq-eqb (at p (s .0)) (owner .0) e) refl
+      (placed-at p (owner .0) (s .0) (q .named .0) (q .named .1) e)
+
+  other-broken : (owner i : Bidder) (m : Slot) → at p (m .0) ≡ i .0 → placed p (owner .0) ≡ true →
+      broken p (record { owner = owner; kind = OtherSlot i m }) ≡ true
+  unfolding ownHolds otherHolds
+  other-broken owner i m e o = parts-broken p (record { owner = owner; kind = OtherSlot i m }) refl (eq-eqb (at p (m .0)) (i .0) e) o
+
+  pair-broken : (owner : Bidder) (s : Slot) (i : Bidder) (m : Slot) → Proper (record { owner = owner; kind = Pair s i m }) →
+      at p (s .0) ≡ owner .0 → at p (m .0) ≡ i .0 → broken p (record { owner = owner; kind = Pair s i m }) ≡ true
+  unfolding ownHolds otherHolds
+  pair-broken owner s i m q o e =
+      parts-broken p (record { owner = owner; kind = Pair s i m }) (eq-eqb (at p (s .0)) (owner .0) o) (eq-eqb (at p (m .0)) (i .0) e)
+      (placed-at p (owner .0) (s .0) (q .named .5) (q .named .6) o)
+
+  marked-broken : (owner : Bidder) (kind : Kind) → Proper (record { owner = owner; kind = kind }) →
+      marks kind (owner .0) b k j l ≡ true → broken p (record { owner = owner; kind = kind }) ≡ true
+  unfolding marks
+  marked-broken owner (OwnSlot s) q e =
+      ⊎-elim
+      (λ (f : sameAt (owner .0) (s .0) j l ≡ true). own-broken owner s q (at-second (s .0) (owner .0) f))
+      (λ (f : sameAt (owner .0) (s .0) b k ≡ true). own-broken owner s q (at-first (s .0) (owner .0) f))
+      (or-parts (sameAt (owner .0) (s .0) j l) (sameAt (owner .0) (s .0) b k) e)
+  marked-broken owner (OtherSlot i m) q e =
+      ⊎-elim
+      (λ (f : (eqb (owner .0) b && sameAt (i .0) (m .0) j l) ≡ true).
+      let both = and-parts (eqb (owner .0) b) (sameAt (i .0) (m .0) j l) f in
+      other-broken owner i m (at-second (m .0) (i .0) (both .1)) (first-placed (owner .0) (both .0)))
+      (λ (f : (sameAt (i .0) (m .0) b k && eqb (owner .0) j) ≡ true).
+      let both = and-parts (sameAt (i .0) (m .0) b k) (eqb (owner .0) j) f in
+      other-broken owner i m (at-first (m .0) (i .0) (both .0)) (second-placed (owner .0) (both .1)))
+      (or-parts (eqb (owner .0) b && sameAt (i .0) (m .0) j l) (sameAt (i .0) (m .0) b k && eqb (owner .0) j) e)
+  marked-broken owner (Pair s i m) q e =
+      ⊎-elim
+      (λ (f : bothAre (owner .0) (s .0) (i .0) (m .0) b k j l ≡ true).
+      let both = and-parts (sameAt (owner .0) (s .0) b k) (sameAt (i .0) (m .0) j l) f in
+      pair-broken owner s i m q (at-first (s .0) (owner .0) (both .0)) (at-second (m .0) (i .0) (both .1)))
+      (λ (f : bothAre (i .0) (m .0) (owner .0) (s .0) b k j l ≡ true).
+      let both = and-parts (sameAt (i .0) (m .0) b k) (sameAt (owner .0) (s .0) j l) f in
+      pair-broken owner s i m q (at-second (s .0) (owner .0) (both .1)) (at-first (m .0) (i .0) (both .0)))
+      (or-parts (bothAre (owner .0) (s .0) (i .0) (m .0) b k j l) (bothAre (i .0) (m .0) (owner .0) (s .0) b k j l) e)
+
+  marks-are-broken : (owner : Bidder) (kind : Kind) → Proper (record { owner = owner; kind = kind }) →
+      marks kind (owner .0) b k j l ≡ broken p (record { owner = owner; kind = kind })
+  marks-are-broken owner kind q =
+      same-tests (marks kind (owner .0) b k j l) (broken p (record { owner = owner; kind = kind }))
+      (marked-broken owner kind q) (broken-marked owner kind q)
+
+-- some constraint among the first n marks the entry
+unfoldable pub someMarks : Round → ℕ → ℕ → ℕ → ℕ → ℕ → Bool
+someMarks r n b k j l = anyBelow (λ i. marks (constraintAt r i .kind) (constraintAt r i .owner .0) b k j l) n
+
+pub no-marks : (r : Round) (table : List ℕ) (b k j l : ℕ) → ((i : ℕ) → getD table i 0 ≡ 0) → marked table b k j l ≡ someMarks r 0 b k j l
+unfolding someMarks anyBelow marked entryAt
+no-marks r table zero k j l z = refl
+no-marks r table (suc b) zero j l z = refl
+no-marks r table (suc b) (suc k) zero l z = refl
+no-marks r table (suc b) (suc k) (suc j) zero z = refl
+no-marks r table (suc b) (suc k) (suc j) (suc l) z = ap (λ (n : ℕ). not (eqb n 0)) (z (64 * (8 * b + k) + (8 * j + l)))
+
+pub marks-more : (r : Round) (n b k j l : ℕ) →
+    (someMarks r n b k j l || marks (constraintAt r n .kind) (constraintAt r n .owner .0) b k j l) ≡ someMarks r (suc n) b k j l
+unfolding someMarks anyBelow
+marks-more r n b k j l = refl
+
+-- the marks of all constraints are the clashes, of two at two slots and of one alone
+pub pairs-clash : (r : Round) → ProperRound r → (b k j l : ℕ) → Entry b k j l → (k ≡ l → ⊥) → someMarks r (r .used) b k j l ≡ clash r b k j l
+unfolding someMarks clash breaks
+pairs-clash r proper b k j l i apart =
+    let k-most : k ≤ 16 = omega arith in
+    let l-most : l ≤ 16 = omega arith in
+    any-same
+    (λ n. marks (constraintAt r n .kind) (constraintAt r n .owner .0) b k j l)
+    (λ n. broken (pairPage b k j l) (constraintAt r n))
+    (r .used)
+    (λ n below.
+    marks-are-broken (pairPage b k j l) b k j l (i .some-k) k-most (i .some-l) l-most
+    (first-here b k j l (i .some-k) k-most (i .some-l) l-most apart)
+    (second-here b k j l (i .some-k) k-most (i .some-l) l-most)
+    (only-two b k j l (i .some-k) k-most (i .some-l) l-most)
+    (constraintAt r n .owner) (constraintAt r n .kind) (proper .proper (constraintAt r n) (n, below, refl)))
+
+pub alone-clash : (r : Round) → ProperRound r → (b k : ℕ) → Entry b k b k → someMarks r (r .used) b k b k ≡ clash r b k b k
+unfolding someMarks clash breaks
+alone-clash r proper b k i =
+    let k-most : k ≤ 16 = omega arith in
+    let here = second-here b k b k (i .some-k) k-most (i .some-k) k-most in
+    any-same
+    (λ n. marks (constraintAt r n .kind) (constraintAt r n .owner .0) b k b k)
+    (λ n. broken (pairPage b k b k) (constraintAt r n))
+    (r .used)
+    (λ n below.
+    marks-are-broken (pairPage b k b k) b k b k (i .some-k) k-most (i .some-k) k-most here here
+    (only-two b k b k (i .some-k) k-most (i .some-k) k-most)
+    (constraintAt r n .owner) (constraintAt r n .kind) (proper .proper (constraintAt r n) (n, below, refl)))
+
+-- an entry by its index in the table
+pub entry-index : (table : List ℕ) (b k j l n : ℕ) → 0 < b → 0 < k → 0 < j → n ≡ 64 * (8 * (b - 1) + (k - 1)) + (8 * (j - 1) + l) →
+    getD table n 0 ≡ entryAt table b k j (suc l)
+unfolding entryAt
+entry-index table zero k j l n b-some k-some j-some e = absurd (not-suc-le-zero b-some)
+entry-index table (suc b) zero j l n b-some k-some j-some e = absurd (not-suc-le-zero k-some)
+entry-index table (suc b) (suc k) zero l n b-some k-some j-some e = absurd (not-suc-le-zero j-some)
+entry-index table (suc b) (suc k) (suc j) l n b-some k-some j-some e =
+    ap (λ (i : ℕ). getD table i 0) (let f : n ≡ 64 * (8 * b + k) + (8 * j + l) = omega arith in f)

@@ -1,0 +1,46 @@
+-- Each constraint concerns at most two bidders, so a page breaks one exactly when two of its bidders, or one alone, do.
+use Prim.Native.Nat.{ℕ, zero, suc, _+_, _*_, _<_, _≤_}
+use mathlib.Core.Bool.{Bool, true, false, not, _&&_, _||_}
+use mathlib.Core.List.{List}
+use mathlib.Core.Path.{_≡_}
+use lib.Dec.{eqb}
+use lib.ListN.{length, getD}
+use Rattle.basis.specs.Tests.{anyBelow}
+use Rattle.sheet.specs.declared.Page.{Page}
+use Rattle.sheet.specs.declared.Round.{Round}
+use Rattle.auction.specs.Page.{at, put, emptyPage}
+use Rattle.auction.specs.Broken.{breaks}
+
+-- the page with bidder b at slot k and bidder j at slot l, and nobody else
+unfoldable pub pairPage : ℕ → ℕ → ℕ → ℕ → Page
+pairPage b k j l = put (put emptyPage k b) l j
+
+-- bidder b at slot k and bidder j at slot l break a constraint of the round
+unfoldable pub clash : Round → ℕ → ℕ → ℕ → ℕ → Bool
+clash r b k j l = breaks r (pairPage b k j l)
+
+-- bidder b at slot k clashes with itself, or with a bidder that stands on the page at a slot before k
+unfoldable pub clashes : Round → Page → ℕ → ℕ → Bool
+clashes r p k b =
+    clash r b k b k || anyBelow (λ i. not (eqb (at p (suc i)) 0) && clash r b k (at p (suc i)) (suc i)) k
+
+-- the entry of a pair in the table: 8 slots a bidder, 64 entries for each bidder at a slot
+unfoldable pub entryAt : List ℕ → ℕ → ℕ → ℕ → ℕ → ℕ
+entryAt table (suc b) (suc k) (suc j) (suc l) = getD table (64 * (8 * b + k) + (8 * j + l)) 0
+entryAt table zero k j l = 0
+entryAt table (suc b) zero j l = 0
+entryAt table (suc b) (suc k) zero l = 0
+entryAt table (suc b) (suc k) (suc j) zero = 0
+
+-- the same by the table's entries
+unfoldable pub clashesIn : List ℕ → Page → ℕ → ℕ → Bool
+clashesIn table p k b =
+    not (eqb (entryAt table b k b k) 0)
+    || anyBelow (λ i. not (eqb (at p (suc i)) 0) && not (eqb (entryAt table b k (at p (suc i)) (suc i)) 0)) k
+
+-- the table tells the clashes of different bidders at different slots, and of each bidder alone
+pub record TableOf (r : Round) (table : List ℕ) : Type 0 where
+  pub size : length table ≡ 4096
+  pub pairs : (b k j l : ℕ) → 0 < b → b ≤ 8 → 0 < k → k ≤ 8 → 0 < j → j ≤ 8 → 0 < l → l ≤ 8 → (b ≡ j → ⊥) → (k ≡ l → ⊥) →
+      not (eqb (entryAt table b k j l) 0) ≡ clash r b k j l
+  pub alone : (b k : ℕ) → 0 < b → b ≤ 8 → 0 < k → k ≤ 8 → not (eqb (entryAt table b k b k) 0) ≡ clash r b k b k

@@ -1,0 +1,178 @@
+-- Why the search may leave a node whose bound is too small, and which choices at a slot lead somewhere. Assumes nothing.
+use Prim.Native.Nat.{ℕ, zero, suc, _+_, _*_, _-_, _<_, _≤_}
+use borrow.Author.Tests.{not-true, not-false}
+use mathlib.Core.Bool.{Bool, true, false, not, _&&_, cond}
+use mathlib.Core.List.{List}
+use mathlib.Core.Logic.{_⊎_, inl, inr, ⊎-elim}
+use mathlib.Core.Path.{_≡_, refl, sym, _∙_, ap, ap₂, subst}
+use native.Mathlib.Nat.{not-suc-le-zero, eq-or-lt-of-le, le-of-suc-le-suc, mul-le-mul}
+use native.Mathlib.Omega.{arith}
+use lib.Dec.{ltb}
+use lib.ListN.{length, getD}
+use Rattle.basis.proofs.TestLaws.{holds-or-fails, not-both, and-parts, and-fails}
+use Rattle.sheet.specs.declared.Page.{Page}
+use Rattle.sheet.specs.declared.Round.{Round}
+use Rattle.choice.specs.Tables.{bidIn}
+use Rattle.auction.specs.Page.{at, put, placed, Sized}
+use Rattle.auction.specs.Broken.{breaks}
+use Rattle.auction.specs.Greedy.{bidOf, effectOf}
+use Rattle.auction.specs.Proper.{ProperRound}
+use Rattle.auction.proofs.PageLaws.{same-or-not, at-put-same, at-put-other, at-within, put-nobody}
+use Rattle.bound.specs.Bound.{sumFrom, slotAfter, addAfter, Falling, NoRise, Assigns, BoundHolds, listed}
+use Rattle.clash.specs.Clash.{clashes, clashesIn}
+use Rattle.optimal.specs.Best.{Allowed, total}
+use Rattle.optimal.specs.Search.{Searched}
+use Rattle.optimal.specs.Node.{TablesOf, Node, Agrees, Tried, mayStand}
+use Rattle.bound.proofs.BoundLaws.{bound-holds}
+use Rattle.clash.proofs.ClashLaws.{breaks-added, table-clashes}
+use Rattle.optimal.proofs.SearchLaws.{searched-none}
+use Rattle.optimal.proofs.NodeLaws.{node-assigns, node-total, node-next, placed-nowhere, broken-nowhere}
+use Rattle.optimal.proofs.StepLaws.{leaf-found, leaf-small}
+
+-- sums of the same bids and effects
+sum-same : (bid bid′ effect effect′ f : ℕ → ℕ) (k left : ℕ) → ((b : ℕ) → bid b ≡ bid′ b) → ((j : ℕ) → effect j ≡ effect′ j) →
+    sumFrom bid effect f k left ≡ sumFrom bid′ effect′ f k left
+unfolding sumFrom
+sum-same bid bid′ effect effect′ f k zero x y = refl
+sum-same bid bid′ effect effect′ f k (suc left) x y =
+    ap₂ _+_ (sum-same bid bid′ effect effect′ f k left x y) (ap₂ _*_ (x (f (k + left))) (y (k + left)))
+
+-- effects do not rise from slot to slot
+effects-fall : (r : Round) → ProperRound r → (i j : ℕ) → i ≤ j → effectOf r (suc j) ≤ effectOf r (suc i)
+effects-fall r c i zero l = subst (λ (x : ℕ). effectOf r 1 ≤ effectOf r (suc x)) (let e : 0 ≡ i = omega arith in e) (omega arith)
+effects-fall r c i (suc j) l =
+    ⊎-elim
+    (λ (e : i ≡ suc j). subst (λ (x : ℕ). effectOf r (suc (suc j)) ≤ effectOf r (suc x)) (sym e) (omega arith))
+    (λ (lt : i < suc j).
+    let h = effects-fall r c i j (le-of-suc-le-suc lt) in
+    let g = c .no-rise (suc j) (omega arith) in
+    omega arith)
+    (eq-or-lt-of-le l)
+
+bids-zero : (bids : List ℕ) → bidIn bids 0 ≡ 0
+unfolding bidIn
+bids-zero bids = refl
+
+-- a bid times an effect is at most 10 to the 15th
+pub product-low : (bids effects : List ℕ) (b j : ℕ) → ((i : ℕ) → getD bids i 0 ≤ 1_000_000_000) → ((i : ℕ) → getD effects i 0 ≤ 1_000_000) →
+    bidIn bids b * listed effects j ≤ 1_000_000_000_000_000
+unfolding bidIn listed
+product-low bids effects zero j x y = mul-le-mul {n₁ = 0} {m₁ = getD effects j 0} {n₂ = 1_000_000_000} {m₂ = 1_000_000} (omega arith) (y j)
+product-low bids effects (suc b) j x y = mul-le-mul (x b) (y j)
+
+-- what the bound adds is small enough for 64 bits
+pub added-low : (free : ℕ → Bool) (rank : ℕ → ℕ) (bids effects : List ℕ) (k m i : ℕ) →
+    ((j : ℕ) → getD bids j 0 ≤ 1_000_000_000) → ((j : ℕ) → getD effects j 0 ≤ 1_000_000) →
+    addAfter free rank (bidIn bids) (listed effects) k m i ≤ i * 1_000_000_000_000_000
+unfolding addAfter
+added-low free rank bids effects k m zero x y = omega arith
+added-low free rank bids effects k m (suc i) x y =
+    let h = added-low free rank bids effects k m i x y in
+    let one = step (free (rank i) && ltb (slotAfter free rank k m i) m) in
+    omega arith
+  where
+    step : (t : Bool) → cond t (bidIn bids (rank i) * listed effects (slotAfter free rank k m i)) 0 ≤ 1_000_000_000_000_000
+    step true = product-low bids effects (rank i) (slotAfter free rank k m i) x y
+    step false = omega arith
+
+module _ (r : Round) (clashes ranked bids effects : List ℕ) (bidders slots : ℕ) (v : TablesOf r clashes ranked bids effects bidders slots)
+    (p : Page) (k had : ℕ) (w : Node r p k had) where
+  few : r .slots ≤ 16
+  few = let a = v .slots-are in let b = v .few-slots in omega arith
+
+  -- the page is settled
+  pub settled-found : (need : ℕ) (page : Page) → k ≡ slots → need ≤ had → Searched r (Agrees p k) need page (had + 1) p
+  settled-found need page e l =
+      let same : k ≡ r .slots = e ∙ sym (v .slots-are) in
+      subst (λ (n : ℕ). Searched r (Agrees p k) need page n p) (let q : suc had ≡ had + 1 = omega arith in q)
+      (subst (λ (n : ℕ). Searched r (Agrees p n) need page (suc had) p) (sym same)
+      (leaf-found r p had need page (subst (λ (n : ℕ). Node r p n had) same w) l))
+
+  pub settled-small : (need : ℕ) (page : Page) → k ≡ slots → had < need → Searched r (Agrees p k) need page need page
+  settled-small need page e l =
+      let same : k ≡ r .slots = e ∙ sym (v .slots-are) in
+      subst (λ (n : ℕ). Searched r (Agrees p n) need page need page) (sym same)
+      (leaf-small r p had need page (subst (λ (n : ℕ). Node r p n had) same w) l)
+
+  -- the bound is too small
+  pub bound-small : (need : ℕ) (page : Page) →
+      had + addAfter (λ b. not (placed p b)) (listed ranked) (bidIn bids) (listed effects) k slots bidders < need →
+      Searched r (Agrees p k) need page need page
+  unfolding BoundHolds listed
+  bound-small need page l =
+      searched-none r (Agrees p k) need page
+      (λ q f ok.
+      let left = slots - k in
+      let end : k + left ≡ slots = (let a = w .room in let b = v .slots-are in omega arith) in
+      let many = v .bidders-are in
+      let assigns = node-assigns r p k had left (λ i. getD ranked i 0) w (end ∙ sym (v .slots-are))
+      (λ b s m.
+      let a = v .ranking .everybody b s (omega arith) in
+      (a .0, (let h : a .0 < bidders = a .1 in omega arith), a .2))
+      q f ok in
+      let assigns′ = subst (λ (n : ℕ). Assigns (λ b. not (placed p b)) (λ i. getD ranked i 0) n k (k + left) (λ j. at q (suc j))) many assigns in
+      let most = bound-holds (λ b. not (placed p b)) (listed ranked) (bidIn bids) (listed effects) bidders k left (bids-zero bids)
+      (λ i h z. absurd (let a = v .ranking .some i h .0 in let e : getD ranked i 0 ≡ 0 = z in omega arith))
+      (λ i j h g e. v .ranking .once i j h g e)
+      (λ i j h g.
+      let a = v .ranking .falls i j h g in
+      let b = v .bids-are (getD ranked i 0) in
+      let d = v .bids-are (getD ranked j 0) in
+      omega arith)
+      (λ i j h g.
+      let a = effects-fall r (v .proper) i j h in
+      let b = v .effects-are i in
+      let d = v .effects-are j in
+      omega arith)
+      (λ j. at q (suc j)) assigns′ in
+      let sum = sum-same (bidIn bids) (bidOf r) (listed effects) (λ j. effectOf r (suc j)) (λ j. at q (suc j)) k left (v .bids-are) (v .effects-are) in
+      let whole = node-total r p k had left w (end ∙ sym (v .slots-are)) q f in
+      let within = subst (λ (m : ℕ). sumFrom (bidIn bids) (listed effects) (λ j. at q (suc j)) k left ≤ addAfter (λ b. not (placed p b)) (listed ranked) (bidIn bids) (listed effects) k m bidders) end most in
+      omega arith)
+
+  -- the table tells whether a bidder at the next slot breaks a constraint
+  told : (b : ℕ) → 0 < b → b ≤ bidders → placed p b ≡ false → k < slots → breaks r (put p (suc k) b) ≡ clashesIn clashes p (suc k) b
+  told b s m free inside =
+      let eight = v .few-bidders in
+      let n = v .bidders-are in
+      let short = v .few-slots in
+      breaks-added r (v .proper) p (suc k) b (w .page .sized) (omega arith) (omega arith) (λ i l. w .later i l) free (λ z. absurd (omega arith)) (w .unbroken)
+      ∙ sym
+      (table-clashes r clashes (v .table) p (suc k) b (omega arith) (omega arith) s (omega arith)
+      (λ i. (let h = w .page .bidders i in omega arith)) free (w .page .sized) (w .later (suc k) (omega arith)))
+
+  -- a choice that may stand is a node
+  pub may-node : (b : ℕ) → k < slots → b ≤ bidders → mayStand clashes p (suc k) b ≡ true →
+      Node r (put p (suc k) b) (suc k) (had + bidIn bids b * listed effects k)
+  unfolding mayStand
+  may-node b inside listed′ e =
+      subst (λ (x : ℕ). Node r (put p (suc k) b) (suc k) (had + x)) (ap₂ _*_ (sym (v .bids-are b)) (sym (v .effects-are k)))
+      (by-number b listed′ e)
+    where
+      by-number : (b : ℕ) → b ≤ bidders → mayStand clashes p (suc k) b ≡ true → Node r (put p (suc k) b) (suc k) (had + bidOf r b * effectOf r (suc k))
+      by-number zero m e =
+          node-next r p k had 0 w few (let a = v .slots-are in omega arith) (omega arith) (inl refl)
+          (ap (breaks r) (put-nobody p (suc k) (w .later (suc k) (omega arith))) ∙ w .unbroken)
+      by-number (suc b) m e =
+          let parts = and-parts (not (placed p (suc b))) (not (clashesIn clashes p (suc k) (suc b))) e in
+          let free = not-true (placed p (suc b)) (parts .0) in
+          node-next r p k had (suc b) w few (let a = v .slots-are in omega arith) (let a = v .bidders-are in omega arith) (inr free)
+          (told (suc b) (omega arith) m free inside ∙ not-true (clashesIn clashes p (suc k) (suc b)) (parts .1))
+
+  -- and one that may not leads to no allowed page
+  pub may-not : (b : ℕ) → k < slots → b ≤ bidders → mayStand clashes p (suc k) b ≡ false →
+      (q : Page) → Agrees (put p (suc k) b) (suc k) q → Allowed r q → ⊥
+  unfolding mayStand
+  may-not zero inside m e q f ok = absurd (not-both refl e)
+  may-not (suc b) inside m e q f ok =
+      let inside′ : k < r .slots = (let a = v .slots-are in omega arith) in
+      ⊎-elim
+      (λ (t : placed p (suc b) ≡ true). placed-nowhere r p k had (suc b) w few inside′ (λ z. absurd (omega arith)) t q f ok)
+      (λ (t : placed p (suc b) ≡ false).
+      ⊎-elim
+      (λ (u : not (placed p (suc b)) ≡ false). not-both (not-false (placed p (suc b)) u) t)
+      (λ (u : not (clashesIn clashes p (suc k) (suc b)) ≡ false).
+      broken-nowhere r (v .proper) p k had (suc b) w inside′
+      (told (suc b) (omega arith) m t inside ∙ not-false (clashesIn clashes p (suc k) (suc b)) u) q f ok)
+      (and-fails (not (placed p (suc b))) (not (clashesIn clashes p (suc k) (suc b))) e))
+      (holds-or-fails (placed p (suc b)))
