@@ -1,2 +1,3 @@
 -- The worked rounds, established together.
 pub mod Rounds
+pub mod BestRounds
