@@ -1,0 +1,85 @@
+// The five calls by the C convention, for programs that link the static library (include/pas.h is their manual).
+//
+// Each returns 0 or the number of the first rule that the call breaks. On a refusal nothing lent changes, the answer's own place
+// included.
+ghost use mathlib.Core.Path.{_≡_};
+ghost use Rattle.sheet.specs.Refusal.{refusalOf};
+ghost use Rattle.play.specs.Play.{Played};
+ghost use Rattle.pas.specs.Calls.{DownwardGiven, GainGiven, BestPageGiven, yesNumber};
+
+// 1 to 13, or 0 for an accepted sheet.
+#[no_mangle]
+pub extern "C" fn pas_check(sheet: &[u8]) -> u32
+    ensures { λ r. ⌜ r ≡ refusalOf (now (sheet .entry)) ⌝ }
+{
+    sheet::check(sheet)
+}
+
+// 1 to 13 or 19; or 0, with 5 bytes a slot in the buffer, the bidder and the price low byte first, and every later byte as it was.
+#[no_mangle]
+pub extern "C" fn pas_play(sheet: &[u8], result: &mut [u8]) -> u32
+    ensures { λ r. ⌜ Played (now (sheet .entry)) (now (result .entry)) r (now (result .exit)) ⌝ }
+{
+    play::play(sheet, result)
+}
+
+// 1 for yes, 0 for no.
+fn yes_number(yes: bool) -> u8
+    ensures { λ r. ⌜ r ≡ yesNumber yes ⌝ }
+{
+    if yes {
+        return 1;
+    }
+    0
+}
+
+// 1 to 13 or 16; or 0, with 1 in the answer where the bidder's list is downward monotonic and 0 where it is not.
+#[no_mangle]
+pub extern "C" fn pas_downward(sheet: &[u8], bidder: u32, answer: &mut u8) -> u32
+    ensures { λ r. ⌜ DownwardGiven (now (sheet .entry)) bidder (now (answer .entry)) r (now (answer .exit)) ⌝ }
+{
+    let tested = downward::test(sheet, bidder);
+    let refusal = tested.refusal;
+    if refusal != 0 {
+        return refusal;
+    }
+    let yes = tested.yes;
+    *answer = yes_number(yes);
+    0
+}
+
+// 1 to 17; or 0, with the bidder's gain from the played sheet at a worth per click, by its constraints in the truth sheet.
+#[no_mangle]
+pub extern "C" fn pas_gain(
+    played: &[u8],
+    truth: &[u8],
+    bidder: u32,
+    worth: u32,
+    gain: &mut i64,
+) -> u32
+    ensures { λ r. ⌜ GainGiven (now (played .entry)) (now (truth .entry)) bidder worth (now (gain .entry)) r (now (gain .exit)) ⌝ }
+{
+    let gained = gain::gain(played, truth, bidder, worth);
+    let refusal = gained.refusal;
+    if refusal != 0 {
+        return refusal;
+    }
+    let worked_out = gained.gain;
+    *gain = worked_out;
+    0
+}
+
+// 1 to 13, 18 or 19; or 0, with the best page's bidder numbers in the buffer, one byte a slot, every later byte as it was, and the
+// page's total.
+#[no_mangle]
+pub extern "C" fn pas_best(sheet: &[u8], result: &mut [u8], total: &mut u64) -> u32
+    ensures { λ r. ⌜ BestPageGiven (now (sheet .entry)) (now (result .entry)) (now (total .entry)) r (now (result .exit)) (now (total .exit)) ⌝ }
+{
+    let chosen = optimal::best(sheet, result);
+    let refusal = chosen.refusal;
+    if refusal != 0 {
+        return refusal;
+    }
+    *total = chosen.total;
+    0
+}
