@@ -1,3 +1,2 @@
 -- The worked rounds, established together.
 pub mod Rounds
-pub mod BestRounds
