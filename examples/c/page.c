@@ -1,0 +1,90 @@
+/*
+ * Round H of document 01 from C: builds its sheet, prints the page with its prices as the page program does, then a
+ * bidder's gain and the best page.
+ */
+#include <inttypes.h>
+#include <stdio.h>
+#include <string.h>
+
+#include "pas.h"
+
+enum { BIDDERS = 4, PLACES = 3, CONDITIONS = 9, LENGTH = 9 + 4 * (BIDDERS + PLACES + CONDITIONS) };
+
+static const uint32_t effects[PLACES] = {10000, 4500, 2025};
+static const uint32_t bids[BIDDERS] = {30, 32, 36, 40};
+
+/* 1 above 2, 2 above 3, 3 above 4: owner, own place, other bidder, other's place */
+static const uint8_t conditions[CONDITIONS][4] = {
+    {1, 2, 2, 1}, {1, 3, 2, 1}, {1, 3, 2, 2}, {2, 2, 3, 1}, {2, 3, 3, 1},
+    {2, 3, 3, 2}, {3, 2, 4, 1}, {3, 3, 4, 1}, {3, 3, 4, 2},
+};
+
+/* four bytes, low byte first */
+static uint8_t *put_word(uint8_t *at, uint32_t word) {
+    for (int i = 0; i < 4; i++) {
+        *at++ = (uint8_t)(word >> (8 * i));
+    }
+    return at;
+}
+
+static uint32_t word_at(const uint8_t *at) {
+    return at[0] | (uint32_t)at[1] << 8 | (uint32_t)at[2] << 16 | (uint32_t)at[3] << 24;
+}
+
+static void build(uint8_t *sheet) {
+    static const uint8_t header[PAS_HEADER_LENGTH] = {'P', 'A', 'S', 1, 0, BIDDERS, PLACES, CONDITIONS, 0};
+    memcpy(sheet, header, sizeof header);
+    uint8_t *at = sheet + sizeof header;
+    for (int k = 0; k < PLACES; k++) {
+        at = put_word(at, effects[k]);
+    }
+    for (int i = 0; i < BIDDERS; i++) {
+        at = put_word(at, bids[i]);
+    }
+    memcpy(at, conditions, sizeof conditions);
+}
+
+static int refused(const char *call, uint32_t number) {
+    fprintf(stderr, "%s: refused %" PRIu32 "\n", call, number);
+    return 1;
+}
+
+int main(void) {
+    uint8_t sheet[LENGTH];
+    uint8_t result[PAS_MAX_RESULT_LENGTH];
+    build(sheet);
+
+    uint32_t number = pas_play(sheet, sizeof sheet, result, sizeof result);
+    if (number != PAS_OK) {
+        return refused("pas_play", number);
+    }
+    for (int k = 0; k < PLACES; k++) {
+        const uint8_t *place = result + PAS_PLACE_LENGTH * (size_t)k;
+        printf("%d %d %" PRIu32 "\n", k + 1, place[0], word_at(place + 1));
+    }
+
+    uint8_t downward = 0;
+    number = pas_downward(sheet, sizeof sheet, 1, &downward);
+    if (number != PAS_OK) {
+        return refused("pas_downward", number);
+    }
+    printf("list of 1 downward monotonic: %s\n", downward ? "yes" : "no");
+
+    int64_t gain = 0;
+    number = pas_gain(sheet, sizeof sheet, sheet, sizeof sheet, 4, 40, &gain);
+    if (number != PAS_OK) {
+        return refused("pas_gain", number);
+    }
+    printf("gain of 4 at worth 40: %" PRId64 "\n", gain);
+
+    uint64_t total = 0;
+    number = pas_best(sheet, sizeof sheet, result, sizeof result, &total);
+    if (number != PAS_OK) {
+        return refused("pas_best", number);
+    }
+    printf("best page: %d %d %d, total %" PRIu64 "\n", result[0], result[1], result[2], total);
+
+    sheet[0] = 'Q';
+    printf("with another mark: refused %" PRIu32 "\n", pas_check(sheet, sizeof sheet));
+    return 0;
+}

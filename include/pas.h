@@ -1,0 +1,165 @@
+/*
+ * pas.h - position pages with bidders' conditions, the five calls of libpas.a
+ *
+ * A search page has a few paid places. Suppliers bid per click and list conditions (where they will not stand, beside
+ * whom). The library fills the places from the top, charges each winner a second price, tests a supplier's list, works
+ * out a supplier's gain and finds the best page of a small round. It is proved: each call meets the description below
+ * for every input. It allocates nothing, keeps nothing between calls and calls nothing but memcpy and memset, so calls
+ * may run in several threads at once.
+ *
+ * Build:   rt staticlib pas           (gives target/staticlib/libpas.a, for x86-64 Linux)
+ * Link:    cc program.c -I include target/staticlib/libpas.a
+ *
+ *
+ * The sheet
+ *
+ * A round comes as one string of bytes. Fields of more than one byte are unsigned, low byte first.
+ *
+ *   offset          bytes        field
+ *   0               3            mark, the letters P A S (50 41 53)
+ *   3               2            version, 1
+ *   5               1            n, bidders, 1 to 64
+ *   6               1            m, places, 1 to 16
+ *   7               2            c, conditions, 0 to 1,024
+ *   9               4 each, m    effect of places 1 to m, 1 to 1,000,000, none larger than the one before
+ *   9 + 4m          4 each, n    bid of bidders 1 to n, 0 to 1,000,000,000
+ *   9 + 4(m + n)    4 each, c    condition: owner, own place, other bidder, other's place, one byte each
+ *
+ * The length is exactly 9 + 4 (m + n + c): PAS_SHEET_LENGTH(n, m, c).
+ *
+ * A condition binds only if its owner has a place. It is broken when both its parts are true: the owner is at the own
+ * place (own place 0: any place), and the other bidder is at the other's place (other bidder 0 with other's place 0: no
+ * other). Conditions may come in any order and may repeat. So
+ *
+ *   (1, 2, 0, 0)   1 will not stand at place 2
+ *   (1, 0, 3, 1)   1 will not stand on a page that has 3 at place 1
+ *   (1, 2, 3, 1)   1 will not stand at place 2 below 3 at place 1
+ *
+ *
+ * What holds for every call
+ *
+ * - It returns PAS_OK, or the number of the first rule that the call breaks, in the order of the numbers below.
+ * - A refused call changes nothing that it was lent: no byte of a buffer, and not the answer's own place.
+ * - No pointer may be null, also where the length is 0. A pointer and its length must be those of memory that is there.
+ * - What a call writes must not overlap what it reads, nor another thing that it writes.
+ * - Nothing else is asked of the caller: any bytes, any length and any numbers get their answer.
+ */
+#ifndef PAS_H
+#define PAS_H
+
+#include <stddef.h>
+#include <stdint.h>
+
+#ifdef __cplusplus
+extern "C" {
+#endif
+
+/* ---- Sizes ---- */
+
+#define PAS_MAX_BIDDERS 64u
+#define PAS_MAX_PLACES 16u
+#define PAS_MAX_CONDITIONS 1024u
+#define PAS_MAX_EFFECT 1000000u
+#define PAS_MAX_BID 1000000000u
+#define PAS_MAX_WORTH 1000000000u
+
+/* bidders and places up to which the best page is found */
+#define PAS_MAX_BEST_BIDDERS 8u
+#define PAS_MAX_BEST_PLACES 8u
+
+/* bytes of the sheet before the effects, of a sheet, and of the longest sheet */
+#define PAS_HEADER_LENGTH 9u
+#define PAS_SHEET_LENGTH(n, m, c) (9u + 4u * ((size_t)(m) + (size_t)(n) + (size_t)(c)))
+#define PAS_MAX_SHEET_LENGTH 4425u
+
+/* bytes that pas_play writes for each place (bidder, price) and for the longest page */
+#define PAS_PLACE_LENGTH 5u
+#define PAS_MAX_RESULT_LENGTH 80u
+
+/* ---- Numbers of a refused call, in checking order ---- */
+
+enum {
+    PAS_OK = 0,                 /* The call has its full result. */
+
+    PAS_SHEET_TOO_SHORT = 1,    /* The sheet has fewer than 9 bytes. */
+    PAS_WRONG_MARK = 2,         /* The mark is not P A S. */
+    PAS_WRONG_VERSION = 3,      /* The version is not 1. */
+    PAS_WRONG_BIDDERS = 4,      /* n is 0 or above 64. */
+    PAS_WRONG_PLACES = 5,       /* m is 0 or above 16. */
+    PAS_TOO_MANY_CONDITIONS = 6, /* c is above 1,024. */
+    PAS_WRONG_LENGTH = 7,       /* The length is not 9 + 4 (m + n + c). */
+    PAS_WRONG_EFFECT = 8,       /* An effect is 0, above 1,000,000 or above the one before it. */
+    PAS_WRONG_BID = 9,          /* A bid is above 1,000,000,000. */
+    PAS_OUT_OF_RANGE = 10,      /* A condition has owner 0, owner or other bidder above n, or a place above m. */
+    PAS_OTHER_IS_OWNER = 11,    /* A condition's other bidder is its owner. */
+    PAS_HALF_AN_OTHER = 12,     /* Just one of other bidder and other's place is 0. */
+    PAS_EMPTY_CONDITION = 13,   /* Own place, other bidder and other's place are all 0. */
+
+    PAS_TRUTH_REFUSED = 14,     /* The truth sheet breaks any of 1 to 13. */
+    PAS_TRUTH_DIFFERS = 15,     /* The truth sheet has another n or m. */
+    PAS_WRONG_BIDDER = 16,      /* The bidder named in the call is 0 or above n. */
+    PAS_WRONG_WORTH = 17,       /* The worth is above 1,000,000,000. */
+    PAS_TOO_LARGE_FOR_BEST = 18, /* The best page is sought with n above 8 or m above 8. */
+    PAS_RESULT_TOO_SHORT = 19   /* The result buffer is shorter than the bytes to be written. */
+};
+
+/* Rules 10 to 13 are held against the conditions in sheet order: the first condition that breaks one decides. */
+
+/* ---- The calls ---- */
+
+/*
+ * Checks a sheet: 1 to 13, or PAS_OK for an accepted sheet. Every other call does this by itself.
+ */
+uint32_t pas_check(const uint8_t *sheet, size_t sheet_len);
+
+/*
+ * Plays the round: fills the places from 1 to m, each with the highest bid among the bidders that are eligible for it
+ * (equal bids: the lower number), and prices each place per click: the smallest bid with which its winner, all else
+ * unchanged, still wins that place.
+ *
+ * Writes 5 bytes a place to the start of the result: the bidder (0 for an empty place) and 4 bytes of price, low byte
+ * first (0 for an empty place). Bytes after 5 m stay as they were. A result of PAS_MAX_RESULT_LENGTH bytes always does.
+ *
+ * Refused with 1 to 13, or 19 where result_len is below 5 m.
+ */
+uint32_t pas_play(const uint8_t *sheet, size_t sheet_len, uint8_t *result, size_t result_len);
+
+/*
+ * Tests the list of one bidder, the conditions that it owns: *answer is 1 where the list is downward monotonic, which
+ * is, for each of its conditions with own place k from 1 to m - 1, that the list has the same condition with own place
+ * k + 1 too; and 0 where it is not. An empty list is.
+ *
+ * Refused with 1 to 13, or 16.
+ */
+uint32_t pas_downward(const uint8_t *sheet, size_t sheet_len, uint32_t bidder, uint8_t *answer);
+
+/*
+ * What a bidder gains where `played` is played and its true conditions are those that it owns in `truth`, at a worth per
+ * click: with no place 0; at a place with effect e and price p, e * (worth - p) where none of its true conditions is
+ * broken on the page, and -(e * p) where one is. The effects are those of `played`. The two sheets may be the same memory.
+ *
+ * Proved of it: let `truth` be the sheet with the bidder's true conditions, and `other` one that differs from it in the
+ * bidder's list alone, which pas_downward answers with 1. Then at any worth that is not below the bidder's bid the gain
+ * with `truth` played is at least the gain with `other` played.
+ *
+ * Refused with 1 to 13 for `played`, 14 for `truth`, 15, 16, or 17.
+ */
+uint32_t pas_gain(const uint8_t *played, size_t played_len, const uint8_t *truth, size_t truth_len, uint32_t bidder,
+                  uint32_t worth, int64_t *gain);
+
+/*
+ * Finds the best page of a round of up to 8 bidders and 8 places: of the pages that break no condition one with the
+ * largest total, the sum of bid times effect over filled places, and of those the one whose bidder numbers by place, 0
+ * for an empty one, come first in dictionary order.
+ *
+ * Writes m bytes of bidder numbers to the start of the result, and the total to *total. Later bytes stay as they were.
+ *
+ * Refused with 1 to 13, 18, or 19 where result_len is below m.
+ */
+uint32_t pas_best(const uint8_t *sheet, size_t sheet_len, uint8_t *result, size_t result_len, uint64_t *total);
+
+#ifdef __cplusplus
+}
+#endif
+
+#endif
