@@ -1,0 +1,172 @@
+// A second engine for document 01, written another way on purpose, so that random rounds on which it agrees with the proved
+// engine say something of both. It shares no code with the library, keeps no table and no round in memory, and reads the
+// sheet's bytes where it needs them. It is proved safe and ending, and nothing more.
+//
+// Each call returns 0 or the number of the first rule that the call breaks, and then nothing lent is written.
+mod amounts;
+mod fields;
+mod list;
+mod page;
+mod round;
+mod rules;
+mod search;
+
+// "v, 0 to 1,000,000,000"
+const MAX_WORTH: u32 = 1000000000;
+// "The best page is sought with n above 8 or m above 8."
+const MAX_SEARCHED: u8 = 8;
+// "Playing writes 5 bytes a place to the result buffer"
+const BYTES_PER_SLOT: usize = 5;
+
+// Rules 1 to 13.
+pub fn check(sheet: &[u8]) -> u32 {
+    rules::first_broken(sheet)
+}
+
+fn set_byte(result: &mut [u8], at: usize, value: u32) {
+    if at < result.len() {
+        result[at] = (value % 256) as u8;
+    }
+}
+
+// "bidder (0 if empty) and 4 bytes of price"
+fn write_slot(result: &mut [u8], slot: u8, bidder: u8, price: u32) {
+    if slot == 0 {
+        return;
+    }
+    let at = BYTES_PER_SLOT * (fields::wide(slot) - 1);
+    set_byte(result, at, bidder as u32);
+    set_byte(result, at + 1, price);
+    set_byte(result, at + 2, price / 256);
+    set_byte(result, at + 3, price / 65536);
+    set_byte(result, at + 4, price / 16777216);
+}
+
+// The page, with a price for each slot.
+fn write_page(result: &mut [u8], sheet: &[u8], bids: [u32; 64], filled: [u8; 16]) {
+    let slots = fields::slot_count(sheet);
+    let mut slot: u8 = 0;
+    while slot < slots {
+        slot += 1;
+        let bidder = page::at(filled, slot);
+        let price = round::price(sheet, bids, bidder, slot);
+        write_slot(result, slot, bidder, price);
+    }
+}
+
+// Rules 1 to 13 and 19; or the page and its prices.
+pub fn play(sheet: &[u8], result: &mut [u8]) -> u32 {
+    let refusal = check(sheet);
+    if refusal != 0 {
+        return refusal;
+    }
+    let slots = fields::slot_count(sheet);
+    if result.len() < BYTES_PER_SLOT * fields::wide(slots) {
+        return 19;
+    }
+    let bids = round::bids(sheet);
+    write_page(result, sheet, bids, round::fill(sheet, bids, slots));
+    0
+}
+
+// "The bidder named in the call is 0 or above n."
+fn is_bad_bidder(sheet: &[u8], bidder: u32) -> bool {
+    bidder == 0 || (fields::bidder_count(sheet) as u32) < bidder
+}
+
+// A bidder's number as a page has it.
+fn narrow(bidder: u32) -> u8 {
+    (bidder % 256) as u8
+}
+
+// Rules 1 to 13 and 16; or 1 in the answer where the bidder's list is downward monotonic, and 0 where it is not.
+pub fn downward(sheet: &[u8], bidder: u32, answer: &mut u8) -> u32 {
+    let refusal = check(sheet);
+    if refusal != 0 {
+        return refusal;
+    }
+    if is_bad_bidder(sheet, bidder) {
+        return 16;
+    }
+    if list::is_downward(sheet, narrow(bidder)) {
+        *answer = 1;
+    } else {
+        *answer = 0;
+    }
+    0
+}
+
+// "The truth sheet has another n or m."
+fn has_another_size(played: &[u8], truth: &[u8]) -> bool {
+    fields::bidder_count(played) != fields::bidder_count(truth)
+        || fields::slot_count(played) != fields::slot_count(truth)
+}
+
+// Rules 14 to 17.
+fn gain_rule(played: &[u8], truth: &[u8], bidder: u32, worth: u32) -> u32 {
+    if check(truth) != 0 {
+        return 14;
+    }
+    if has_another_size(played, truth) {
+        return 15;
+    }
+    if is_bad_bidder(played, bidder) {
+        return 16;
+    }
+    if MAX_WORTH < worth {
+        return 17;
+    }
+    0
+}
+
+// Rules 1 to 17; or the bidder's gain from the played sheet, by its constraints in the truth sheet.
+pub fn gain(played: &[u8], truth: &[u8], bidder: u32, worth: u32, gain: &mut i64) -> u32 {
+    let refusal = check(played);
+    if refusal != 0 {
+        return refusal;
+    }
+    let later = gain_rule(played, truth, bidder, worth);
+    if later != 0 {
+        return later;
+    }
+    *gain = amounts::gain(played, truth, narrow(bidder), worth);
+    0
+}
+
+fn write_bidders(result: &mut [u8], filled: [u8; 16], slots: u8) {
+    let mut slot: u8 = 0;
+    while slot < slots {
+        let bidder = page::at(filled, slot + 1);
+        set_byte(result, fields::wide(slot), bidder as u32);
+        slot += 1;
+    }
+}
+
+// Rules 1 to 13, 18 and 19.
+fn best_rule(sheet: &[u8], room: usize) -> u32 {
+    let refusal = check(sheet);
+    if refusal != 0 {
+        return refusal;
+    }
+    let slots = fields::slot_count(sheet);
+    if MAX_SEARCHED < fields::bidder_count(sheet) || MAX_SEARCHED < slots {
+        return 18;
+    }
+    if room < fields::wide(slots) {
+        return 19;
+    }
+    0
+}
+
+// Rules 1 to 13, 18 and 19; or the best page's bidder numbers, a byte a slot, and its total.
+pub fn best(sheet: &[u8], result: &mut [u8], total: &mut u64) -> u32 {
+    let refusal = best_rule(sheet, result.len());
+    if refusal != 0 {
+        return refusal;
+    }
+    let choice = search::best(sheet);
+    let filled = choice.page;
+    write_bidders(result, filled, fields::slot_count(sheet));
+    *total = choice.total;
+    0
+}

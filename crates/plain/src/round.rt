@@ -1,0 +1,143 @@
+// Fills a page slot by slot and finds prices by playing the round again at lower bids, as document 01 words it.
+// Bids go by value, so that a replay can change one.
+use crate::fields;
+use crate::page;
+
+// Up to this bid every lower bid is tried for a price.
+const SMALL_BID: u32 = 32;
+
+// Every bid of the sheet, by bidder.
+pub fn bids(sheet: &[u8]) -> [u32; 64] {
+    let mut copied = [0u32; 64];
+    let mut bidder: u8 = 0;
+    while bidder < fields::MAX_BIDDERS {
+        bidder += 1;
+        let next = with_bid(copied, bidder, fields::bid(sheet, bidder));
+        copied = next;
+    }
+    copied
+}
+
+fn bid_of(bids: [u32; 64], bidder: u8) -> u32 {
+    if bidder == 0 {
+        return 0;
+    }
+    if fields::MAX_BIDDERS < bidder {
+        return 0;
+    }
+    bids[fields::wide(bidder) - 1]
+}
+
+// The bids with one of them changed.
+fn with_bid(bids: [u32; 64], bidder: u8, bid: u32) -> [u32; 64] {
+    if bidder == 0 {
+        return bids;
+    }
+    if fields::MAX_BIDDERS < bidder {
+        return bids;
+    }
+    let mut changed = bids;
+    changed[fields::wide(bidder) - 1] = bid;
+    changed
+}
+
+// "An unplaced bidder is eligible for place k if, with the places already filled and it at k, neither its own conditions nor
+// those of an earlier winner are broken." A constraint of anyone else does not bind, so that all may be asked.
+fn is_eligible(sheet: &[u8], filled: [u8; 16], slot: u8, bidder: u8) -> bool {
+    if page::slot_of(filled, bidder) != 0 {
+        return false;
+    }
+    !page::breaks_any(page::put(filled, slot, bidder), sheet)
+}
+
+// Whether the leader, 0 for none, has to give way: the bidders come in order of number, so that an equal bid is not enough.
+fn outbids(bids: [u32; 64], bidder: u8, leader: u8) -> bool {
+    if leader == 0 {
+        return true;
+    }
+    bid_of(bids, leader) < bid_of(bids, bidder)
+}
+
+// "The eligible bidder with the highest bid wins; equal bids go to the lower number."
+fn winner(sheet: &[u8], bids: [u32; 64], filled: [u8; 16], slot: u8) -> u8 {
+    let bidders = fields::bidder_count(sheet);
+    let mut leader: u8 = 0;
+    let mut bidder: u8 = 0;
+    while bidder < bidders {
+        bidder += 1;
+        if outbids(bids, bidder, leader) && is_eligible(sheet, filled, slot, bidder) {
+            leader = bidder;
+        }
+    }
+    leader
+}
+
+// The page of the first slots, as many as are asked for.
+pub fn fill(sheet: &[u8], bids: [u32; 64], slots: u8) -> [u8; 16] {
+    let mut filled = page::empty();
+    let mut slot: u8 = 0;
+    while slot < slots {
+        slot += 1;
+        let next = page::put(filled, slot, winner(sheet, bids, filled, slot));
+        filled = next;
+    }
+    filled
+}
+
+// Whether a bidder wins the slot when the round is played again with another bid of its own.
+fn still_wins(sheet: &[u8], bids: [u32; 64], bidder: u8, slot: u8, bid: u32) -> bool {
+    let replayed = fill(sheet, with_bid(bids, bidder, bid), slot);
+    page::at(replayed, slot) == bidder
+}
+
+// "the smallest whole bid from 0 which, written in the sheet for the winner of place k, still wins place k. An empty place has
+// price 0."
+pub fn price(sheet: &[u8], bids: [u32; 64], winner: u8, slot: u8) -> u32 {
+    if winner == 0 {
+        return 0;
+    }
+    if bid_of(bids, winner) <= SMALL_BID {
+        return least_of_all(sheet, bids, winner, slot);
+    }
+    least_by_rivals(sheet, bids, winner, slot)
+}
+
+// The price by every bid from 0 up to the winner's own.
+fn least_of_all(sheet: &[u8], bids: [u32; 64], winner: u8, slot: u8) -> u32 {
+    let own = bid_of(bids, winner);
+    let mut bid: u32 = 0;
+    while bid < own {
+        if still_wins(sheet, bids, winner, slot, bid) {
+            return bid;
+        }
+        bid += 1;
+    }
+    own
+}
+
+// The price by 0, each rival's bid and one more: what it takes to pass a rival is one of these.
+fn least_by_rivals(sheet: &[u8], bids: [u32; 64], winner: u8, slot: u8) -> u32 {
+    let bidders = fields::bidder_count(sheet);
+    let mut least = tried(sheet, bids, winner, slot, 0, bid_of(bids, winner));
+    let mut rival: u8 = 0;
+    while rival < bidders {
+        rival += 1;
+        let bid = bid_of(bids, rival);
+        least = tried(sheet, bids, winner, slot, bid, least);
+        if bid < least {
+            least = tried(sheet, bids, winner, slot, bid + 1, least);
+        }
+    }
+    least
+}
+
+// The least winning bid found so far, or the bid tried now where that is lower and wins.
+fn tried(sheet: &[u8], bids: [u32; 64], winner: u8, slot: u8, bid: u32, least: u32) -> u32 {
+    if least <= bid {
+        return least;
+    }
+    if still_wins(sheet, bids, winner, slot, bid) {
+        return bid;
+    }
+    least
+}

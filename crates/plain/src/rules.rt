@@ -1,0 +1,138 @@
+// Document 01's rules 1 to 13, one after the other, each over the whole sheet.
+use crate::fields;
+
+// The number of the first rule that the sheet breaks, 0 for none.
+pub fn first_broken(sheet: &[u8]) -> u32 {
+    if sheet.len() < fields::HEADER {
+        return 1;
+    }
+    let header = header_rule(sheet);
+    if header != 0 {
+        return header;
+    }
+    if has_bad_effect(sheet) {
+        return 8;
+    }
+    if has_bad_bid(sheet) {
+        return 9;
+    }
+    constraints_rule(sheet)
+}
+
+// Rules 2 to 7.
+fn header_rule(sheet: &[u8]) -> u32 {
+    if !has_mark(sheet) {
+        return 2;
+    }
+    if fields::half(sheet, 3) != 1 {
+        return 3;
+    }
+    if is_bad_count(fields::bidder_count(sheet), fields::MAX_BIDDERS) {
+        return 4;
+    }
+    if is_bad_count(fields::slot_count(sheet), fields::MAX_SLOTS) {
+        return 5;
+    }
+    length_rule(sheet)
+}
+
+// Rules 6 and 7.
+fn length_rule(sheet: &[u8]) -> u32 {
+    if fields::MAX_CONSTRAINTS < fields::constraint_count(sheet) {
+        return 6;
+    }
+    if sheet.len() != fields::length(sheet) {
+        return 7;
+    }
+    0
+}
+
+// "the letters P A S"
+fn has_mark(sheet: &[u8]) -> bool {
+    fields::byte(sheet, 0) == b'P'
+        && fields::byte(sheet, 1) == b'A'
+        && fields::byte(sheet, 2) == b'S'
+}
+
+fn is_bad_count(count: u8, limit: u8) -> bool {
+    count == 0 || limit < count
+}
+
+fn has_bad_effect(sheet: &[u8]) -> bool {
+    let slots = fields::slot_count(sheet);
+    let mut slot: u8 = 0;
+    while slot < slots {
+        slot += 1;
+        if is_bad_effect(sheet, slot) {
+            return true;
+        }
+    }
+    false
+}
+
+// "An effect is 0, above 1,000,000 or above the one before it."
+fn is_bad_effect(sheet: &[u8], slot: u8) -> bool {
+    let effect = fields::effect(sheet, slot);
+    if effect == 0 || fields::MAX_EFFECT < effect {
+        return true;
+    }
+    if slot < 2 {
+        return false;
+    }
+    fields::effect(sheet, slot - 1) < effect
+}
+
+fn has_bad_bid(sheet: &[u8]) -> bool {
+    let bidders = fields::bidder_count(sheet);
+    let mut bidder: u8 = 0;
+    while bidder < bidders {
+        bidder += 1;
+        if fields::MAX_BID < fields::bid(sheet, bidder) {
+            return true;
+        }
+    }
+    false
+}
+
+// "Conditions are taken in sheet order, each through 10 to 13."
+fn constraints_rule(sheet: &[u8]) -> u32 {
+    let count = fields::constraint_count(sheet);
+    let mut index: usize = 0;
+    while index < count {
+        let rule = constraint_rule(sheet, fields::constraint(sheet, index));
+        if rule != 0 {
+            return rule;
+        }
+        index += 1;
+    }
+    0
+}
+
+fn constraint_rule(sheet: &[u8], constraint: [u8; 4]) -> u32 {
+    if is_out_of_range(sheet, constraint) {
+        return 10;
+    }
+    if constraint[fields::OTHER] == constraint[fields::OWNER] {
+        return 11;
+    }
+    if (constraint[fields::OTHER] == 0) != (constraint[fields::OTHER_SLOT] == 0) {
+        return 12;
+    }
+    if constraint[fields::OWN_SLOT] == 0 && constraint[fields::OTHER] == 0 {
+        return 13;
+    }
+    0
+}
+
+// "A condition has owner 0, owner or other bidder above n, or a place above m."
+fn is_out_of_range(sheet: &[u8], constraint: [u8; 4]) -> bool {
+    let bidders = fields::bidder_count(sheet);
+    let slots = fields::slot_count(sheet);
+    if constraint[fields::OWNER] == 0 {
+        return true;
+    }
+    if bidders < constraint[fields::OWNER] || bidders < constraint[fields::OTHER] {
+        return true;
+    }
+    slots < constraint[fields::OWN_SLOT] || slots < constraint[fields::OTHER_SLOT]
+}
