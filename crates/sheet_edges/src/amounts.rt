@@ -1,14 +1,15 @@
 // Rules 8 and 9: effects and bids.
-use crate::build;
 use crate::show;
+use edge_sheets::build;
+use edge_sheets::line;
 
 pub fn report() {
     only_effect();
     first_effect();
     last_effect();
     effects_in_order();
-    first_bid();
-    last_bid();
+    bids(1);
+    bids(64);
 }
 
 // A page of one slot, so that no effect stands before or after.
@@ -17,7 +18,7 @@ fn single(value: u32) {
     let buf: &mut [u8] = &mut space;
     let length = build::base(buf, 1, 1, 0);
     build::set_effect(buf, 1, value);
-    show::number(b"effect 1 of 1 is ", value as u64);
+    line::number(b"effect 1 of 1 is ", value as u64);
     show::verdict(buf, length);
 }
 
@@ -28,9 +29,9 @@ fn effect(slot: u8, value: u32, rest: u32) {
     let length = build::base(buf, 1, 16, 0);
     build::set_effects(buf, rest);
     build::set_effect(buf, slot, value);
-    show::byte(b"effect ", slot);
-    show::number(b" of 16 is ", value as u64);
-    show::number(b", the others ", rest as u64);
+    line::byte(b"effect ", slot);
+    line::number(b" of 16 is ", value as u64);
+    line::number(b", the others ", rest as u64);
     show::verdict(buf, length);
 }
 
@@ -78,24 +79,16 @@ fn bid(bidder: u8, value: u32) {
     let buf: &mut [u8] = &mut space;
     let length = build::base(buf, 64, 1, 0);
     build::set_bid(buf, bidder, value);
-    show::byte(b"bid ", bidder);
-    show::number(b" of 64 is ", value as u64);
+    line::byte(b"bid ", bidder);
+    line::number(b" of 64 is ", value as u64);
     show::verdict(buf, length);
 }
 
 // "9. A bid is above 1,000,000,000." The low bytes of 1,073,741,824 are 0.
-fn first_bid() {
-    bid(1, 0);
-    bid(1, 1000000000);
-    bid(1, 1000000001);
-    bid(1, 1073741824);
-    bid(1, 4294967295);
-}
-
-fn last_bid() {
-    bid(64, 0);
-    bid(64, 1000000000);
-    bid(64, 1000000001);
-    bid(64, 1073741824);
-    bid(64, 4294967295);
+fn bids(bidder: u8) {
+    bid(bidder, 0);
+    bid(bidder, 1000000000);
+    bid(bidder, 1000000001);
+    bid(bidder, 1073741824);
+    bid(bidder, 4294967295);
 }

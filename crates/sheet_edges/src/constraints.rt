@@ -1,16 +1,15 @@
 // Rules 10 to 13: constraints, written as document 01 writes them: owner, own place, other, other's place.
-use crate::build;
 use crate::show;
+use edge_sheets::build;
+use edge_sheets::line;
 
 pub fn report() {
     good();
     out_of_range();
     more_bidders_than_slots();
-    other_is_owner();
-    other_and_its_slot();
-    nothing_forbidden();
-    first_of_all();
-    last_of_all();
+    other_parts();
+    each_rule_at(1);
+    each_rule_at(1024);
 }
 
 // The one constraint of a sheet.
@@ -55,21 +54,15 @@ fn more_bidders_than_slots() {
 }
 
 // "11. A condition's other bidder is its owner."
-fn other_is_owner() {
+// "12. Just one of other bidder and other's place is 0."
+// "13. Own place, other bidder and other's place are all 0."
+fn other_parts() {
     among(b"other is the owner", [2, 1, 2, 3]);
     among(b"other is the owner, own place 0", [2, 0, 2, 3]);
-}
-
-// "12. Just one of other bidder and other's place is 0."
-fn other_and_its_slot() {
     among(b"other without other's place", [1, 1, 2, 0]);
     among(b"other's place without other", [1, 1, 0, 2]);
     among(b"other without other's place, own place 0", [1, 0, 2, 0]);
     among(b"other's place without other, own place 0", [1, 0, 0, 2]);
-}
-
-// "13. Own place, other bidder and other's place are all 0."
-fn nothing_forbidden() {
     among(b"own place, other and other's place all 0", [1, 0, 0, 0]);
 }
 
@@ -79,22 +72,27 @@ fn one_of_all(name: &[u8], constraint: u16, fields: [u8; 4]) {
     let buf: &mut [u8] = &mut space;
     let length = build::base(buf, 64, 16, 1024);
     build::set_constraint(buf, constraint, fields);
-    show::number(b"condition ", constraint as u64);
+    line::number(b"condition ", constraint as u64);
     show::case(name, buf, length);
 }
 
-fn first_of_all() {
-    one_of_all(b" of 1024 has the largest numbers", 1, [64, 16, 63, 16]);
-    one_of_all(b" of 1024 has owner 65", 1, [65, 1, 0, 0]);
-    one_of_all(b" of 1024 has its owner as other", 1, [64, 1, 64, 1]);
-    one_of_all(b" of 1024 gives its other no place", 1, [64, 1, 63, 0]);
-    one_of_all(b" of 1024 forbids nothing", 1, [64, 0, 0, 0]);
-}
-
-fn last_of_all() {
-    one_of_all(b" of 1024 has the largest numbers", 1024, [64, 16, 63, 16]);
-    one_of_all(b" of 1024 has owner 65", 1024, [65, 1, 0, 0]);
-    one_of_all(b" of 1024 has its owner as other", 1024, [64, 1, 64, 1]);
-    one_of_all(b" of 1024 gives its other no place", 1024, [64, 1, 63, 0]);
-    one_of_all(b" of 1024 forbids nothing", 1024, [64, 0, 0, 0]);
+// The largest numbers that pass, and rules 10 to 13.
+fn each_rule_at(constraint: u16) {
+    one_of_all(
+        b" of 1024 has the largest numbers",
+        constraint,
+        [64, 16, 63, 16],
+    );
+    one_of_all(b" of 1024 has owner 65", constraint, [65, 1, 0, 0]);
+    one_of_all(
+        b" of 1024 has its owner as other",
+        constraint,
+        [64, 1, 64, 1],
+    );
+    one_of_all(
+        b" of 1024 gives its other no place",
+        constraint,
+        [64, 1, 63, 0],
+    );
+    one_of_all(b" of 1024 forbids nothing", constraint, [64, 0, 0, 0]);
 }

@@ -1,6 +1,7 @@
 // Rules 1 to 7: the header's length, the mark, the version, the counts and the sheet's length.
-use crate::build;
 use crate::show;
+use edge_sheets::build;
+use edge_sheets::line;
 
 pub fn report() {
     header_length();
@@ -51,7 +52,7 @@ fn version(number: u16) {
     let buf: &mut [u8] = &mut space;
     let length = build::base(buf, 1, 1, 0);
     build::set_version(buf, number as u32);
-    show::number(b"version ", number as u64);
+    line::number(b"version ", number as u64);
     show::verdict(buf, length);
 }
 
@@ -69,9 +70,9 @@ fn whole(bidders: u8, slots: u8, constraints: u16) {
     let mut space = [0u8; build::ROOM];
     let buf: &mut [u8] = &mut space;
     let length = build::base(buf, bidders, slots, constraints);
-    show::byte(b"bidders ", bidders);
-    show::byte(b", places ", slots);
-    show::number(b", conditions ", constraints as u64);
+    line::byte(b"bidders ", bidders);
+    line::byte(b", places ", slots);
+    line::number(b", conditions ", constraints as u64);
     show::verdict(buf, length);
 }
 

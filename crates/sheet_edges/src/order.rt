@@ -1,17 +1,14 @@
 // Two faults at once: the answer is the first in checking order, and of two constraints the first in the sheet.
-use crate::build;
 use crate::show;
+use edge_sheets::build;
 
 pub fn report() {
     form();
     counts_and_form();
     counts();
-    length_and_effect();
-    effect_and_bid();
-    bid_and_owner();
+    counts_and_fields();
     within_one_constraint();
-    neighbours_in_sheet_order();
-    ends_in_sheet_order();
+    sheet_order();
 }
 
 // A right sheet of 2 bidders, 3 slots and 2 constraints: 37 bytes.
@@ -52,26 +49,16 @@ fn counts() {
     show::case(b"6 and 7, 1025 conditions and a wrong length", buf, 37);
 }
 
-fn length_and_effect() {
+fn counts_and_fields() {
     let mut space = [0u8; build::ROOM];
     let buf: &mut [u8] = &mut space;
     right(buf);
     build::set_effect(buf, 1, 0);
     show::case(b"7 and 8, a byte too many and effect 1 is 0", buf, 38);
-}
-
-fn effect_and_bid() {
-    let mut space = [0u8; build::ROOM];
-    let buf: &mut [u8] = &mut space;
     right(buf);
     build::set_effect(buf, 3, 0);
     build::set_bid(buf, 1, 1000000001);
     show::case(b"8 and 9, effect 3 is 0 and bid 1 too large", buf, 37);
-}
-
-fn bid_and_owner() {
-    let mut space = [0u8; build::ROOM];
-    let buf: &mut [u8] = &mut space;
     right(buf);
     build::set_bid(buf, 2, 1000000001);
     build::set_constraint(buf, 1, [0, 1, 0, 0]);
@@ -101,16 +88,13 @@ fn within_one_constraint() {
 }
 
 // "Conditions are taken in sheet order, each through 10 to 13."
-fn neighbours_in_sheet_order() {
+fn sheet_order() {
     two(b"fault 10, then fault 11", [0, 1, 0, 0], [1, 1, 1, 1]);
     two(b"fault 11, then fault 10", [1, 1, 1, 1], [0, 1, 0, 0]);
     two(b"fault 11, then fault 12", [1, 1, 1, 1], [1, 1, 2, 0]);
     two(b"fault 12, then fault 11", [1, 1, 2, 0], [1, 1, 1, 1]);
     two(b"fault 12, then fault 13", [1, 1, 2, 0], [1, 0, 0, 0]);
     two(b"fault 13, then fault 12", [1, 0, 0, 0], [1, 1, 2, 0]);
-}
-
-fn ends_in_sheet_order() {
     two(b"fault 10, then fault 13", [0, 1, 0, 0], [1, 0, 0, 0]);
     two(b"fault 13, then fault 10", [1, 0, 0, 0], [0, 1, 0, 0]);
 }

@@ -1,6 +1,7 @@
 // What is read of a refused, a small and a full sheet. The bytes of each longer number differ, so that their order shows.
-use crate::build;
 use crate::show;
+use edge_sheets::build;
+use edge_sheets::line;
 use sheet::Kind;
 use sheet::Reading;
 use sheet::Round;
@@ -13,16 +14,16 @@ pub fn report() {
 
 // A round's counts.
 fn counts(round: Round) {
-    show::number(b"  bidders ", round.bidders as u64);
-    show::number(b", places ", round.slots as u64);
-    show::number(b", conditions used ", round.used as u64);
-    show::text(b"\n");
+    line::number(b"  bidders ", round.bidders as u64);
+    line::number(b", places ", round.slots as u64);
+    line::number(b", conditions used ", round.used as u64);
+    line::text(b"\n");
 }
 
 // An element of an array: what it is, its index and its value.
 fn amount(name: &[u8], index: usize, value: u32) {
-    show::number(name, index as u64);
-    show::end(value as u64);
+    line::number(name, index as u64);
+    line::end(value as u64);
 }
 
 // The effect at an index.
@@ -45,16 +46,16 @@ fn bid(round: Round, index: usize) {
 fn kind_parts(kind: Kind) {
     match kind {
         Kind::OwnSlot(own) => {
-            show::byte(b", own place ", own.0);
+            line::byte(b", own place ", own.0);
         }
         Kind::OtherSlot(other, others) => {
-            show::byte(b", other ", other.0);
-            show::byte(b" at place ", others.0);
+            line::byte(b", other ", other.0);
+            line::byte(b" at place ", others.0);
         }
         Kind::Pair(own, other, others) => {
-            show::byte(b", own place ", own.0);
-            show::byte(b", other ", other.0);
-            show::byte(b" at place ", others.0);
+            line::byte(b", own place ", own.0);
+            line::byte(b", other ", other.0);
+            line::byte(b" at place ", others.0);
         }
     }
 }
@@ -66,10 +67,10 @@ fn constraint(round: Round, index: usize) {
         let found = constraints[index];
         let owner = found.owner;
         let kind = found.kind;
-        show::number(b"  condition at ", index as u64);
-        show::byte(b": owner ", owner.0);
+        line::number(b"  condition at ", index as u64);
+        line::byte(b": owner ", owner.0);
         kind_parts(kind);
-        show::text(b"\n");
+        line::text(b"\n");
     }
 }
 

@@ -15,7 +15,7 @@ pub fn set_byte(buf: &mut [u8], at: usize, value: u8) {
 }
 
 // The lowest byte of a number.
-fn low(value: u32) -> u8 {
+pub fn low(value: u32) -> u8 {
     (value % 256) as u8
 }
 

@@ -1,10 +1,10 @@
--- `sheet_edges::build::set_words` is safe: a turn that writes has the place within the buffer, so the next place fits a number. Assumes nothing.
+-- `edge_sheets::build::set_words` is safe: a turn that writes has the place within the buffer, so the next place fits a number. Assumes nothing.
 use mathlib.Core.Path.{_≡_}
 use native.Mathlib.Omega.{arith}
 use lib.ListN.{length}
 use borrow.Author.Needs.{needs}
-use Rattle.sheet_edges.proofs.build.set_words.Statement.{statement}
-use Rattle.sheet_edges.proofs.build.set_words.Tie as tie
+use Rattle.edge_sheets.proofs.build.set_words.Statement.{statement}
+use Rattle.edge_sheets.proofs.build.set_words.Tie as tie
 
 abbrev Inv-loop : tie.InvT-loop
 Inv-loop buf₀ start count value at₀ left₀ buf at left = length buf ≡ length buf₀

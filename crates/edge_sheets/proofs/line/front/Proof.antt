@@ -1,9 +1,9 @@
--- `sheet_edges::show::front` is safe: the part that it hands back has as many bytes as it says. Assumes nothing.
+-- `edge_sheets::line::front` is safe: the part that it hands back has as many bytes as it says. Assumes nothing.
 use mathlib.Core.Path.{sym}
 use lib.Seq.{length-take-le}
 use borrow.Author.Needs.{needs}
-use Rattle.sheet_edges.proofs.show.front.Statement.{statement}
-use Rattle.sheet_edges.proofs.show.front.Tie as tie
+use Rattle.edge_sheets.proofs.line.front.Statement.{statement}
+use Rattle.edge_sheets.proofs.line.front.Tie as tie
 
 slice-aggregate-result : tie.Need-slice-aggregate-result
 slice-aggregate-result c = sym (length-take-le _ _ (c .before .if1 .taken))
