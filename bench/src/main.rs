@@ -1,0 +1,58 @@
+//! The proved library against an independent Rust engine, one table. Both get the same unchecked bytes and write the same bytes.
+//!
+//! Without a word it measures time; `instructions` counts instructions with perf or valgrind, whichever the machine has.
+
+#![forbid(unsafe_code)]
+
+mod instructions;
+mod rows;
+mod timing;
+mod work;
+
+use std::process::ExitCode;
+use timing::Spread;
+use work::{Call, Engine, Row};
+
+fn main() -> ExitCode {
+    let words: Vec<String> = std::env::args().skip(1).collect();
+    let words: Vec<&str> = words.iter().map(String::as_str).collect();
+    match words[..] {
+        [] => show_times(),
+        ["instructions"] => return instructions::show(&rows::rows()),
+        [instructions::ONLY, engine, row, passes] => instructions::run_only(&rows::rows(), engine, row, passes),
+        _ => {
+            eprintln!("usage: bench/run [instructions]");
+            return ExitCode::FAILURE;
+        }
+    }
+    ExitCode::SUCCESS
+}
+
+/// What a row is about: part, call, size and kind, as the first columns of a table.
+fn title(part: &str, row: &Row) -> String {
+    let (call, manner) = (format!("{:?}", row.call).to_lowercase(), row.manner.name());
+    let size = row.size;
+    format!("| {part:<13} | {call:<8} | {:>2} | {:>2} | {:>4} | {manner:<10} |", size.bidders, size.slots, size.constraints)
+}
+
+/// The heads of those columns, and the rules below them.
+const TITLES: &str = "| part          | call     |  n |  m |    c | kind       |";
+const RULES: &str = "|---------------|----------|---:|---:|-----:|------------|";
+
+fn show_times() {
+    println!("{TITLES} library, ns (quartiles)       | Rust, ns (quartiles)         | library / Rust | library / itself |");
+    println!("{RULES}------------------------------:|-----------------------------:|---------------:|-----------------:|");
+    for row in rows::rows() {
+        let times = timing::measure(&row);
+        let shown = |of: Spread| format!("{:.0} ({:.0} to {:.0})", of.median, of.lower, of.upper);
+        let ratio = times.library.median / times.rust.median;
+        let noise = times.again.median / times.library.median;
+        let (library, rust) = (shown(times.library), shown(times.rust));
+        println!("{} {library:>29} | {rust:>28} | {ratio:>14.2} | {noise:>16.2} |", title(row.part, &row));
+    }
+    for row in rows::rows().iter().filter(|row| row.call == Call::Best && !row.part.starts_with("grows")) {
+        let (library, rust) = (timing::slowest(row, Engine::Library), timing::slowest(row, Engine::Rust));
+        let ratio = library / rust;
+        println!("{} {library:>29.0} | {rust:>28.0} | {ratio:>14.2} | {:>16} |", title("slowest of 2k", row), "");
+    }
+}

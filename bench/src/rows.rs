@@ -1,0 +1,60 @@
+//! The lines of the table.
+
+use crate::work::{Call, Row};
+use independent::random::{Manner, Size};
+
+const QUICK_CALLS: [Call; 4] = [Call::Check, Call::Play, Call::Downward, Call::Gain];
+
+fn size(bidders: usize, slots: usize, constraints: usize) -> Size {
+    Size { bidders, slots, constraints }
+}
+
+/// All lines, part by part.
+pub fn rows() -> Vec<Row> {
+    let mut rows = sizes();
+    rows.extend(kinds());
+    rows.extend(best_sizes());
+    rows.extend(best_kinds());
+    rows.extend(growth());
+    rows
+}
+
+/// The quick calls on sheets of four sizes.
+fn sizes() -> Vec<Row> {
+    let sizes = [size(8, 4, 16), size(16, 8, 128), size(32, 12, 512), size(64, 16, 1024)];
+    let of_call = |call| sizes.map(|size| Row { part: "sizes", call, size, manner: Manner::Mixed });
+    QUICK_CALLS.into_iter().flat_map(of_call).collect()
+}
+
+/// Play and downward on the largest sheets, by kind of constraint.
+fn kinds() -> Vec<Row> {
+    let manners = [Manner::Pairs, Manner::OwnSlots, Manner::Exclusions, Manner::Chain];
+    let of_call = |call| manners.map(|manner| Row { part: "kinds", call, size: size(64, 16, 1024), manner });
+    [Call::Play, Call::Downward].into_iter().flat_map(of_call).collect()
+}
+
+/// The best page by size, with pairs.
+fn best_sizes() -> Vec<Row> {
+    let sizes = [size(4, 4, 8), size(6, 6, 24), size(8, 8, 0), size(8, 8, 64), size(8, 8, 512), size(8, 8, 1024)];
+    sizes.map(|size| Row { part: "sizes", call: Call::Best, size, manner: Manner::Pairs }).to_vec()
+}
+
+/// The best page by kind of constraint. 196 constraints are the whole chain of 8 bidders in 8 slots.
+fn best_kinds() -> Vec<Row> {
+    let row = |constraints, manner| Row { part: "kinds", call: Call::Best, size: size(8, 8, constraints), manner };
+    vec![row(64, Manner::Mixed), row(24, Manner::OwnSlots), row(64, Manner::Exclusions), row(196, Manner::Chain)]
+}
+
+/// Play, then the best page, with one of n, m and c growing and the others fixed.
+fn growth() -> Vec<Row> {
+    let grow = |part, call, sizes: [Size; 4]| sizes.map(|size| Row { part, call, size, manner: Manner::Pairs });
+    let mut rows = Vec::new();
+    rows.extend(grow("grows with n", Call::Play, [8, 16, 32, 64].map(|n| size(n, 8, 256))));
+    rows.extend(grow("grows with m", Call::Play, [2, 4, 8, 16].map(|m| size(32, m, 256))));
+    rows.extend(grow("grows with c", Call::Play, [0, 64, 256, 1024].map(|c| size(32, 8, c))));
+    rows.extend(grow("grows with c", Call::Check, [0, 64, 256, 1024].map(|c| size(32, 8, c))));
+    rows.extend(grow("grows with n", Call::Best, [2, 4, 6, 8].map(|n| size(n, 8, 64))));
+    rows.extend(grow("grows with m", Call::Best, [2, 4, 6, 8].map(|m| size(8, m, 64))));
+    rows.extend(grow("grows with c", Call::Best, [16, 128, 256, 1024].map(|c| size(8, 8, c))));
+    rows
+}

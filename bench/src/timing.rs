@@ -1,0 +1,98 @@
+//! Times by the clock. The engines take turns of a fraction of a millisecond, so that what disturbs the machine disturbs few turns and
+//! both engines alike.
+
+use crate::work::{answer, inputs, Engine, Input, Row};
+use std::time::{Duration, Instant};
+
+const REPETITIONS: usize = 21;
+/// A turn lasts about this long, or one call if that is longer.
+const TURN: Duration = Duration::from_micros(150);
+
+/// The middle of some measurements and the quarters on both sides.
+#[derive(Clone, Copy, Default)]
+pub struct Spread {
+    pub lower: f64,
+    pub median: f64,
+    pub upper: f64,
+}
+
+impl Spread {
+    fn of(mut measured: Vec<f64>) -> Spread {
+        measured.sort_unstable_by(f64::total_cmp);
+        let at = |quarter: usize| measured[quarter * (measured.len() - 1) / 4];
+        Spread { lower: at(1), median: at(2), upper: at(3) }
+    }
+
+    fn add(&mut self, other: Spread, share: f64) {
+        self.lower += share * other.lower;
+        self.median += share * other.median;
+        self.upper += share * other.upper;
+    }
+}
+
+/// Nanoseconds a call.
+pub struct Times {
+    pub library: Spread,
+    pub rust: Spread,
+    /// The library measured a second time: what noise alone makes of equal work.
+    pub again: Spread,
+}
+
+/// How many sheets a row is measured on: so many that no engine's branches are learnt by heart from one repetition to the next.
+fn sheets(row: &Row) -> usize {
+    let entries = row.size.bidders + row.size.slots + row.size.constraints;
+    (65_536 / entries).clamp(64, 1024)
+}
+
+/// Measures one row. The sheets are split into groups of a turn each, and a repetition goes through all groups, first with the library,
+/// then with the Rust engine, then with the library again. A group's time is the median of its repetitions, and the row's time is the
+/// mean over its sheets.
+pub fn measure(row: &Row) -> Times {
+    let inputs = inputs(row, sheets(row));
+    let in_a_turn = (TURN.as_nanos() as f64 / calibrate(row, &inputs)).max(1.0) as usize;
+    let groups: Vec<&[Input]> = inputs.chunks(in_a_turn).collect();
+    let engines = [Engine::Library, Engine::Rust, Engine::Library];
+    let mut measured = engines.map(|_| vec![Vec::new(); groups.len()]);
+    for _ in 0..REPETITIONS {
+        for (engine, of_groups) in engines.iter().zip(&mut measured) {
+            for (group, turns) in groups.iter().zip(of_groups) {
+                turns.push(turn(*engine, row, group));
+            }
+        }
+    }
+    let [library, rust, again] = measured.map(|of_groups| mean(&groups, of_groups));
+    Times { library, rust, again }
+}
+
+/// Nanoseconds a call in one turn.
+fn turn(engine: Engine, row: &Row, group: &[Input]) -> f64 {
+    let start = Instant::now();
+    answer(engine, row.call, group);
+    start.elapsed().as_nanos() as f64 / group.len() as f64
+}
+
+/// The mean over the sheets of what their groups took.
+fn mean(groups: &[&[Input]], turns: Vec<Vec<f64>>) -> Spread {
+    let sheets: usize = groups.iter().map(|group| group.len()).sum();
+    let mut mean = Spread::default();
+    for (group, turns) in groups.iter().zip(turns) {
+        mean.add(Spread::of(turns), group.len() as f64 / sheets as f64);
+    }
+    mean
+}
+
+/// About how long a call of the library takes, in nanoseconds; both engines are warm then.
+fn calibrate(row: &Row, inputs: &[Input]) -> f64 {
+    answer(Engine::Rust, row.call, inputs);
+    (0..3).map(|_| turn(Engine::Library, row, inputs)).fold(f64::INFINITY, f64::min)
+}
+
+/// The longest that one sheet of a row takes, of many sheets: each sheet's quickest of five goes, so that it is the sheet that is slow
+/// and not the machine. In nanoseconds.
+pub fn slowest(row: &Row, engine: Engine) -> f64 {
+    let quickest = |input: &Input| {
+        let goes = (0..5).map(|_| turn(engine, row, std::slice::from_ref(input)));
+        goes.fold(f64::INFINITY, f64::min)
+    };
+    inputs(row, 2000).iter().map(quickest).fold(0.0, f64::max)
+}

@@ -1,0 +1,95 @@
+//! What is measured: a call on sheets of one size and one manner, by either engine.
+
+use independent::random::{round, Manner, Random, Size};
+use independent::{engine, slow};
+use pas::raw;
+use std::hint::black_box;
+
+/// The five calls of document 01.
+#[derive(Clone, Copy, Debug, PartialEq)]
+pub enum Call {
+    Check,
+    Play,
+    Downward,
+    Gain,
+    Best,
+}
+
+/// Who answers.
+#[derive(Clone, Copy, Debug, PartialEq)]
+pub enum Engine {
+    Library,
+    Rust,
+}
+
+/// One line of the table.
+#[derive(Clone, Copy)]
+pub struct Row {
+    pub part: &'static str,
+    pub call: Call,
+    pub size: Size,
+    pub manner: Manner,
+}
+
+/// One call's input: a sheet and, for the calls that take them, a bidder, a worth and a truth sheet.
+pub struct Input {
+    sheet: Vec<u8>,
+    truth: Vec<u8>,
+    bidder: u32,
+    worth: u32,
+}
+
+/// The inputs of a row, from a fixed seed, so that all runs measure the same.
+pub fn inputs(row: &Row, count: usize) -> Vec<Input> {
+    let mut random = Random::seeded(2026);
+    (0..count).map(|_| input(&mut random, row)).collect()
+}
+
+fn input(random: &mut Random, row: &Row) -> Input {
+    let mut sheet = || slow::sheet(&round(random, row.size, row.manner, 1_000_000_000, 1_000_000));
+    let (sheet, truth) = (sheet(), sheet());
+    let mut page = [0; 80];
+    assert_eq!(engine::play(&sheet, &mut page), 0, "measured sheets are good");
+    // A bidder with a slot, so that a gain is worked out and not just 0.
+    let winners: Vec<u8> = page.chunks_exact(5).map(|slot| slot[0]).filter(|&bidder| bidder > 0).collect();
+    let bidder = if winners.is_empty() { 1 } else { random.one_of(&winners) };
+    Input { sheet, truth, bidder: u32::from(bidder), worth: random.between(0, 1_000_000_000) as u32 }
+}
+
+/// Answers every input once.
+pub fn answer(engine: Engine, call: Call, inputs: &[Input]) {
+    for input in inputs {
+        match engine {
+            Engine::Library => answer_by_library(call, input),
+            Engine::Rust => answer_by_rust(call, input),
+        }
+    }
+}
+
+#[inline(never)]
+fn answer_by_library(call: Call, input: &Input) {
+    let sheet = black_box(&input.sheet[..]);
+    let (mut result, mut answer, mut gain, mut total) = ([0; 80], 0, 0, 0);
+    let number = match call {
+        Call::Check => raw::check(sheet),
+        Call::Play => raw::play(sheet, &mut result),
+        Call::Downward => raw::downward(sheet, input.bidder, &mut answer),
+        Call::Gain => raw::gain(sheet, &input.truth, input.bidder, input.worth, &mut gain),
+        Call::Best => raw::best(sheet, &mut result, &mut total),
+    };
+    black_box((number, &result, answer, gain, total));
+}
+
+#[inline(never)]
+fn answer_by_rust(call: Call, input: &Input) {
+    let sheet = black_box(&input.sheet[..]);
+    let (mut result, mut answer, mut gain, mut total) = ([0; 80], 0, 0, 0);
+    let number = match call {
+        Call::Check => engine::check(sheet),
+        Call::Play => engine::play(sheet, &mut result),
+        Call::Downward => engine::downward(sheet, input.bidder, &mut answer),
+        Call::Gain => engine::gain(sheet, &input.truth, input.bidder, input.worth, &mut gain),
+        Call::Best => engine::best(sheet, &mut result, &mut total),
+    };
+    black_box((number, &result, answer, gain, total));
+}

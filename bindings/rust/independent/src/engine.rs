@@ -1,0 +1,111 @@
+//! The five calls over bytes that nobody has checked, for speed. Each returns 0, or the first number of document 01 that applies, and
+//! then leaves everything lent as it was.
+
+use crate::best::{Search, MOST};
+use crate::fill::fill;
+use crate::read::{accept, constraint, word_at, words, Parts, LARGEST_BID, MOST_BIDDERS, MOST_SLOTS};
+
+/// Rules 1 to 13.
+pub fn check(sheet: &[u8]) -> u32 {
+    accept(sheet).err().unwrap_or(0)
+}
+
+/// Writes 5 bytes a slot: the bidder (0 if empty) and the price.
+pub fn play(sheet: &[u8], result: &mut [u8]) -> u32 {
+    let parts = match accept(sheet) {
+        Ok(parts) => parts,
+        Err(number) => return number,
+    };
+    let Some(written) = result.get_mut(..5 * parts.slots) else { return 19 };
+    let page = fill(&parts);
+    for ((to, bidder), price) in written.chunks_exact_mut(5).zip(page.bidders).zip(page.prices) {
+        to[0] = bidder;
+        to[1..].copy_from_slice(&price.to_le_bytes());
+    }
+    0
+}
+
+/// Answers 1 where the bidder's list is downward monotonic, else 0.
+pub fn downward(sheet: &[u8], bidder: u32, answer: &mut u8) -> u32 {
+    let parts = match accept(sheet) {
+        Ok(parts) => parts,
+        Err(number) => return number,
+    };
+    if bidder == 0 || bidder > parts.bidders as u32 {
+        return 16;
+    }
+    *answer = u8::from(is_downward(&parts, bidder));
+    0
+}
+
+/// For each other part, the own slots with which the bidder lists it are one word; every slot but the last asks for the next one.
+fn is_downward(parts: &Parts, bidder: u32) -> bool {
+    // An other's slot is never 0 where there is an other, so that slot 16 of one bidder and slot 0 of the next do not meet.
+    const OTHERS: usize = 16 * MOST_BIDDERS + MOST_SLOTS + 1;
+    let place = |word: u32| (16 * (word >> 16 & 255) + (word >> 24)) as usize;
+    let mut listed = [0u32; OTHERS];
+    let own = || words(parts.constraints).filter(|word| word & 255 == bidder);
+    for word in own() {
+        listed[place(word)] |= 1 << (word >> 8 & 31);
+    }
+    let asking = (1 << parts.slots) - 2;
+    own().all(|word| {
+        let slots = listed[place(word)];
+        (slots & asking) << 1 & !slots == 0
+    })
+}
+
+/// The bidder's gain from the played sheet at a worth per click, by its constraints in the truth sheet.
+pub fn gain(played: &[u8], truth: &[u8], bidder: u32, worth: u32, gain: &mut i64) -> u32 {
+    let parts = match accept(played) {
+        Ok(parts) => parts,
+        Err(number) => return number,
+    };
+    let Ok(truth) = accept(truth) else { return 14 };
+    if (truth.bidders, truth.slots) != (parts.bidders, parts.slots) {
+        return 15;
+    }
+    if bidder == 0 || bidder > parts.bidders as u32 {
+        return 16;
+    }
+    if worth > LARGEST_BID {
+        return 17;
+    }
+    *gain = gained(&parts, &truth, bidder, worth);
+    0
+}
+
+fn gained(played: &Parts, truth: &Parts, bidder: u32, worth: u32) -> i64 {
+    let page = fill(played);
+    let Some(at) = page.bidders.iter().position(|&winner| u32::from(winner) == bidder) else { return 0 };
+    // Nobody stands in slot 0, so "no other" is found there.
+    let mut standing = [0; 32];
+    standing[1..=page.bidders.len()].copy_from_slice(&page.bidders);
+    let broken = |word: u32| {
+        let of = constraint(word);
+        let own = of.own == 0 || of.own == at + 1;
+        word & 255 == bidder && own && usize::from(standing[of.slot & 31]) == of.other
+    };
+    let (effect, price) = (i64::from(word_at(played.effects, at)), i64::from(page.prices[at]));
+    if words(truth.constraints).any(broken) {
+        -(effect * price)
+    } else {
+        effect * (i64::from(worth) - price)
+    }
+}
+
+/// Writes the bidder of each slot of the best page and gives the page's total.
+pub fn best(sheet: &[u8], result: &mut [u8], total: &mut u64) -> u32 {
+    let parts = match accept(sheet) {
+        Ok(parts) => parts,
+        Err(number) => return number,
+    };
+    if parts.bidders > MOST || parts.slots > MOST {
+        return 18;
+    }
+    let Some(written) = result.get_mut(..parts.slots) else { return 19 };
+    let (page, sum) = Search::of(&parts).best();
+    written.copy_from_slice(&page[..parts.slots]);
+    *total = sum;
+    0
+}

@@ -1,0 +1,142 @@
+//! Random numbers from a fixed seed, and random rounds of several kinds. The same seed gives the same rounds on every machine.
+
+use crate::slow::{Constraint, Round};
+
+/// A generator of 64-bit numbers (SplitMix64).
+pub struct Random(u64);
+
+impl Random {
+    /// The generator of a seed.
+    pub fn seeded(seed: u64) -> Random {
+        Random(seed)
+    }
+
+    /// The next number.
+    pub fn number(&mut self) -> u64 {
+        self.0 = self.0.wrapping_add(0x9e37_79b9_7f4a_7c15);
+        let mixed = (self.0 ^ self.0 >> 30).wrapping_mul(0xbf58_476d_1ce4_e5b9);
+        let mixed = (mixed ^ mixed >> 27).wrapping_mul(0x94d0_49bb_1331_11eb);
+        mixed ^ mixed >> 31
+    }
+
+    /// A number from `low` to `high`, both included.
+    pub fn between(&mut self, low: usize, high: usize) -> usize {
+        low + (self.number() % (high - low + 1) as u64) as usize
+    }
+
+    /// The same for a byte.
+    pub fn byte(&mut self, low: usize, high: usize) -> u8 {
+        u8::try_from(self.between(low, high)).expect("a byte's range")
+    }
+
+    /// True once in so many times.
+    pub fn once_in(&mut self, times: usize) -> bool {
+        self.between(1, times) == 1
+    }
+
+    /// One of a list.
+    pub fn one_of<T: Copy>(&mut self, list: &[T]) -> T {
+        list[self.between(0, list.len() - 1)]
+    }
+}
+
+/// What the constraints of a round are like.
+#[derive(Clone, Copy, Debug, PartialEq)]
+pub enum Manner {
+    /// All three kinds, mixed.
+    Mixed,
+    /// Pairs of bidder and slot.
+    Pairs,
+    /// Bidders that refuse a slot.
+    OwnSlots,
+    /// Bidders that refuse to stand with another, wherever that one is.
+    Exclusions,
+    /// Bidder 1 above 2, 2 above 3 and so on, with rising bids, as in round H.
+    Chain,
+}
+
+impl Manner {
+    /// The manner in words, for a table.
+    pub fn name(self) -> &'static str {
+        match self {
+            Manner::Mixed => "mixed",
+            Manner::Pairs => "pairs",
+            Manner::OwnSlots => "own places",
+            Manner::Exclusions => "exclusions",
+            Manner::Chain => "chain",
+        }
+    }
+}
+
+/// The size of a round: bidders, slots and constraints.
+#[derive(Clone, Copy, Debug, PartialEq)]
+pub struct Size {
+    /// n of document 01.
+    pub bidders: usize,
+    /// m of document 01.
+    pub slots: usize,
+    /// c of document 01.
+    pub constraints: usize,
+}
+
+/// A random round of a size. Bids go up to `highest_bid`, effects up to `highest_effect`.
+pub fn round(random: &mut Random, size: Size, manner: Manner, highest_bid: usize, highest_effect: usize) -> Round {
+    let mut effects: Vec<u32> = (0..size.slots).map(|_| random.between(1, highest_effect) as u32).collect();
+    effects.sort_unstable_by(|one, other| other.cmp(one));
+    let mut bids: Vec<u32> = (0..size.bidders).map(|_| random.between(0, highest_bid) as u32).collect();
+    if manner == Manner::Chain {
+        bids.sort_unstable();
+    }
+    Round { effects, bids, constraints: constraints(random, size, manner) }
+}
+
+fn constraints(random: &mut Random, size: Size, manner: Manner) -> Vec<Constraint> {
+    let count = size.constraints;
+    // With one bidder there is no other to name.
+    let manner = if size.bidders == 1 { Manner::OwnSlots } else { manner };
+    match manner {
+        Manner::Exclusions => {
+            let pairs = std::iter::repeat_with(|| exclusion(random, size));
+            pairs.flatten().take(count).collect()
+        }
+        // In one slot nobody is above another, and the chain has no constraint.
+        Manner::Chain if size.slots > 1 => chain(size).into_iter().cycle().take(count).collect(),
+        _ => (0..count).map(|_| constraint(random, size, manner)).collect(),
+    }
+}
+
+fn constraint(random: &mut Random, size: Size, manner: Manner) -> Constraint {
+    let owner = random.byte(1, size.bidders);
+    let own = random.byte(1, size.slots);
+    if manner == Manner::OwnSlots {
+        return [owner, own, 0, 0];
+    }
+    let pair = [owner, own, other_than(random, owner, size), random.byte(1, size.slots)];
+    match manner {
+        Manner::Pairs => pair,
+        _ => random.one_of(&[pair, [owner, 0, pair[2], pair[3]], [owner, own, 0, 0]]),
+    }
+}
+
+fn other_than(random: &mut Random, owner: u8, size: Size) -> u8 {
+    let other = random.byte(1, size.bidders - 1);
+    other + u8::from(other >= owner)
+}
+
+/// One bidder bars another from every slot.
+fn exclusion(random: &mut Random, size: Size) -> Vec<Constraint> {
+    let owner = random.byte(1, size.bidders);
+    let other = other_than(random, owner, size);
+    (1..=size.slots as u8).map(|slot| [owner, 0, other, slot]).collect()
+}
+
+/// The constraints of "1 above 2, 2 above 3 ..": whoever is named first may not stand below the second.
+fn chain(size: Size) -> Vec<Constraint> {
+    let mut chain = Vec::new();
+    for owner in 1..size.bidders as u8 {
+        for own in 2..=size.slots as u8 {
+            chain.extend((1..own).map(|above| [owner, own, owner + 1, above]));
+        }
+    }
+    chain
+}

@@ -1,0 +1,132 @@
+//! The sheet's check, and the parts of an accepted sheet. Every call reads bytes that nobody has checked, so this comes first in each.
+
+/// "n, bidders, 1 to 64".
+pub const MOST_BIDDERS: usize = 64;
+/// "m, places, 1 to 16".
+pub const MOST_SLOTS: usize = 16;
+/// "c, conditions, 0 to 1,024".
+pub const MOST_CONSTRAINTS: usize = 1024;
+const LARGEST_EFFECT: u32 = 1_000_000;
+/// The largest bid, and the largest worth of a click.
+pub const LARGEST_BID: u32 = 1_000_000_000;
+const HEADER_BYTES: usize = 9;
+
+/// An accepted sheet: its counts, and its three lists still in bytes, four to an entry.
+#[derive(Clone, Copy)]
+pub struct Parts<'a> {
+    pub bidders: usize,
+    pub slots: usize,
+    pub effects: &'a [u8],
+    pub bids: &'a [u8],
+    pub constraints: &'a [u8],
+}
+
+/// A condition of document 01, its four bytes apart.
+#[derive(Clone, Copy)]
+pub struct Constraint {
+    pub owner: usize,
+    pub own: usize,
+    pub other: usize,
+    pub slot: usize,
+}
+
+/// The low-byte-first words of a list.
+pub fn words(list: &[u8]) -> impl ExactSizeIterator<Item = u32> + '_ {
+    list.as_chunks().0.iter().map(|word| u32::from_le_bytes(*word))
+}
+
+/// The word at a position of a list.
+pub fn word_at(list: &[u8], at: usize) -> u32 {
+    let word = &list[4 * at..4 * at + 4];
+    u32::from_le_bytes([word[0], word[1], word[2], word[3]])
+}
+
+/// The constraint that a word holds.
+pub fn constraint(word: u32) -> Constraint {
+    let [owner, own, other, slot] = word.to_le_bytes().map(usize::from);
+    Constraint { owner, own, other, slot }
+}
+
+/// The parts of a sheet that breaks none of the rules 1 to 13, or the first number that applies.
+pub fn accept(sheet: &[u8]) -> Result<Parts<'_>, u32> {
+    let parts = split(sheet)?;
+    if !effects_stand(parts.effects) {
+        return Err(8);
+    }
+    if words(parts.bids).fold(0, u32::max) > LARGEST_BID {
+        return Err(9);
+    }
+    let (bidders, slots) = (parts.bidders as u32, parts.slots as u32);
+    // One pass without a branch for the usual sheet; only a refused one is gone through again, for its number.
+    if words(parts.constraints).fold(false, |bad, word| bad | is_bad(word, bidders, slots)) {
+        return Err(first_bad(&parts));
+    }
+    Ok(parts)
+}
+
+/// Rules 1 to 7.
+fn split(sheet: &[u8]) -> Result<Parts<'_>, u32> {
+    let Some((header, body)) = sheet.split_first_chunk::<HEADER_BYTES>() else { return Err(1) };
+    if header[..3] != *b"PAS" {
+        return Err(2);
+    }
+    if header[3..5] != [1, 0] {
+        return Err(3);
+    }
+    let (bidders, slots) = (usize::from(header[5]), usize::from(header[6]));
+    let constraints = usize::from(u16::from_le_bytes([header[7], header[8]]));
+    if bidders == 0 || bidders > MOST_BIDDERS {
+        return Err(4);
+    }
+    if slots == 0 || slots > MOST_SLOTS {
+        return Err(5);
+    }
+    if constraints > MOST_CONSTRAINTS {
+        return Err(6);
+    }
+    if body.len() != 4 * (slots + bidders + constraints) {
+        return Err(7);
+    }
+    let (effects, rest) = body.split_at(4 * slots);
+    let (bids, constraints) = rest.split_at(4 * bidders);
+    Ok(Parts { bidders, slots, effects, bids, constraints })
+}
+
+/// Rule 8 holds of every effect.
+fn effects_stand(effects: &[u8]) -> bool {
+    let mut before = LARGEST_EFFECT;
+    let mut stand = true;
+    for effect in words(effects) {
+        stand &= effect != 0 && effect <= before;
+        before = effect;
+    }
+    stand
+}
+
+/// A constraint breaks one of the rules 10 to 13. Straight-line, so that the compiler takes several constraints at once.
+fn is_bad(word: u32, bidders: u32, slots: u32) -> bool {
+    let (owner, own, other, slot) = (word & 255, word >> 8 & 255, word >> 16 & 255, word >> 24);
+    let out_of_range = (owner == 0) | (owner > bidders) | (other > bidders) | (own > slots) | (slot > slots);
+    out_of_range | (other == owner) | ((other == 0) != (slot == 0)) | (word >> 8 == 0)
+}
+
+/// The number of the first constraint that breaks a rule.
+fn first_bad(parts: &Parts) -> u32 {
+    words(parts.constraints).map(|word| broken_rule(constraint(word), parts)).find(|&number| number != 0).unwrap_or(0)
+}
+
+/// The first of the rules 10 to 13 that a constraint breaks, or 0.
+fn broken_rule(of: Constraint, parts: &Parts) -> u32 {
+    let named = of.owner.max(of.other) <= parts.bidders && of.own.max(of.slot) <= parts.slots;
+    if of.owner == 0 || !named {
+        10
+    } else if of.other == of.owner {
+        11
+    } else if (of.other == 0) != (of.slot == 0) {
+        12
+    } else if of.own == 0 && of.other == 0 {
+        13
+    } else {
+        0
+    }
+}

@@ -1,0 +1,130 @@
+//! Document 01 word by word, by trying everything: the measure for `engine`, which is quick and so needs one.
+//!
+//! Rounds must be small: a price is found by replaying the round with bid 0, 1, 2 and so on, and the best page by going through every page.
+
+/// A condition as document 01 writes it: owner, own place, other bidder, other's place.
+pub type Constraint = [u8; 4];
+
+/// A round as it stands in an accepted sheet.
+#[derive(Clone, Debug, PartialEq)]
+pub struct Round {
+    /// By slot, the first at 0.
+    pub effects: Vec<u32>,
+    /// By bidder, the first at 0.
+    pub bids: Vec<u32>,
+    /// In sheet order.
+    pub constraints: Vec<Constraint>,
+}
+
+/// The bidder of each slot, 0 for none.
+pub type Page = Vec<u8>;
+
+/// The sheet that holds a round. Counts that do not fit their field are not for this function.
+pub fn sheet(round: &Round) -> Vec<u8> {
+    let mut bytes = b"PAS\x01\x00".to_vec();
+    bytes.push(u8::try_from(round.bids.len()).expect("a byte holds n"));
+    bytes.push(u8::try_from(round.effects.len()).expect("a byte holds m"));
+    let count = u16::try_from(round.constraints.len()).expect("two bytes hold c");
+    bytes.extend(count.to_le_bytes());
+    bytes.extend(round.effects.iter().flat_map(|effect| effect.to_le_bytes()));
+    bytes.extend(round.bids.iter().flat_map(|bid| bid.to_le_bytes()));
+    bytes.extend(round.constraints.iter().flatten());
+    bytes
+}
+
+/// "The owner is at the own place (or that is 0), and the other bidder is at the other's place (or there is no other)", for an owner
+/// that has a place.
+pub fn is_broken(constraint: Constraint, page: &[u8]) -> bool {
+    let [owner, own, other, slot] = constraint;
+    let at = |bidder: u8, slot: u8| slot > 0 && page.get(usize::from(slot) - 1) == Some(&bidder);
+    let placed = page.contains(&owner);
+    placed && (own == 0 || at(owner, own)) && (other == 0 || at(other, slot))
+}
+
+/// The greedy page.
+pub fn page(round: &Round) -> Page {
+    let mut page = Page::new();
+    for _ in &round.effects {
+        let eligible = (1..=round.bids.len() as u8).filter(|&bidder| is_eligible(round, &page, bidder));
+        // The last of equals wins `max_by_key`, so the bidders are taken from the highest number down.
+        let winner = eligible.rev().max_by_key(|&bidder| round.bids[usize::from(bidder) - 1]);
+        page.push(winner.unwrap_or(0));
+    }
+    page
+}
+
+/// "With the places already filled and it at k, neither its own conditions nor those of an earlier winner are broken."
+fn is_eligible(round: &Round, page: &[u8], bidder: u8) -> bool {
+    let mut with = page.to_vec();
+    with.push(bidder);
+    let concerned = |owner: u8| with.contains(&owner);
+    !page.contains(&bidder) && !round.constraints.iter().any(|&of| concerned(of[0]) && is_broken(of, &with))
+}
+
+/// "The smallest whole bid from 0 which, written in the sheet for the winner of place k, still wins place k"; 0 for an empty place.
+pub fn price(round: &Round, slot: usize) -> u32 {
+    let winner = page(round)[slot];
+    if winner == 0 {
+        return 0;
+    }
+    let wins = |bid: u32| {
+        let mut replayed = round.clone();
+        replayed.bids[usize::from(winner) - 1] = bid;
+        page(&replayed)[slot] == winner
+    };
+    (0..).find(|&bid| wins(bid)).expect("its own bid wins")
+}
+
+/// "For every condition with own place k from 1 to m − 1, the list also has the condition with own place k + 1 and the same other part."
+pub fn is_downward(round: &Round, bidder: u8) -> bool {
+    let slots = round.effects.len() as u8;
+    let asked = |of: &Constraint| [of[0], of[1] + 1, of[2], of[3]];
+    let mut asking = round.constraints.iter().filter(|of| of[0] == bidder && of[1] >= 1 && of[1] < slots);
+    asking.all(|of| round.constraints.contains(&asked(of)))
+}
+
+/// The gain of a bidder from the played round, by its constraints in the true one.
+pub fn gain(played: &Round, truth: &Round, bidder: u8, worth: u32) -> i64 {
+    let page = page(played);
+    let Some(slot) = page.iter().position(|&winner| winner == bidder) else { return 0 };
+    let (effect, price) = (i64::from(played.effects[slot]), i64::from(price(played, slot)));
+    if truth.constraints.iter().any(|&of| of[0] == bidder && is_broken(of, &page)) {
+        -(effect * price)
+    } else {
+        effect * (i64::from(worth) - price)
+    }
+}
+
+/// "The sum of bid × effect over filled places."
+pub fn total(round: &Round, page: &[u8]) -> u64 {
+    let filled = page.iter().zip(&round.effects).filter(|(&bidder, _)| bidder > 0);
+    filled.map(|(&bidder, &effect)| u64::from(round.bids[usize::from(bidder) - 1]) * u64::from(effect)).sum()
+}
+
+/// The best page: every page is looked at, in dictionary order, and the first with the largest total is kept.
+pub fn best_page(round: &Round) -> Page {
+    let mut best: Option<Page> = None;
+    every_page(round, &mut Page::new(), &mut |page| {
+        let allowed = !round.constraints.iter().any(|&of| is_broken(of, page));
+        let better = best.as_ref().is_none_or(|best| total(round, page) > total(round, best));
+        if allowed && better {
+            best = Some(page.to_vec());
+        }
+    });
+    best.expect("the empty page breaks nothing")
+}
+
+/// Shows every page that continues this one, in dictionary order.
+fn every_page(round: &Round, page: &mut Page, show: &mut impl FnMut(&[u8])) {
+    if page.len() == round.effects.len() {
+        show(page);
+        return;
+    }
+    for bidder in 0..=round.bids.len() as u8 {
+        if bidder == 0 || !page.contains(&bidder) {
+            page.push(bidder);
+            every_page(round, page, show);
+            page.pop();
+        }
+    }
+}

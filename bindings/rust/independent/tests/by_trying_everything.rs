@@ -1,0 +1,68 @@
+//! The quick engine against the document tried word by word, on rounds small enough for that.
+
+use independent::random::{round, Manner, Random, Size};
+use independent::{engine, slow};
+
+const MANNERS: [Manner; 5] = [Manner::Mixed, Manner::Pairs, Manner::OwnSlots, Manner::Exclusions, Manner::Chain];
+
+fn small_round(random: &mut Random) -> slow::Round {
+    let size = Size { bidders: random.between(1, 5), slots: random.between(1, 5), constraints: random.between(0, 30) };
+    let manner = random.one_of(&MANNERS);
+    let (highest_bid, highest_effect) = (random.one_of(&[1, 4, 15]), random.one_of(&[1, 3, 20]));
+    round(random, size, manner, highest_bid, highest_effect)
+}
+
+#[test]
+fn pages_and_prices_are_those_of_replayed_rounds() {
+    let mut random = Random::seeded(11);
+    for _ in 0..5_000 {
+        let round = small_round(&mut random);
+        let mut result = vec![0; 5 * round.effects.len()];
+        assert_eq!(engine::play(&slow::sheet(&round), &mut result), 0);
+        let page = slow::page(&round);
+        for (slot, written) in result.chunks_exact(5).enumerate() {
+            let price = u32::from_le_bytes([written[1], written[2], written[3], written[4]]);
+            assert_eq!((written[0], price), (page[slot], slow::price(&round, slot)), "{round:?}");
+        }
+    }
+}
+
+#[test]
+fn best_pages_are_the_first_of_all_pages_with_the_largest_total() {
+    let mut random = Random::seeded(12);
+    for _ in 0..3_000 {
+        let round = small_round(&mut random);
+        let (mut result, mut total) = (vec![0; round.effects.len()], 0);
+        assert_eq!(engine::best(&slow::sheet(&round), &mut result, &mut total), 0);
+        let best = slow::best_page(&round);
+        assert_eq!((result, total), (best.clone(), slow::total(&round, &best)), "{round:?}");
+    }
+}
+
+#[test]
+fn lists_are_judged_by_the_definition() {
+    let (mut random, mut answers) = (Random::seeded(13), [0; 2]);
+    for _ in 0..20_000 {
+        let round = small_round(&mut random);
+        let bidder = random.byte(1, round.bids.len());
+        let mut answer = 7;
+        assert_eq!(engine::downward(&slow::sheet(&round), u32::from(bidder), &mut answer), 0);
+        assert_eq!(answer == 1, slow::is_downward(&round, bidder), "{round:?}, {bidder}");
+        answers[usize::from(answer)] += 1;
+    }
+    assert!(answers[0] > 1000 && answers[1] > 1000, "both answers come up: {answers:?}");
+}
+
+#[test]
+fn gains_are_those_of_replayed_rounds() {
+    let mut random = Random::seeded(14);
+    for _ in 0..5_000 {
+        let played = small_round(&mut random);
+        let size = Size { bidders: played.bids.len(), slots: played.effects.len(), constraints: random.between(0, 20) };
+        let truth = round(&mut random, size, Manner::Mixed, 9, 9);
+        let (bidder, worth) = (random.byte(1, size.bidders), random.between(0, 20) as u32);
+        let mut gain = 0;
+        assert_eq!(engine::gain(&slow::sheet(&played), &slow::sheet(&truth), u32::from(bidder), worth, &mut gain), 0);
+        assert_eq!(gain, slow::gain(&played, &truth, bidder, worth), "{played:?}, {truth:?}, {bidder}");
+    }
+}

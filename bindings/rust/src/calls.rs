@@ -1,0 +1,62 @@
+//! The five calls over bytes that nobody has checked, with typed answers.
+
+use crate::page::{bidder, BestPage, Page};
+use crate::raw;
+use crate::sheet::Bidder;
+use crate::Refusal;
+
+/// "m, places, 1 to 16".
+const MOST_SLOTS: usize = 16;
+
+/// Checks a sheet: rules 1 to 13.
+pub fn check(sheet: &[u8]) -> Result<(), Refusal> {
+    Refusal::none_or(raw::check(sheet))
+}
+
+/// Plays a sheet.
+pub fn play(sheet: &[u8]) -> Result<Page, Refusal> {
+    let mut result = [0; 5 * MOST_SLOTS];
+    play_into(sheet, &mut result)?;
+    Ok(Page::from_result(&result[..5 * slots(sheet)]))
+}
+
+/// Plays a sheet into a lent buffer, without allocation: 5 bytes a slot, the bidder (0 if empty) and the price, low byte first. Later
+/// bytes stay as they were, and on a refusal all of them.
+pub fn play_into(sheet: &[u8], result: &mut [u8]) -> Result<(), Refusal> {
+    Refusal::none_or(raw::play(sheet, result))
+}
+
+/// Whether the list of a bidder is downward monotonic.
+pub fn is_downward(sheet: &[u8], bidder: Bidder) -> Result<bool, Refusal> {
+    let mut answer = 0;
+    Refusal::none_or(raw::downward(sheet, u32::from(bidder.0), &mut answer))?;
+    Ok(answer == 1)
+}
+
+/// What a bidder gains at a worth per click when the first sheet is played and its true constraints are those of the truth sheet.
+pub fn gain(played: &[u8], truth: &[u8], bidder: Bidder, worth: u32) -> Result<i64, Refusal> {
+    let mut gain = 0;
+    Refusal::none_or(raw::gain(played, truth, u32::from(bidder.0), worth, &mut gain))?;
+    Ok(gain)
+}
+
+/// The best page of a sheet of at most 8 bidders and 8 slots.
+pub fn best_page(sheet: &[u8]) -> Result<BestPage, Refusal> {
+    let mut result = [0; MOST_SLOTS];
+    let total = best_into(sheet, &mut result)?;
+    let bidders = result[..slots(sheet)].iter().map(|&number| bidder(number)).collect();
+    Ok(BestPage { bidders, total })
+}
+
+/// Writes the best page's bidder numbers to a lent buffer, a byte a slot (0 for empty), without allocation, and gives the total. Later
+/// bytes stay as they were, and on a refusal all of them.
+pub fn best_into(sheet: &[u8], result: &mut [u8]) -> Result<u64, Refusal> {
+    let mut total = 0;
+    Refusal::none_or(raw::best(sheet, result, &mut total))?;
+    Ok(total)
+}
+
+/// The number of slots of an accepted sheet.
+fn slots(sheet: &[u8]) -> usize {
+    usize::from(sheet[6])
+}

@@ -1,0 +1,57 @@
+//! Position auctions with bidders' conditions: a safe wrapper of the proved library `libpas`.
+//!
+//! A page has slots ("places" in document 01) from the top down, each with an effect. Bidders bid per click and set constraints
+//! ("conditions"): slots where they will not stand, and bidders beside whom they will not stand. The library fills the page, charges
+//! each winner the smallest bid with which it would still have won its slot, tells whether a bidder's list is downward monotonic, works
+//! out what a bidder gains, and finds the best page of a small round. Its answers are proved, refusals included; this crate adds types
+//! and no judgement of its own.
+//!
+//! Build it with `cargo build`. It links `target/staticlib/libpas.a` of the repository, which `rt staticlib pas` writes (the build runs
+//! that command if the archive is not there), or the archive in the folder that the environment variable `PAS_LIB_DIR` names. It needs
+//! the standard library only.
+//!
+//! Bidder 1 wants to stand above 2, 2 above 3 and 3 above 4, while the bids rise (round H of document 01):
+//!
+//! ```
+//! use pas::{Bidder, Kind, Refusal, SheetBuilder, Slot};
+//!
+//! let mut round = SheetBuilder::new().effects([10_000, 4_500, 2_025]).bids([30, 32, 36, 40]);
+//! for upper in 1..=3 {
+//!     for (own, above) in [(2, 1), (3, 1), (3, 2)] {
+//!         let kind = Kind::Pair { own: Slot(own), other: Bidder(upper + 1), slot: Slot(above) };
+//!         round = round.constraint(Bidder(upper), kind);
+//!     }
+//! }
+//! let sheet = round.build()?;
+//!
+//! let page = sheet.play();
+//! assert_eq!(page.bidders(), [Some(Bidder(4)), Some(Bidder(2)), None]);
+//! assert_eq!(page.prices(), [37, 31, 0]);
+//!
+//! let best = sheet.best_page()?;
+//! assert_eq!(best.bidders, [Some(Bidder(3)), Some(Bidder(4)), Some(Bidder(1))]);
+//! assert_eq!(best.total, 600_750);
+//!
+//! assert!(sheet.is_downward(Bidder(1))?);
+//! assert_eq!(sheet.gain(&sheet, Bidder(4), 40)?, 30_000);
+//! assert_eq!(pas::check(b"PAS"), Err(Refusal::SheetTooShort));
+//! # Ok::<(), Refusal>(())
+//! ```
+//!
+//! Every call is there twice: as a method of [`Sheet`], whose bytes the library has accepted, and as a function over bytes that nobody
+//! has checked. `play_into` and `best_into` write to a buffer of the caller's and allocate nothing. [`raw`] has the calls with plain
+//! numbers, as in C.
+
+#![deny(missing_docs)]
+#![deny(unsafe_code)]
+
+mod calls;
+mod page;
+pub mod raw;
+mod refusal;
+mod sheet;
+
+pub use calls::{best_into, best_page, check, gain, is_downward, play, play_into};
+pub use page::{BestPage, Page, Placement};
+pub use refusal::Refusal;
+pub use sheet::{Bidder, Constraint, Kind, Sheet, SheetBuilder, Slot};

@@ -1,0 +1,252 @@
+//! The library and the independent engine must agree on every byte: numbers, answers, buffers with what lies behind the result, on
+//! good sheets and on damaged ones. The seeds are fixed, so that a failure comes back.
+
+use independent::random::{round, Manner, Random, Size};
+use independent::{engine, slow};
+use pas::raw;
+
+const MANNERS: [Manner; 5] = [Manner::Mixed, Manner::Pairs, Manner::OwnSlots, Manner::Exclusions, Manner::Chain];
+const HIGHEST_BID: usize = 1_000_000_000;
+const HIGHEST_EFFECT: usize = 1_000_000;
+
+/// A size up to the given one: often small, where the edges are, and sometimes the largest.
+fn size_up_to(random: &mut Random, most: Size) -> Size {
+    let mut pick = |low: usize, high: usize| match random.between(0, 3) {
+        0 => random.between(low, high.min(low + 3)),
+        1 => high,
+        _ => random.between(low, high),
+    };
+    Size { bidders: pick(1, most.bidders), slots: pick(1, most.slots), constraints: pick(0, most.constraints) }
+}
+
+fn random_round(random: &mut Random, most: Size) -> slow::Round {
+    let size = size_up_to(random, most);
+    let manner = random.one_of(&MANNERS);
+    let highest_bid = random.one_of(&[1, 6, 1000, HIGHEST_BID]);
+    let highest_effect = random.one_of(&[1, 3, 1000, HIGHEST_EFFECT]);
+    round(random, size, manner, highest_bid, highest_effect)
+}
+
+/// One small change somewhere in the bytes. Often it makes the sheet refused, sometimes it is another good sheet.
+fn damage(random: &mut Random, sheet: &mut Vec<u8>) {
+    let last = sheet.len() - 1;
+    let edges = [0, 1, 2, 15, 16, 17, 63, 64, 65, 127, 128, 255];
+    match random.between(0, 8) {
+        0 => sheet.truncate(random.between(0, last)),
+        1 => sheet.extend(vec![random.byte(0, 255); random.between(1, 8)]),
+        2 => sheet[random.between(0, last.min(8))] = random.one_of(&edges),
+        3 => sheet[random.between(0, last.min(8))] ^= 1 << random.between(0, 7),
+        4 => sheet[random.between(0, last)] ^= 1 << random.between(0, 7),
+        5 => sheet.truncate(sheet.len() - sheet.len().min(4)),
+        6 => sheet[last - random.between(0, last.min(11))] = random.one_of(&edges),
+        7 => write_a_word(random, sheet),
+        _ => sheet[random.between(0, last)] = random.one_of(&edges),
+    }
+}
+
+/// Writes a number at an edge of effects or bids into one of the first entries behind the header.
+fn write_a_word(random: &mut Random, sheet: &mut [u8]) {
+    let entry = random.between(0, 4);
+    let number: u32 = random.one_of(&[0, 1, 999_999, 1_000_000, 1_000_001, 1_000_000_000, 1_000_000_001, u32::MAX]);
+    if let Some(place) = sheet.get_mut(9 + 4 * entry..13 + 4 * entry) {
+        place.copy_from_slice(&number.to_le_bytes());
+    }
+}
+
+/// A sheet that is good two times in three, else damaged once or twice.
+fn random_sheet(random: &mut Random, most: Size) -> Vec<u8> {
+    let mut sheet = slow::sheet(&random_round(random, most));
+    if random.once_in(3) {
+        damage(random, &mut sheet);
+        if random.once_in(2) && !sheet.is_empty() {
+            damage(random, &mut sheet);
+        }
+    }
+    sheet
+}
+
+/// Bytes on both sides of a lent buffer that no call may touch.
+const GUARD: usize = 8;
+
+/// A lent buffer of random bytes, with its guards. Its length is around a length of interest.
+fn lent_buffer(random: &mut Random, around: usize) -> Vec<u8> {
+    let length = (around + random.between(0, 3)).saturating_sub(1);
+    (0..length + 2 * GUARD).map(|_| random.byte(0, 255)).collect()
+}
+
+/// The part between the guards.
+fn within(guarded: &mut [u8]) -> &mut [u8] {
+    let end = guarded.len() - GUARD;
+    &mut guarded[GUARD..end]
+}
+
+/// A bidder's number for a call: mostly in the sheet, sometimes just outside, sometimes one that is the same in its low byte.
+fn bidder_number(random: &mut Random, sheet: &[u8]) -> u32 {
+    let bidders = u32::from(*sheet.get(5).unwrap_or(&1));
+    let inside = random.between(1, bidders.max(1) as usize) as u32;
+    match random.between(0, 9) {
+        0 => 0,
+        1 => bidders + 1,
+        2 => inside + 256,
+        3 => inside + (1 << 31),
+        _ => inside,
+    }
+}
+
+fn worth(random: &mut Random) -> u32 {
+    let any = random.between(0, HIGHEST_BID) as u32;
+    random.one_of(&[0, 7, any, any, any, 1_000_000_000, 1_000_000_001, u32::MAX])
+}
+
+/// How often each number was given, so that a test can say that it has seen what it is about.
+struct Seen([usize; 20]);
+
+impl Seen {
+    fn count(&mut self, number: u32) {
+        self.0[number as usize] += 1;
+    }
+
+    fn all_of(&self, numbers: impl IntoIterator<Item = usize>) {
+        for number in numbers {
+            assert!(self.0[number] > 0, "no random call was answered {number}");
+        }
+    }
+}
+
+const WHOLE: Size = Size { bidders: 64, slots: 16, constraints: 1024 };
+const SMALL: Size = Size { bidders: 9, slots: 9, constraints: 200 };
+
+#[test]
+fn both_give_every_sheet_the_same_number() {
+    let (mut random, mut seen) = (Random::seeded(1), Seen([0; 20]));
+    for _ in 0..40_000 {
+        let most = random.one_of(&[WHOLE, SMALL, SMALL]);
+        let sheet = random_sheet(&mut random, most);
+        let number = engine::check(&sheet);
+        assert_eq!(raw::check(&sheet), number, "{sheet:?}");
+        seen.count(number);
+    }
+    seen.all_of(0..=13);
+}
+
+#[test]
+fn both_write_the_same_page_and_leave_the_same_bytes() {
+    let (mut random, mut seen) = (Random::seeded(2), Seen([0; 20]));
+    for _ in 0..40_000 {
+        let most = random.one_of(&[WHOLE, SMALL, SMALL]);
+        let sheet = random_sheet(&mut random, most);
+        let needed = 5 * usize::from(*sheet.get(6).unwrap_or(&1));
+        let lent = lent_buffer(&mut random, needed);
+        let (mut ours, mut theirs) = (lent.clone(), lent.clone());
+        let number = engine::play(&sheet, within(&mut theirs));
+        assert_eq!(raw::play(&sheet, within(&mut ours)), number, "{sheet:?}");
+        assert_eq!(ours, theirs, "{sheet:?}");
+        assert!(number == 0 || ours == lent, "a refused call altered the buffer");
+        seen.count(number);
+    }
+    seen.all_of((0..=13).chain([19]));
+}
+
+#[test]
+fn both_judge_lists_alike() {
+    let (mut random, mut seen, mut answers) = (Random::seeded(3), Seen([0; 20]), [0; 2]);
+    for _ in 0..40_000 {
+        let most = random.one_of(&[WHOLE, SMALL, Size { bidders: 2, slots: 2, constraints: 12 }]);
+        let sheet = random_sheet(&mut random, most);
+        let bidder = bidder_number(&mut random, &sheet);
+        let (mut ours, mut theirs) = (77, 77);
+        let number = engine::downward(&sheet, bidder, &mut theirs);
+        assert_eq!(raw::downward(&sheet, bidder, &mut ours), number, "{sheet:?}, {bidder}");
+        assert_eq!(ours, theirs, "{sheet:?}, {bidder}");
+        match number {
+            0 => answers[usize::from(ours)] += 1,
+            _ => assert_eq!(ours, 77, "a refused call altered the answer"),
+        }
+        seen.count(number);
+    }
+    seen.all_of((0..=13).chain([16]));
+    assert!(answers[0] > 1000 && answers[1] > 1000, "both answers come up: {answers:?}");
+}
+
+/// A truth sheet for a played one: the same round with other constraints for one bidder, or damaged, or any other sheet.
+fn truth_of(random: &mut Random, played: &slow::Round) -> Vec<u8> {
+    let size = Size { bidders: played.bids.len(), slots: played.effects.len(), constraints: random.between(0, 40) };
+    let mut truth = played.clone();
+    truth.constraints = round(random, size, Manner::Mixed, 1, 1).constraints;
+    let mut sheet = slow::sheet(&truth);
+    match random.between(0, 5) {
+        0 => damage(random, &mut sheet),
+        1 => return random_sheet(random, SMALL),
+        _ => (),
+    }
+    sheet
+}
+
+#[test]
+fn both_find_the_same_gain() {
+    let (mut random, mut seen, mut signs) = (Random::seeded(4), Seen([0; 20]), [0; 3]);
+    for _ in 0..40_000 {
+        let most = random.one_of(&[WHOLE, SMALL, SMALL]);
+        let round = random_round(&mut random, most);
+        let truth = truth_of(&mut random, &round);
+        let mut played = slow::sheet(&round);
+        if random.once_in(6) {
+            damage(&mut random, &mut played);
+        }
+        let (bidder, worth) = (bidder_number(&mut random, &played), worth(&mut random));
+        let (mut ours, mut theirs) = (77, 77);
+        let number = engine::gain(&played, &truth, bidder, worth, &mut theirs);
+        assert_eq!(raw::gain(&played, &truth, bidder, worth, &mut ours), number, "{played:?}, {truth:?}, {bidder}, {worth}");
+        assert_eq!(ours, theirs, "{played:?}, {truth:?}, {bidder}, {worth}");
+        match number {
+            0 => signs[(ours.signum() + 1) as usize] += 1,
+            _ => assert_eq!(ours, 77, "a refused call altered the gain"),
+        }
+        seen.count(number);
+    }
+    seen.all_of(0..=17);
+    assert!(signs.iter().all(|&times| times > 1000), "losses, none and gains come up: {signs:?}");
+}
+
+#[test]
+fn both_find_the_same_best_page() {
+    let (mut random, mut seen) = (Random::seeded(5), Seen([0; 20]));
+    for _ in 0..40_000 {
+        let most =
+            random.one_of(&[SMALL, Size { bidders: 8, slots: 8, constraints: 60 }, Size { bidders: 8, slots: 8, constraints: 1024 }]);
+        let sheet = random_sheet(&mut random, most);
+        let lent = lent_buffer(&mut random, usize::from(*sheet.get(6).unwrap_or(&1)));
+        let (mut ours, mut theirs) = (lent.clone(), lent.clone());
+        let (mut our_total, mut their_total) = (77, 77);
+        let number = engine::best(&sheet, within(&mut theirs), &mut their_total);
+        assert_eq!(raw::best(&sheet, within(&mut ours), &mut our_total), number, "{sheet:?}");
+        assert_eq!((&ours, our_total), (&theirs, their_total), "{sheet:?}");
+        assert!(number == 0 || (ours == lent && our_total == 77), "a refused call altered something lent");
+        seen.count(number);
+    }
+    seen.all_of((0..=13).chain([18, 19]));
+}
+
+#[test]
+fn the_library_keeps_to_the_document_tried_word_by_word() {
+    let mut random = Random::seeded(6);
+    for _ in 0..3_000 {
+        let size = size_up_to(&mut random, Size { bidders: 5, slots: 4, constraints: 24 });
+        let manner = random.one_of(&MANNERS);
+        let round = round(&mut random, size, manner, 9, 4);
+        let sheet = pas::Sheet::from_bytes(&slow::sheet(&round)).expect("a random round is a good sheet");
+        let number = |bidder: Option<pas::Bidder>| bidder.map_or(0, |bidder| bidder.0);
+        let page = sheet.play();
+        assert_eq!(page.bidders().into_iter().map(number).collect::<Vec<_>>(), slow::page(&round), "{round:?}");
+        let prices: Vec<u32> = (0..size.slots).map(|slot| slow::price(&round, slot)).collect();
+        assert_eq!(page.prices(), prices, "{round:?}");
+        let best = sheet.best_page().expect("a small round");
+        let slow_best = slow::best_page(&round);
+        assert_eq!(best.total, slow::total(&round, &slow_best), "{round:?}");
+        assert_eq!(best.bidders.into_iter().map(number).collect::<Vec<_>>(), slow_best, "{round:?}");
+        for bidder in 1..=size.bidders as u8 {
+            assert_eq!(sheet.is_downward(pas::Bidder(bidder)), Ok(slow::is_downward(&round, bidder)), "{round:?}");
+            assert_eq!(sheet.gain(&sheet, pas::Bidder(bidder), 9), Ok(slow::gain(&round, &round, bidder, 9)), "{round:?}");
+        }
+    }
+}

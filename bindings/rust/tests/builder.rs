@@ -1,0 +1,72 @@
+//! The builder writes the format of document 01 and leaves every judgement to the library; refusals keep their numbers.
+
+use pas::{Bidder, Constraint, Kind, Refusal, Sheet, SheetBuilder, Slot};
+
+/// Sheet F as document 01 prints it.
+const SHEET_F: [u8; 21] = [0x50, 0x41, 0x53, 1, 0, 2, 1, 0, 0, 1, 0, 0, 0, 5, 0, 0, 0, 6, 0, 0, 0];
+
+#[test]
+fn the_builder_writes_sheet_f_as_the_document_prints_it() {
+    let sheet = SheetBuilder::new().effects([1]).bids([5, 6]).build().expect("sheet F is good");
+    assert_eq!(sheet.as_bytes(), SHEET_F);
+    assert_eq!((sheet.bidders(), sheet.slots(), sheet.constraints()), (2, 1, 0));
+    assert_eq!(Sheet::from_bytes(&SHEET_F), Ok(sheet));
+}
+
+#[test]
+fn each_kind_of_constraint_is_written_in_four_bytes() {
+    let kinds = [
+        Kind::OwnSlot(Slot(3)),
+        Kind::OtherSlot { other: Bidder(2), slot: Slot(1) },
+        Kind::Pair { own: Slot(2), other: Bidder(4), slot: Slot(5) },
+    ];
+    let owned = kinds.map(|kind| Constraint { owner: Bidder(1), kind });
+    let bytes = SheetBuilder::new().constraints(owned).bytes();
+    assert_eq!(bytes[9..], [1, 3, 0, 0, 1, 0, 2, 1, 1, 2, 4, 5]);
+}
+
+#[test]
+fn an_empty_builder_is_refused_for_its_bidders() {
+    assert_eq!(SheetBuilder::new().build(), Err(Refusal::WrongBidders));
+    assert_eq!(SheetBuilder::new().bids([1]).build(), Err(Refusal::WrongSlots));
+}
+
+#[test]
+fn counts_beyond_their_fields_are_refused_and_not_cut() {
+    let effect = || SheetBuilder::new().effects([1]);
+    // 257 and 65,537 would be 1 in the field if they were cut.
+    for bidders in [65, 255, 256, 257, 320] {
+        assert_eq!(effect().bids(vec![1; bidders]).build(), Err(Refusal::WrongBidders), "{bidders} bidders");
+    }
+    for slots in [17, 255, 256, 257, 272] {
+        assert_eq!(SheetBuilder::new().bids([1]).effects(vec![1; slots]).build(), Err(Refusal::WrongSlots), "{slots} slots");
+    }
+    for constraints in [1025, 65_535, 65_536, 65_537, 66_560] {
+        let many = vec![Constraint { owner: Bidder(1), kind: Kind::OwnSlot(Slot(1)) }; constraints];
+        let sheet = effect().bids([1]).constraints(many);
+        assert_eq!(sheet.build(), Err(Refusal::TooManyConstraints), "{constraints} constraints");
+    }
+}
+
+#[test]
+fn the_first_count_that_is_wrong_gives_the_number() {
+    let many = vec![Constraint { owner: Bidder(1), kind: Kind::OwnSlot(Slot(1)) }; 70_000];
+    assert_eq!(SheetBuilder::new().effects(vec![1; 300]).constraints(many.clone()).build(), Err(Refusal::WrongBidders));
+    assert_eq!(SheetBuilder::new().bids([1]).constraints(many).build(), Err(Refusal::WrongSlots));
+}
+
+#[test]
+fn every_refusal_has_its_number_and_its_sentence() {
+    let all: Vec<Refusal> = (1..=19).filter_map(Refusal::from_number).collect();
+    assert_eq!(all.iter().map(|refusal| refusal.number()).collect::<Vec<_>>(), (1..=19).collect::<Vec<_>>());
+    assert_eq!((Refusal::from_number(0), Refusal::from_number(20), Refusal::from_number(u32::MAX)), (None, None, None));
+    assert_eq!(all[0].to_string(), "The sheet has fewer than 9 bytes.");
+    assert_eq!(all[12].to_string(), "Own place, other bidder and other's place are all 0.");
+    assert_eq!(all[18].to_string(), "The result buffer is shorter than the bytes to be written.");
+}
+
+#[test]
+fn a_page_tells_where_a_bidder_stands() {
+    let page = Sheet::from_bytes(&SHEET_F).expect("sheet F is good").play();
+    assert_eq!((page.slot_of(Bidder(2)), page.slot_of(Bidder(1))), (Some(Slot(1)), None));
+}
