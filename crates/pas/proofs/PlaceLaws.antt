@@ -60,11 +60,11 @@ gained-number zero s t i worth = refl
 gained-number (suc k) s t i worth = refl
 
 module _ (s t : List ℕ) (i worth : ℕ) (before : ℤ) (g : Gained) (e : g ≡ gainedOf s t i worth) where
-  gain-number : g .refusal ≡ gainRefusal s t i worth
+  pub gain-number : g .refusal ≡ gainRefusal s t i worth
   unfolding gainedOf
   gain-number = ap (λ (x : Gained). x .refusal) e ∙ gained-number (gainRefusal s t i worth) s t i worth
 
-  gain-answer : gainRefusal s t i worth ≡ 0 → g .gain ≡ gainOf (roundOf s) (roundOf t) i worth
+  pub gain-answer : gainRefusal s t i worth ≡ 0 → g .gain ≡ gainOf (roundOf s) (roundOf t) i worth
   unfolding gainedOf gainedFor
   gain-answer z = ap (λ (x : Gained). x .gain) e ∙ ap (λ (n : ℕ). gainedFor n s t i worth .gain) z
 
