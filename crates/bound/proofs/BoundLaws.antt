@@ -1,18 +1,20 @@
 -- No assignment of free bidders adds more than the free bidders in falling order of their bids. Turn by turn: the next ranked
 -- bidder is put at the first slot left, and who stood there goes where it stood. That never lowers the sum, since effects do not
 -- rise; a bidder that is not free stands nowhere, and after the last one nobody is left. Assumes nothing.
+use mathlib.Core.List.{List}
+use lib.ListN.{getD}
 use Prim.Native.Nat.{ℕ, zero, suc, _+_, _-_, _*_, _<_, _≤_}
-use borrow.Author.Tests.{eq-eqb, ne-eqb, eqb-true, eqb-false, lt-ltb, le-ltb}
+use borrow.Author.Tests.{eq-eqb, ne-eqb, eqb-true, eqb-false, lt-ltb, le-ltb, le-leb}
 use mathlib.Core.Bool.{Bool, true, false, cond, _&&_, and-false}
 use mathlib.Core.Logic.{_⊎_, inl, inr, ⊎-elim}
 use mathlib.Core.Path.{_≡_, refl, sym, _∙_, ap, ap₂, subst, subst₂}
 use native.Mathlib.Nat.{eq-or-lt-of-le, add-zero}
 use native.Mathlib.Omega.{arith}
-use lib.Dec.{eqb, ltb}
+use lib.Dec.{eqb, ltb, leb}
 use Rattle.basis.specs.Tests.{anyBelow}
-use Rattle.basis.proofs.TestLaws.{holds-or-fails, not-both, and-holds, any-where, any-none}
+use Rattle.basis.proofs.TestLaws.{holds-or-fails, not-both, and-holds, any-where, any-none, any-at}
 use Rattle.auction.proofs.PageLaws.{same-or-not, below-or-not}
-use Rattle.bound.specs.Bound.{sumFrom, slotAfter, addAfter, Falling, NoRise, BoundHolds}
+use Rattle.bound.specs.Bound.{sumFrom, slotAfter, addAfter, Falling, NoRise, BoundHolds, liveIn}
 
 -- an assignment with one index changed
 change : (ℕ → ℕ) → ℕ → ℕ → ℕ → ℕ
@@ -396,3 +398,10 @@ bound-holds free rank bid effect n k left z some once falling no-rise f h =
     })
     n
     (omega arith))
+
+-- an open slot among those left
+pub open-live : (marks : List ℕ) (b k m l : ℕ) → k ≤ l → l < m → getD marks (8 * (b - 1) + l) 0 ≡ 0 → liveIn marks k m b ≡ true
+unfolding liveIn
+open-live marks b k m l low inside e =
+    any-at (λ j. leb k j && eqb (getD marks (8 * (b - 1) + j) 0) 0) m l inside
+    (and-holds (le-leb k l low) (eq-eqb (getD marks (8 * (b - 1) + l) 0) 0 e))

@@ -1,12 +1,13 @@
 -- What the slots left can add at most: the free bidders in falling order of their bids, against the effects in falling order.
 -- Slots are counted by index here: index j is slot j + 1.
-use Prim.Native.Nat.{ℕ, zero, suc, _+_, _*_, _<_, _≤_}
+use Prim.Native.Nat.{ℕ, zero, suc, _+_, _*_, _-_, _<_, _≤_}
 use mathlib.Core.Bool.{Bool, true, cond, _&&_}
 use mathlib.Core.List.{List}
 use mathlib.Core.Logic.{_⊎_}
 use mathlib.Core.Path.{_≡_}
-use lib.Dec.{ltb}
+use lib.Dec.{eqb, leb, ltb}
 use lib.ListN.{length, getD}
+use Rattle.basis.specs.Tests.{anyBelow}
 
 -- the sum of bid × effect of an assignment f of bidders to the slot indices k, .., k + left - 1
 unfoldable pub sumFrom : (bid effect f : ℕ → ℕ) → ℕ → ℕ → ℕ
@@ -47,6 +48,10 @@ BoundHolds =
     Falling rank bid n → NoRise effect (k + left) →
     (f : ℕ → ℕ) → Assigns free rank n k (k + left) f →
     sumFrom bid effect f k left ≤ addAfter free rank bid effect k (k + left) n
+
+-- some slot index from k to below m is open to bidder b, by marks of who is barred, 8 slots a bidder
+unfoldable pub liveIn : (marks : List ℕ) (k m : ℕ) → ℕ → Bool
+liveIn marks k m b = anyBelow (λ l. leb k l && eqb (getD marks (8 * (b - 1) + l) 0) 0) m
 
 -- lists as functions
 unfoldable pub listed : List ℕ → ℕ → ℕ

@@ -1,27 +1,39 @@
 // What the slots left can add at most, for the best-page search.
-ghost use mathlib.Core.Bool.{not};
 ghost use mathlib.Core.Path.{_≡_};
 ghost use Prim.Native.Nat.{ℕ, _<_, _≤_};
 ghost use lib.ListN.{length, getD};
 ghost use Rattle.choice.specs.Tables.{bidIn};
-ghost use Rattle.auction.specs.Page.{placed};
-ghost use Rattle.bound.specs.Bound.{addAfter, listed, Ranked};
-use sheet::Bidder;
-use sheet::Page;
+ghost use Rattle.bound.specs.Bound.{addAfter, liveIn, listed, Ranked};
 
-// The free bidders of `ranked`, in their order, paired with the effects of the slots from index `from` to below `slots`.
+// Whether a bidder may still get one of the slots from index `from` to below `slots`, by marks of who is barred, 8 slots a bidder.
+fn is_live(marks: [u8; 64], number: u8, from: usize, slots: usize) -> bool
+    requires { ⌜ (length marks ≡ 64) × (0 < number) × (number ≤ 8) × (from ≤ slots) × (slots ≤ 8) ⌝ }
+    ensures { λ r. ⌜ r ≡ liveIn marks from slots number ⌝ }
+{
+    let start = 8 * (number as usize - 1);
+    let mut l: usize = from;
+    while l < slots {
+        if marks[start + l] == 0 {
+            return true;
+        }
+        l += 1;
+    }
+    false
+}
+
+// The bidders of `ranked` that may still get a slot, in their order, paired with the effects of the slots from index `from` to below `slots`.
 pub fn most_added(
-    page: Page,
+    marks: [u8; 64],
     ranked: &[u8],
     bids: &[u32],
     effects: &[u32],
     from: usize,
     slots: usize,
 ) -> u64
-    requires { ⌜ (length (now ranked) ≤ 8) × (slots ≤ 8) × (from ≤ slots) × (slots ≤ length (now effects)) ⌝ }
-    requires { ⌜ ((i : ℕ) → i < length (now ranked) → (0 < getD (now ranked) i 0) × (getD (now ranked) i 0 ≤ length (now bids))) ⌝ }
+    requires { ⌜ (length (now ranked) ≤ 8) × (slots ≤ 8) × (from ≤ slots) × (slots ≤ length (now effects)) × (length marks ≡ 64) ⌝ }
+    requires { ⌜ ((i : ℕ) → i < length (now ranked) → (0 < getD (now ranked) i 0) × (getD (now ranked) i 0 ≤ length (now bids)) × (getD (now ranked) i 0 ≤ 8)) ⌝ }
     requires { ⌜ ((i : ℕ) → getD (now bids) i 0 ≤ 1000000000) × ((i : ℕ) → getD (now effects) i 0 ≤ 1000000) ⌝ }
-    ensures { λ r. ⌜ r ≡ addAfter (λ b. not (placed page b)) (listed (now (ranked .entry))) (bidIn (now (bids .entry))) (listed (now (effects .entry))) from slots (length (now (ranked .entry))) ⌝ }
+    ensures { λ r. ⌜ r ≡ addAfter (liveIn marks from slots) (listed (now (ranked .entry))) (bidIn (now (bids .entry))) (listed (now (effects .entry))) from slots (length (now (ranked .entry))) ⌝ }
 {
     let mut sum: u64 = 0;
     let mut slot: usize = from;
@@ -29,7 +41,7 @@ pub fn most_added(
     while i < ranked.len() {
         if slot < slots {
             let number = ranked[i];
-            if !auction::is_placed(page, Bidder(number)) {
+            if is_live(marks, number, from, slots) {
                 let bid = bids[number as usize - 1] as u64;
                 let effect = effects[slot] as u64;
                 sum += bid * effect;

@@ -10,7 +10,7 @@ use native.Mathlib.Nat.{not-suc-le-zero}
 use native.Mathlib.Omega.{arith}
 use lib.Dec.{eqb}
 use Rattle.basis.specs.Tests.{anyBelow}
-use Rattle.basis.proofs.TestLaws.{not-both, same-tests, and-holds, and-parts, or-left, or-right, or-parts, not-holds, any-at, any-where}
+use Rattle.basis.proofs.TestLaws.{holds-or-fails, not-both, fails, same-tests, and-holds, and-parts, or-left, or-right, or-parts, not-holds, any-at, any-where}
 use Rattle.sheet.specs.declared.Bidder.{Bidder}
 use Rattle.sheet.specs.declared.Slot.{Slot}
 use Rattle.sheet.specs.declared.Kind.{Kind}
@@ -243,29 +243,50 @@ any-same f g n h =
     (λ e. let w = any-where f n e in any-at g n (w .0) (w .1) (sym (h (w .0) (w .1)) ∙ w .2))
     (λ e. let w = any-where g n e in any-at f n (w .0) (w .1) (h (w .0) (w .1) ∙ w .2))
 
--- the round's table tells the clashes of a bidder at an empty slot
-pub table-clashes : (r : Round) (table : List ℕ) → TableOf r table → (p : Page) (k b : ℕ) → 0 < k → k ≤ 8 → 0 < b → b ≤ 8 →
-    ((i : ℕ) → at p i ≤ 8) → placed p b ≡ false → Sized p → at p k ≡ 0 → clashesIn table p k b ≡ clashes r p k b
+-- who stands on a page that breaks nothing breaks nothing alone
+unbroken-alone : (r : Round) → ProperRound r → (p : Page) → Sized p → breaks r p ≡ false → (y : ℕ) → (at p y ≡ 0 → ⊥) →
+    clash r (at p y) y (at p y) y ≡ false
+unfolding clash
+unbroken-alone r proper p s unbroken y some =
+    fails (breaks r (pairPage (at p y) y (at p y) y))
+    (λ t.
+    let w = breaks-where r (pairPage (at p y) y (at p y) y) t in
+    let inside = at-within p y s some in
+    not-both
+    (breaks-at r p (w .0) (w .1)
+    (broken-stays (pairPage (at p y) y (at p y) y) p (w .0)
+    (two-kept (at p y) y (at p y) y (inside .0) (inside .1) (inside .0) (inside .1) p refl refl)
+    (proper .proper (w .0) (w .1)) (w .2)))
+    unbroken)
+
+-- the round's table tells the clashes of a bidder at an empty slot of a page that breaks nothing
+pub table-clashes : (r : Round) (table : List ℕ) → TableOf r table → ProperRound r → (p : Page) (k b : ℕ) → 0 < k → k ≤ 8 → 0 < b → b ≤ 8 →
+    ((i : ℕ) → at p i ≤ 8) → placed p b ≡ false → Sized p → at p k ≡ 0 → breaks r p ≡ false → clashesIn table p k b ≡ clashes r p k b
 unfolding clashesIn clashes
-table-clashes r table t p k b k-some k-most b-some b-most small unplaced s k-empty =
+table-clashes r table t proper p k b k-some k-most b-some b-most small unplaced s k-empty unbroken =
+    ⊎-elim
+    (λ (e : clash r b k b k ≡ true). or-left _ (t .alone b k b-some b-most k-some k-most ∙ e) ∙ sym (or-left _ e))
+    (λ (e : clash r b k b k ≡ false).
     ap₂ _||_ (t .alone b k b-some b-most k-some k-most)
     (any-same
-    (λ i. not (eqb (at p (suc i)) 0) && not (eqb (entryAt table b k (at p (suc i)) (suc i)) 0))
+    (λ i. not (eqb (at p (suc i)) 0) && not (eqb (entryAt table (at p (suc i)) (suc i) b k) 0))
     (λ i. not (eqb (at p (suc i)) 0) && clash r b k (at p (suc i)) (suc i))
     k
-    same)
+    (same e)))
+    (holds-or-fails (clash r b k b k))
   where
-    same : (i : ℕ) → i < k →
-        (not (eqb (at p (suc i)) 0) && not (eqb (entryAt table b k (at p (suc i)) (suc i)) 0))
+    same : clash r b k b k ≡ false → (i : ℕ) → i < k →
+        (not (eqb (at p (suc i)) 0) && not (eqb (entryAt table (at p (suc i)) (suc i) b k) 0))
         ≡ (not (eqb (at p (suc i)) 0) && clash r b k (at p (suc i)) (suc i))
-    same i below =
+    same alone i below =
         ⊎-elim
         (λ (nobody : at p (suc i) ≡ 0).
-        ap (λ (x : Bool). not x && not (eqb (entryAt table b k (at p (suc i)) (suc i)) 0)) (eq-eqb (at p (suc i)) 0 nobody)
+        ap (λ (x : Bool). not x && not (eqb (entryAt table (at p (suc i)) (suc i) b k) 0)) (eq-eqb (at p (suc i)) 0 nobody)
         ∙ sym (ap (λ (x : Bool). not x && clash r b k (at p (suc i)) (suc i)) (eq-eqb (at p (suc i)) 0 nobody)))
         (λ (some : at p (suc i) ≡ 0 → ⊥).
         ap (λ (x : Bool). not (eqb (at p (suc i)) 0) && x)
         (t .pairs b k (at p (suc i)) (suc i) b-some b-most k-some k-most (omega arith) (small (suc i)) (omega arith) (omega arith)
         (λ e. not-both (placed-at p b (suc i) (omega arith) (omega arith) (sym e)) unplaced)
-        (λ e. some (ap (at p) (sym e) ∙ k-empty))))
+        (λ e. some (ap (at p) (sym e) ∙ k-empty))
+        alone (unbroken-alone r proper p s unbroken (suc i) some)))
         (same-or-not (at p (suc i)) 0)

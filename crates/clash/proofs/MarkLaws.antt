@@ -12,7 +12,7 @@ use lib.Dec.{eqb, leb, ltb}
 use lib.ListN.{length, getD, set, length-set}
 use lib.Seq.{getD-set-same, getD-set-other}
 use Rattle.basis.specs.Tests.{anyBelow}
-use Rattle.basis.proofs.TestLaws.{fails, same-tests, and-holds, and-parts, or-left, or-right, or-parts, or-fails}
+use Rattle.basis.proofs.TestLaws.{not-both, fails, same-tests, any-at, and-holds, and-parts, or-left, or-right, or-parts, or-fails}
 use Rattle.sheet.specs.declared.Bidder.{Bidder}
 use Rattle.sheet.specs.declared.Slot.{Slot}
 use Rattle.sheet.specs.declared.Kind.{Kind}
@@ -25,7 +25,7 @@ use Rattle.auction.specs.Proper.{Proper, ProperRound}
 use Rattle.auction.proofs.PageLaws.{same-or-not, placed-at, placed-where}
 use Rattle.auction.proofs.BrokenLaws.{broken-parts, parts-broken}
 use Rattle.clash.specs.Clash.{pairPage, clash, entryAt}
-use Rattle.clash.specs.Marks.{Entry, Numbered, marked, sameAt, bothAre, eitherWay, anywhere, among, marks}
+use Rattle.clash.specs.Marks.{Entry, Numbered, marked, sameAt, bothAre, eitherWay, anywhere, among, pairBreaks, marks}
 use Rattle.clash.proofs.ClashLaws.{second-here, first-here, only-two, any-same}
 
 same-at : (b k j l : ℕ) → b ≡ j → k ≡ l → sameAt b k j l ≡ true
@@ -33,6 +33,20 @@ same-at b k j l e f = and-holds (eq-eqb b j e) (eq-eqb k l f)
 
 at-same : (b k j l : ℕ) → sameAt b k j l ≡ true → (b ≡ j) × (k ≡ l)
 at-same b k j l e = let both = and-parts (eqb b j) (eqb k l) e in (eqb-true b j (both .0), eqb-true k l (both .1))
+
+-- an entry of the table, by its ranges
+pub entry-twice : (b k : ℕ) → 0 < b → b ≤ 8 → 0 < k → k ≤ 8 → Entry b k b k
+entry-twice b k b-some b-most k-some k-most =
+    record {
+      some-b = b-some;
+      most-b = b-most;
+      some-k = k-some;
+      most-k = k-most;
+      some-j = b-some;
+      most-j = b-most;
+      some-l = k-some;
+      most-l = k-most;
+    }
 
 -- the number of bidder b at slot k in the table
 abbrev placeOf : ℕ → ℕ → ℕ
@@ -197,73 +211,7 @@ every-slot m x y t n b k j l i h =
     ap₂ (λ (u v : Bool). m || (((eqb x b && u) && sameAt y t j l) || (sameAt y t b k && (eqb x j && v)))) (le-leb k n (omega arith)) (le-leb l n (omega arith))
     ∙ ap₂ (λ (u v : Bool). m || ((u && sameAt y t j l) || (sameAt y t b k && v))) (and-true (eqb x b)) (and-true (eqb x j))
 
--- the first n entries of row u and of column u: none at first, one more of each with each turn, and all at the end
-unfoldable pub someOfRow : ℕ → ℕ → ℕ → ℕ → ℕ → ℕ → Bool
-someOfRow u n b k j l = (ltb (placeOf b k) n && eqb (placeOf j l) u) || (eqb (placeOf b k) u && ltb (placeOf j l) n)
-
-pub none-of-row : (m : Bool) (u b k j l : ℕ) → m ≡ (m || someOfRow u 0 b k j l)
-unfolding someOfRow
-none-of-row m u b k j l =
-    sym
-    (ap₂ (λ (v w : Bool). m || ((v && eqb (placeOf j l) u) || (eqb (placeOf b k) u && w))) (le-ltb (placeOf b k) 0 (omega arith)) (le-ltb (placeOf j l) 0 (omega arith))
-    ∙ ap (λ (z : Bool). m || z) (none-joined true (eqb (placeOf j l) u) (eqb (placeOf b k) u) true)
-    ∙ or-false m)
-
-lower-or-next : (a n : ℕ) → (ltb a n || eqb a n) ≡ ltb a (n + 1)
-lower-or-next a n =
-    same-tests (ltb a n || eqb a n) (ltb a (n + 1))
-    (λ e.
-    ⊎-elim
-    (λ (t : ltb a n ≡ true). lt-ltb a (n + 1) (let h = ltb-true a n t in omega arith))
-    (λ (t : eqb a n ≡ true). lt-ltb a (n + 1) (let h = eqb-true a n t in omega arith))
-    (or-parts (ltb a n) (eqb a n) e))
-    (λ e.
-    ⊎-elim
-    (λ (t : a ≡ n). or-right (ltb a n) (eq-eqb a n t))
-    (λ (t : a ≡ n → ⊥). or-left (eqb a n) (lt-ltb a n (let h = ltb-true a (n + 1) e in omega arith)))
-    (same-or-not a n))
-
-pub row-more : (table₀ table : List ℕ) (u n : ℕ) → length table ≡ 4096 → u < 64 → n < 64 → (b k j l : ℕ) → Entry b k j l →
-    marked table b k j l ≡ (marked table₀ b k j l || someOfRow u n b k j l) →
-    marked (set (set table (64 * n + u) 1) (64 * u + n) 1) b k j l ≡ (marked table₀ b k j l || someOfRow u (n + 1) b k j l)
-unfolding someOfRow
-row-more table₀ table u n size u-most n-most b k j l i before =
-    store-at (set table (64 * n + u) 1) u n (length-set table (64 * n + u) 1 ∙ size) u-most n-most b k j l i
-    ∙ ap (λ (z : Bool). z || (eqb (placeOf b k) u && eqb (placeOf j l) n))
-    (store-at table n u size n-most u-most b k j l i
-    ∙ ap (λ (z : Bool). z || (eqb (placeOf b k) n && eqb (placeOf j l) u)) before)
-    ∙ marked-also (marked table₀ b k j l || someOfRow u n b k j l) (eqb (placeOf b k) n && eqb (placeOf j l) u) (eqb (placeOf b k) u && eqb (placeOf j l) n)
-    ∙ marked-also (marked table₀ b k j l) (someOfRow u n b k j l)
-    ((eqb (placeOf b k) n && eqb (placeOf j l) u) || (eqb (placeOf b k) u && eqb (placeOf j l) n))
-    ∙ ap (λ (z : Bool). marked table₀ b k j l || z)
-    (joined true (eqb (placeOf j l) u) (eqb (placeOf b k) u) true (ltb (placeOf b k) n) (eqb (placeOf b k) n) (ltb (placeOf j l) n) (eqb (placeOf j l) n)
-    ∙ ap₂ (λ (v w : Bool). (v && eqb (placeOf j l) u) || (eqb (placeOf b k) u && w)) (lower-or-next (placeOf b k) n) (lower-or-next (placeOf j l) n))
-
-pub all-of-row : (m : Bool) (x s u n b k j l : ℕ) → 0 < x → 0 < s → Numbered x s u → u < 64 → 64 ≤ n → Entry b k j l →
-    (m || someOfRow u n b k j l) ≡ (m || among x s b k j l)
-unfolding someOfRow
-all-of-row m x s u n b k j l x-some s-some d here past i =
-    let told = d .told here in
-    ap₂ (λ (v w : Bool). m || ((v && eqb (placeOf j l) u) || (eqb (placeOf b k) u && w))) (lt-ltb (placeOf b k) n (omega arith)) (lt-ltb (placeOf j l) n (omega arith))
-    ∙ ap (λ (w : Bool). m || (eqb (placeOf j l) u || w)) (and-true (eqb (placeOf b k) u))
-    ∙ ap₂ (λ (v w : Bool). m || (v || w))
-    (place-same x s u j l x-some (told .0) s-some (told .1) (told .2) (i .some-j) (i .most-j) (i .some-l) (i .most-l))
-    (place-same x s u b k x-some (told .0) s-some (told .1) (told .2) (i .some-b) (i .most-b) (i .some-k) (i .most-k))
-
-pub row-left-out : (m : Bool) (x s u b k j l : ℕ) → Numbered x s u → 64 ≤ u → Entry b k j l → m ≡ (m || among x s b k j l)
-row-left-out m x s u b k j l d past i =
-    sym (ap (λ (z : Bool). m || z) (or-fails (unlike j l (i .most-j) (i .most-l)) (unlike b k (i .most-b) (i .most-k))) ∙ or-false m)
-  where
-    unlike : (y t : ℕ) → y ≤ 8 → t ≤ 8 → sameAt x s y t ≡ false
-    unlike y t y-most t-most =
-        fails (sameAt x s y t)
-        (λ e.
-        let same = at-same x s y t e in
-        let x-y : x ≡ y = same .0 in
-        let s-t : s ≡ t = same .1 in
-        d .left-out past (omega arith) (omega arith))
-
--- A page with b at k and j at l, and nobody else, breaks a constraint exactly when the constraint marks the pair.
+-- A page with b at k and j at l, and nobody else, breaks a constraint exactly when the pair breaks it.
 module _ (p : Page) (b k j l : ℕ) (k-some : 0 < k) (k-most : k ≤ 16) (l-some : 0 < l) (l-most : l ≤ 16) (first : at p k ≡ b) (second : at p l ≡ j)
     (only : (x y : ℕ) → (y ≡ 0 → ⊥) → at p x ≡ y → ((y ≡ b) × (x ≡ k)) ⊎ ((y ≡ j) × (x ≡ l))) where
   at-first : (x y : ℕ) → sameAt y x b k ≡ true → at p x ≡ y
@@ -283,45 +231,45 @@ module _ (p : Page) (b k j l : ℕ) (k-some : 0 < k) (k-most : k ≤ 16) (l-some
       let w = placed-where p o e in
       ⊎-elim (λ (f : (o ≡ b) × (w .0 ≡ k)). inl (f .0)) (λ (f : (o ≡ j) × (w .0 ≡ l)). inr (f .0)) (only (w .0) o some (w .3))
 
-  own-marked : (owner : Bidder) (s : Slot) → Proper (record { owner = owner; kind = OwnSlot s }) →
+  own-told : (owner : Bidder) (s : Slot) → Proper (record { owner = owner; kind = OwnSlot s }) →
       ((owner .0 ≡ b) × (s .0 ≡ k)) ⊎ ((owner .0 ≡ j) × (s .0 ≡ l)) → among (owner .0) (s .0) b k j l ≡ true
-  own-marked owner s q (inl e) = or-right (sameAt (owner .0) (s .0) j l) (same-at (owner .0) (s .0) b k (e .0) (e .1))
-  own-marked owner s q (inr e) = or-left (sameAt (owner .0) (s .0) b k) (same-at (owner .0) (s .0) j l (e .0) (e .1))
+  own-told owner s q (inl e) = or-right (sameAt (owner .0) (s .0) j l) (same-at (owner .0) (s .0) b k (e .0) (e .1))
+  own-told owner s q (inr e) = or-left (sameAt (owner .0) (s .0) b k) (same-at (owner .0) (s .0) j l (e .0) (e .1))
 
-  other-marked : (owner i : Bidder) (m : Slot) → Proper (record { owner = owner; kind = OtherSlot i m }) →
+  other-told : (owner i : Bidder) (m : Slot) → Proper (record { owner = owner; kind = OtherSlot i m }) →
       ((i .0 ≡ b) × (m .0 ≡ k)) ⊎ ((i .0 ≡ j) × (m .0 ≡ l)) → (owner .0 ≡ b) ⊎ (owner .0 ≡ j) → anywhere (owner .0) (i .0) (m .0) b k j l ≡ true
-  other-marked owner i m q (inl e) (inl o) = absurd (q .named .1 (e .0 ∙ sym o))
-  other-marked owner i m q (inl e) (inr o) =
+  other-told owner i m q (inl e) (inl o) = absurd (q .named .1 (e .0 ∙ sym o))
+  other-told owner i m q (inl e) (inr o) =
       or-right (eqb (owner .0) b && sameAt (i .0) (m .0) j l) (and-holds (same-at (i .0) (m .0) b k (e .0) (e .1)) (eq-eqb (owner .0) j o))
-  other-marked owner i m q (inr e) (inl o) =
+  other-told owner i m q (inr e) (inl o) =
       or-left (sameAt (i .0) (m .0) b k && eqb (owner .0) j) (and-holds (eq-eqb (owner .0) b o) (same-at (i .0) (m .0) j l (e .0) (e .1)))
-  other-marked owner i m q (inr e) (inr o) = absurd (q .named .1 (e .0 ∙ sym o))
+  other-told owner i m q (inr e) (inr o) = absurd (q .named .1 (e .0 ∙ sym o))
 
-  pair-marked : (owner : Bidder) (s : Slot) (i : Bidder) (m : Slot) → Proper (record { owner = owner; kind = Pair s i m }) →
+  pair-told : (owner : Bidder) (s : Slot) (i : Bidder) (m : Slot) → Proper (record { owner = owner; kind = Pair s i m }) →
       ((owner .0 ≡ b) × (s .0 ≡ k)) ⊎ ((owner .0 ≡ j) × (s .0 ≡ l)) → ((i .0 ≡ b) × (m .0 ≡ k)) ⊎ ((i .0 ≡ j) × (m .0 ≡ l)) →
       eitherWay (owner .0) (s .0) (i .0) (m .0) b k j l ≡ true
-  pair-marked owner s i m q (inl o) (inl e) = absurd (q .named .1 (e .0 ∙ sym (o .0)))
-  pair-marked owner s i m q (inl o) (inr e) =
+  pair-told owner s i m q (inl o) (inl e) = absurd (q .named .1 (e .0 ∙ sym (o .0)))
+  pair-told owner s i m q (inl o) (inr e) =
       or-left (bothAre (i .0) (m .0) (owner .0) (s .0) b k j l)
       (and-holds (same-at (owner .0) (s .0) b k (o .0) (o .1)) (same-at (i .0) (m .0) j l (e .0) (e .1)))
-  pair-marked owner s i m q (inr o) (inl e) =
+  pair-told owner s i m q (inr o) (inl e) =
       or-right (bothAre (owner .0) (s .0) (i .0) (m .0) b k j l)
       (and-holds (same-at (i .0) (m .0) b k (e .0) (e .1)) (same-at (owner .0) (s .0) j l (o .0) (o .1)))
-  pair-marked owner s i m q (inr o) (inr e) = absurd (q .named .1 (e .0 ∙ sym (o .0)))
+  pair-told owner s i m q (inr o) (inr e) = absurd (q .named .1 (e .0 ∙ sym (o .0)))
 
-  broken-marked : (owner : Bidder) (kind : Kind) → Proper (record { owner = owner; kind = kind }) →
-      broken p (record { owner = owner; kind = kind }) ≡ true → marks kind (owner .0) b k j l ≡ true
-  unfolding marks ownHolds otherHolds
-  broken-marked owner (OwnSlot s) q e =
+  broken-told : (owner : Bidder) (kind : Kind) → Proper (record { owner = owner; kind = kind }) →
+      broken p (record { owner = owner; kind = kind }) ≡ true → pairBreaks kind (owner .0) b k j l ≡ true
+  unfolding pairBreaks ownHolds otherHolds
+  broken-told owner (OwnSlot s) q e =
       let parts = broken-parts p (record { owner = owner; kind = OwnSlot s }) e in
-      own-marked owner s q (only (s .0) (owner .0) (q .owned) (eqb-true (at p (s .0)) (owner .0) (parts .0)))
-  broken-marked owner (OtherSlot i m) q e =
+      own-told owner s q (only (s .0) (owner .0) (q .owned) (eqb-true (at p (s .0)) (owner .0) (parts .0)))
+  broken-told owner (OtherSlot i m) q e =
       let parts = broken-parts p (record { owner = owner; kind = OtherSlot i m }) e in
-      other-marked owner i m q (only (m .0) (i .0) (q .named .0) (eqb-true (at p (m .0)) (i .0) (parts .1)))
+      other-told owner i m q (only (m .0) (i .0) (q .named .0) (eqb-true (at p (m .0)) (i .0) (parts .1)))
       (one-of-two (owner .0) (q .owned) (parts .2))
-  broken-marked owner (Pair s i m) q e =
+  broken-told owner (Pair s i m) q e =
       let parts = broken-parts p (record { owner = owner; kind = Pair s i m }) e in
-      pair-marked owner s i m q (only (s .0) (owner .0) (q .owned) (eqb-true (at p (s .0)) (owner .0) (parts .0)))
+      pair-told owner s i m q (only (s .0) (owner .0) (q .owned) (eqb-true (at p (s .0)) (owner .0) (parts .0)))
       (only (m .0) (i .0) (q .named .0) (eqb-true (at p (m .0)) (i .0) (parts .1)))
 
   own-broken : (owner : Bidder) (s : Slot) → Proper (record { owner = owner; kind = OwnSlot s }) → at p (s .0) ≡ owner .0 →
@@ -343,15 +291,15 @@ module _ (p : Page) (b k j l : ℕ) (k-some : 0 < k) (k-most : k ≤ 16) (l-some
       parts-broken p (record { owner = owner; kind = Pair s i m }) (eq-eqb (at p (s .0)) (owner .0) o) (eq-eqb (at p (m .0)) (i .0) e)
       (placed-at p (owner .0) (s .0) (q .named .5) (q .named .6) o)
 
-  marked-broken : (owner : Bidder) (kind : Kind) → Proper (record { owner = owner; kind = kind }) →
-      marks kind (owner .0) b k j l ≡ true → broken p (record { owner = owner; kind = kind }) ≡ true
-  unfolding marks
-  marked-broken owner (OwnSlot s) q e =
+  told-broken : (owner : Bidder) (kind : Kind) → Proper (record { owner = owner; kind = kind }) →
+      pairBreaks kind (owner .0) b k j l ≡ true → broken p (record { owner = owner; kind = kind }) ≡ true
+  unfolding pairBreaks
+  told-broken owner (OwnSlot s) q e =
       ⊎-elim
       (λ (f : sameAt (owner .0) (s .0) j l ≡ true). own-broken owner s q (at-second (s .0) (owner .0) f))
       (λ (f : sameAt (owner .0) (s .0) b k ≡ true). own-broken owner s q (at-first (s .0) (owner .0) f))
       (or-parts (sameAt (owner .0) (s .0) j l) (sameAt (owner .0) (s .0) b k) e)
-  marked-broken owner (OtherSlot i m) q e =
+  told-broken owner (OtherSlot i m) q e =
       ⊎-elim
       (λ (f : (eqb (owner .0) b && sameAt (i .0) (m .0) j l) ≡ true).
       let both = and-parts (eqb (owner .0) b) (sameAt (i .0) (m .0) j l) f in
@@ -360,7 +308,7 @@ module _ (p : Page) (b k j l : ℕ) (k-some : 0 < k) (k-most : k ≤ 16) (l-some
       let both = and-parts (sameAt (i .0) (m .0) b k) (eqb (owner .0) j) f in
       other-broken owner i m (at-first (m .0) (i .0) (both .0)) (second-placed (owner .0) (both .1)))
       (or-parts (eqb (owner .0) b && sameAt (i .0) (m .0) j l) (sameAt (i .0) (m .0) b k && eqb (owner .0) j) e)
-  marked-broken owner (Pair s i m) q e =
+  told-broken owner (Pair s i m) q e =
       ⊎-elim
       (λ (f : bothAre (owner .0) (s .0) (i .0) (m .0) b k j l ≡ true).
       let both = and-parts (sameAt (owner .0) (s .0) b k) (sameAt (i .0) (m .0) j l) f in
@@ -370,11 +318,11 @@ module _ (p : Page) (b k j l : ℕ) (k-some : 0 < k) (k-most : k ≤ 16) (l-some
       pair-broken owner s i m q (at-second (s .0) (owner .0) (both .1)) (at-first (m .0) (i .0) (both .0)))
       (or-parts (bothAre (owner .0) (s .0) (i .0) (m .0) b k j l) (bothAre (i .0) (m .0) (owner .0) (s .0) b k j l) e)
 
-  marks-are-broken : (owner : Bidder) (kind : Kind) → Proper (record { owner = owner; kind = kind }) →
-      marks kind (owner .0) b k j l ≡ broken p (record { owner = owner; kind = kind })
-  marks-are-broken owner kind q =
-      same-tests (marks kind (owner .0) b k j l) (broken p (record { owner = owner; kind = kind }))
-      (marked-broken owner kind q) (broken-marked owner kind q)
+  pair-breaks : (owner : Bidder) (kind : Kind) → Proper (record { owner = owner; kind = kind }) →
+      pairBreaks kind (owner .0) b k j l ≡ broken p (record { owner = owner; kind = kind })
+  pair-breaks owner kind q =
+      same-tests (pairBreaks kind (owner .0) b k j l) (broken p (record { owner = owner; kind = kind }))
+      (told-broken owner kind q) (broken-told owner kind q)
 
 -- some constraint among the first n marks the entry
 unfoldable pub someMarks : Round → ℕ → ℕ → ℕ → ℕ → ℕ → Bool
@@ -393,36 +341,111 @@ pub marks-more : (r : Round) (n b k j l : ℕ) →
 unfolding someMarks anyBelow
 marks-more r n b k j l = refl
 
--- the marks of all constraints are the clashes, of two at two slots and of one alone
-pub pairs-clash : (r : Round) → ProperRound r → (b k j l : ℕ) → Entry b k j l → (k ≡ l → ⊥) → someMarks r (r .used) b k j l ≡ clash r b k j l
-unfolding someMarks clash breaks
-pairs-clash r proper b k j l i apart =
-    let k-most : k ≤ 16 = omega arith in
-    let l-most : l ≤ 16 = omega arith in
-    any-same
-    (λ n. marks (constraintAt r n .kind) (constraintAt r n .owner .0) b k j l)
-    (λ n. broken (pairPage b k j l) (constraintAt r n))
-    (r .used)
-    (λ n below.
-    marks-are-broken (pairPage b k j l) b k j l (i .some-k) k-most (i .some-l) l-most
-    (first-here b k j l (i .some-k) k-most (i .some-l) l-most apart)
-    (second-here b k j l (i .some-k) k-most (i .some-l) l-most)
-    (only-two b k j l (i .some-k) k-most (i .some-l) l-most)
-    (constraintAt r n .owner) (constraintAt r n .kind) (proper .proper (constraintAt r n) (n, below, refl)))
+-- A constraint that a pair breaks marks the pair, or one of the two alone.
+own-split : (x y : Bool) → (y || x) ≡ ((x && y) || ((x && x) || (y && y)))
+own-split true true = refl
+own-split true false = refl
+own-split false true = refl
+own-split false false = refl
 
-pub alone-clash : (r : Round) → ProperRound r → (b k : ℕ) → Entry b k b k → someMarks r (r .used) b k b k ≡ clash r b k b k
-unfolding someMarks clash breaks
-alone-clash r proper b k i =
-    let k-most : k ≤ 16 = omega arith in
-    let here = second-here b k b k (i .some-k) k-most (i .some-k) k-most in
-    any-same
-    (λ n. marks (constraintAt r n .kind) (constraintAt r n .owner .0) b k b k)
-    (λ n. broken (pairPage b k b k) (constraintAt r n))
-    (r .used)
-    (λ n below.
-    marks-are-broken (pairPage b k b k) b k b k (i .some-k) k-most (i .some-k) k-most here here
-    (only-two b k b k (i .some-k) k-most (i .some-k) k-most)
-    (constraintAt r n .owner) (constraintAt r n .kind) (proper .proper (constraintAt r n) (n, below, refl)))
+nothing-more : (x y z : Bool) → y ≡ false → z ≡ false → x ≡ (x || (y || z))
+nothing-more x y z e f = sym (ap₂ (λ (v w : Bool). x || (v || w)) e f ∙ or-false x)
+
+module _ (owner : Bidder) where
+  other-not-alone : (i : Bidder) (m : Slot) → Proper (record { owner = owner; kind = OtherSlot i m }) → (b k : ℕ) →
+      anywhere (owner .0) (i .0) (m .0) b k b k ≡ false
+  other-not-alone i m q b k =
+      fails (anywhere (owner .0) (i .0) (m .0) b k b k)
+      (λ e.
+      ⊎-elim
+      (λ (f : (eqb (owner .0) b && sameAt (i .0) (m .0) b k) ≡ true).
+      let both = and-parts (eqb (owner .0) b) (sameAt (i .0) (m .0) b k) f in
+      q .named .1 (at-same (i .0) (m .0) b k (both .1) .0 ∙ sym (eqb-true (owner .0) b (both .0))))
+      (λ (f : (sameAt (i .0) (m .0) b k && eqb (owner .0) b) ≡ true).
+      let both = and-parts (sameAt (i .0) (m .0) b k) (eqb (owner .0) b) f in
+      q .named .1 (at-same (i .0) (m .0) b k (both .0) .0 ∙ sym (eqb-true (owner .0) b (both .1))))
+      (or-parts (eqb (owner .0) b && sameAt (i .0) (m .0) b k) (sameAt (i .0) (m .0) b k && eqb (owner .0) b) e))
+
+  pair-not-alone : (s : Slot) (i : Bidder) (m : Slot) → Proper (record { owner = owner; kind = Pair s i m }) → (b k : ℕ) →
+      eitherWay (owner .0) (s .0) (i .0) (m .0) b k b k ≡ false
+  pair-not-alone s i m q b k =
+      fails (eitherWay (owner .0) (s .0) (i .0) (m .0) b k b k)
+      (λ e.
+      ⊎-elim
+      (λ (f : bothAre (owner .0) (s .0) (i .0) (m .0) b k b k ≡ true).
+      let both = and-parts (sameAt (owner .0) (s .0) b k) (sameAt (i .0) (m .0) b k) f in
+      q .named .1 (at-same (i .0) (m .0) b k (both .1) .0 ∙ sym (at-same (owner .0) (s .0) b k (both .0) .0)))
+      (λ (f : bothAre (i .0) (m .0) (owner .0) (s .0) b k b k ≡ true).
+      let both = and-parts (sameAt (i .0) (m .0) b k) (sameAt (owner .0) (s .0) b k) f in
+      q .named .1 (at-same (i .0) (m .0) b k (both .0) .0 ∙ sym (at-same (owner .0) (s .0) b k (both .1) .0)))
+      (or-parts (bothAre (owner .0) (s .0) (i .0) (m .0) b k b k) (bothAre (i .0) (m .0) (owner .0) (s .0) b k b k) e))
+
+  breaks-marked : (kind : Kind) → Proper (record { owner = owner; kind = kind }) → (b k j l : ℕ) →
+      pairBreaks kind (owner .0) b k j l ≡ (marks kind (owner .0) b k j l || (marks kind (owner .0) b k b k || marks kind (owner .0) j l j l))
+  unfolding pairBreaks marks
+  breaks-marked (OwnSlot s) q b k j l = own-split (sameAt (owner .0) (s .0) b k) (sameAt (owner .0) (s .0) j l)
+  breaks-marked (OtherSlot i m) q b k j l =
+      nothing-more (anywhere (owner .0) (i .0) (m .0) b k j l) (anywhere (owner .0) (i .0) (m .0) b k b k) (anywhere (owner .0) (i .0) (m .0) j l j l)
+      (other-not-alone i m q b k) (other-not-alone i m q j l)
+  breaks-marked (Pair s i m) q b k j l =
+      nothing-more (eitherWay (owner .0) (s .0) (i .0) (m .0) b k j l) (eitherWay (owner .0) (s .0) (i .0) (m .0) b k b k) (eitherWay (owner .0) (s .0) (i .0) (m .0) j l j l)
+      (pair-not-alone s i m q b k) (pair-not-alone s i m q j l)
+
+  twice-once : (x : Bool) → (x || x) ≡ (x && x)
+  twice-once true = refl
+  twice-once false = refl
+
+  alone-marked : (kind : Kind) (b k : ℕ) → pairBreaks kind (owner .0) b k b k ≡ marks kind (owner .0) b k b k
+  unfolding pairBreaks marks
+  alone-marked (OwnSlot s) b k = twice-once (sameAt (owner .0) (s .0) b k)
+  alone-marked (OtherSlot i m) b k = refl
+  alone-marked (Pair s i m) b k = refl
+
+-- the marks of all constraints are the clashes, of one alone and of two at two slots, neither of whom clashes alone
+module _ (r : Round) (proper : ProperRound r) where
+  abbrev marksAt : ℕ → ℕ → ℕ → ℕ → ℕ → Bool
+  marksAt n b k j l = marks (constraintAt r n .kind) (constraintAt r n .owner .0) b k j l
+
+  proper-at : (n : ℕ) → n < r .used → Proper (constraintAt r n)
+  proper-at n below = proper .proper (constraintAt r n) (n, below, refl)
+
+  pub alone-clash : (b k : ℕ) → Entry b k b k → someMarks r (r .used) b k b k ≡ clash r b k b k
+  unfolding someMarks clash breaks
+  alone-clash b k i =
+      let k-most : k ≤ 16 = omega arith in
+      let here = second-here b k b k (i .some-k) k-most (i .some-k) k-most in
+      any-same (λ n. marksAt n b k b k) (λ n. broken (pairPage b k b k) (constraintAt r n)) (r .used)
+      (λ n below.
+      sym (alone-marked (constraintAt r n .owner) (constraintAt r n .kind) b k)
+      ∙ pair-breaks (pairPage b k b k) b k b k (i .some-k) k-most (i .some-k) k-most here here
+      (only-two b k b k (i .some-k) k-most (i .some-k) k-most)
+      (constraintAt r n .owner) (constraintAt r n .kind) (proper-at n below))
+
+  unmarked : (b k : ℕ) → Entry b k b k → clash r b k b k ≡ false → (n : ℕ) → n < r .used → marksAt n b k b k ≡ false
+  unfolding someMarks
+  unmarked b k i none n below =
+      fails (marksAt n b k b k)
+      (λ t. not-both (any-at (λ x. marksAt x b k b k) (r .used) n below t) (alone-clash b k i ∙ none))
+
+  pub pairs-clash : (b k j l : ℕ) → Entry b k j l → (k ≡ l → ⊥) → clash r b k b k ≡ false → clash r j l j l ≡ false →
+      someMarks r (r .used) j l b k ≡ clash r b k j l
+  unfolding someMarks clash breaks
+  pairs-clash b k j l i apart first second =
+      let k-most : k ≤ 16 = omega arith in
+      let l-most : l ≤ 16 = omega arith in
+      any-same (λ n. marksAt n j l b k) (λ n. broken (pairPage b k j l) (constraintAt r n)) (r .used)
+      (λ n below.
+      nothing-more (marksAt n j l b k) (marksAt n j l j l) (marksAt n b k b k)
+      (unmarked j l (entry-twice j l (i .some-j) (i .most-j) (i .some-l) (i .most-l)) second n below)
+      (unmarked b k (entry-twice b k (i .some-b) (i .most-b) (i .some-k) (i .most-k)) first n below)
+      ∙ sym (breaks-marked (constraintAt r n .owner) (constraintAt r n .kind) (proper-at n below) j l b k)
+      ∙ pair-breaks (pairPage b k j l) j l b k (i .some-l) l-most (i .some-k) k-most
+      (second-here b k j l (i .some-k) k-most (i .some-l) l-most)
+      (first-here b k j l (i .some-k) k-most (i .some-l) l-most apart)
+      (λ x y some e.
+      ⊎-elim (λ (f : (y ≡ b) × (x ≡ k)). inr f) (λ (f : (y ≡ j) × (x ≡ l)). inl f)
+      (only-two b k j l (i .some-k) k-most (i .some-l) l-most x y some e))
+      (constraintAt r n .owner) (constraintAt r n .kind) (proper-at n below))
 
 -- an entry by its index in the table
 pub entry-index : (table : List ℕ) (b k j l n : ℕ) → 0 < b → 0 < k → 0 < j → n ≡ 64 * (8 * (b - 1) + (k - 1)) + (8 * (j - 1) + l) →

@@ -1,4 +1,4 @@
--- Which entries of the table a constraint marks: the pairs of a bidder at a slot and a bidder at a slot that break it.
+-- Which entries of the table a constraint marks: who breaks it alone, and which two break it together.
 use Prim.Native.Nat.{ℕ, _+_, _*_, _-_, _<_, _≤_}
 use mathlib.Core.Bool.{Bool, not, _&&_, _||_}
 use mathlib.Core.List.{List}
@@ -48,8 +48,14 @@ anywhere x y t b k j l = (eqb x b && sameAt y t j l) || (sameAt y t b k && eqb x
 abbrev pub among : ℕ → ℕ → ℕ → ℕ → ℕ → ℕ → Bool
 among x s b k j l = sameAt x s j l || sameAt x s b k
 
--- the constraint marks the entry
+-- b at k and j at l, and nobody else, break the constraint
+unfoldable pub pairBreaks : Kind → ℕ → ℕ → ℕ → ℕ → ℕ → Bool
+pairBreaks (OwnSlot s) o b k j l = among o (s .0) b k j l
+pairBreaks (OtherSlot i m) o b k j l = anywhere o (i .0) (m .0) b k j l
+pairBreaks (Pair s i m) o b k j l = eitherWay o (s .0) (i .0) (m .0) b k j l
+
+-- the constraint marks the entry: as above, but an own-slot constraint marks its owner at that slot alone, and no pair
 unfoldable pub marks : Kind → ℕ → ℕ → ℕ → ℕ → ℕ → Bool
-marks (OwnSlot s) o b k j l = among o (s .0) b k j l
+marks (OwnSlot s) o b k j l = bothAre o (s .0) o (s .0) b k j l
 marks (OtherSlot i m) o b k j l = anywhere o (i .0) (m .0) b k j l
 marks (Pair s i m) o b k j l = eitherWay o (s .0) (i .0) (m .0) b k j l

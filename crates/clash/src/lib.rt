@@ -1,16 +1,16 @@
 // Which two bidders at which two slots break a constraint: a table of 64 × 64 bytes for rounds of up to 8 bidders and 8 slots.
-ghost use mathlib.Core.Bool.{Bool, _||_};
+ghost use mathlib.Core.Bool.{Bool, not, _||_};
 ghost use mathlib.Core.Path.{_≡_};
-ghost use Prim.Native.Nat.{ℕ, _<_, _≤_};
+ghost use Prim.Native.Nat.{ℕ, suc, _+_, _<_, _≤_};
+ghost use lib.Dec.{eqb};
 ghost use lib.ListN.{length, getD};
-ghost use Rattle.auction.specs.Page.{at};
+ghost use Rattle.auction.specs.Page.{emptyPage};
 ghost use Rattle.auction.specs.Proper.{Proper, ProperRound};
-ghost use Rattle.clash.specs.Clash.{TableOf, clashesIn};
-ghost use Rattle.clash.specs.Marks.{Entry, Numbered, marked, bothAre, eitherWay, anywhere, among, marks};
+ghost use Rattle.clash.specs.Clash.{TableOf, BarredBy, MarksAdded, ofBidder};
+ghost use Rattle.clash.specs.Marks.{Entry, Numbered, marked, bothAre, eitherWay, anywhere, marks};
 use sheet::Bidder;
 use sheet::Constraint;
 use sheet::Kind;
-use sheet::Page;
 use sheet::Round;
 use sheet::Slot;
 
@@ -65,24 +65,7 @@ fn mark_anywhere(table: &mut [u8], bidder: Bidder, other: Bidder, place: Slot)
     }
 }
 
-// One bidder at its slot, and anybody anywhere: its row and its column.
-fn mark_alone(table: &mut [u8], bidder: Bidder, slot: Slot)
-    requires { ⌜ (length (now table) ≡ 4096) × (0 < bidder .0) × (0 < slot .0) ⌝ }
-    ensures { λ r. ⌜ ((b k j l : ℕ) → Entry b k j l → marked (now (table .exit)) b k j l ≡ (marked (now (table .entry)) b k j l || among (bidder .0) (slot .0) b k j l)) ⌝ }
-{
-    let x = number(bidder, slot);
-    if x >= 64 {
-        return;
-    }
-    let mut m: usize = 0;
-    while m < 64 {
-        table[64 * m + x] = 1;
-        table[64 * x + m] = 1;
-        m += 1;
-    }
-}
-
-// Every pair that breaks one constraint.
+// Who breaks one constraint alone, and every pair that breaks it.
 fn mark_constraint(table: &mut [u8], constraint: Constraint)
     requires { ⌜ (length (now table) ≡ 4096) × Proper constraint ⌝ }
     ensures { λ r. ⌜ ((b k j l : ℕ) → Entry b k j l → marked (now (table .exit)) b k j l ≡ (marked (now (table .entry)) b k j l || marks (constraint .kind) (constraint .owner .0) b k j l)) ⌝ }
@@ -91,7 +74,7 @@ fn mark_constraint(table: &mut [u8], constraint: Constraint)
     let kind = constraint.kind;
     match kind {
         Kind::OwnSlot(slot) => {
-            mark_alone(table, owner, slot);
+            mark(table, owner, slot, owner, slot);
         }
         Kind::OtherSlot(other, place) => {
             mark_anywhere(table, owner, other, place);
@@ -116,27 +99,67 @@ pub fn fill_table(table: &mut [u8], round: Round)
     }
 }
 
-// Whether a bidder at a slot clashes with itself or with anybody on the page at a slot before, by the table.
-pub fn clashes_at(table: &[u8], page: Page, slot: Slot, bidder: Bidder) -> bool
-    requires { ⌜ (length (now table) ≡ 4096) × ((0 < slot .0) × (slot .0 ≤ 8)) × ((0 < bidder .0) × (bidder .0 ≤ 8)) ⌝ }
-    requires { ⌜ ((k : ℕ) → at page k ≤ 8) ⌝ }
-    ensures { λ r. ⌜ r ≡ clashesIn (now (table .entry)) page (slot .0) (bidder .0) ⌝ }
+// Not 0 where one of two marks is not.
+fn either(mark: u8, other: u8) -> u8
+    ensures { λ r. ⌜ not (eqb r 0) ≡ (not (eqb mark 0) || not (eqb other 0)) ⌝ }
 {
-    let slots = slot.0 as usize;
-    let own = 8 * (bidder.0 as usize - 1) + (slots - 1);
-    if table[64 * own + own] != 0 {
-        return true;
+    if mark != 0 {
+        return mark;
     }
+    other
+}
+
+// The marks of an empty page: who breaks a constraint alone.
+pub fn first_marks(table: &[u8]) -> [u8; 64]
+    requires { ⌜ length (now table) ≡ 4096 ⌝ }
+    ensures { λ r. ⌜ BarredBy (now (table .entry)) emptyPage 0 r ⌝ }
+{
+    let mut marks = [0u8; 64];
+    let mut x: usize = 0;
+    while x < 64 {
+        marks[x] = table[64 * x + x];
+        x += 1;
+    }
+    marks
+}
+
+// The marks with the 64 entries of the table from `start` on added.
+fn add_row(table: &[u8], start: usize, marks: [u8; 64]) -> [u8; 64]
+    requires { ⌜ (length (now table) ≡ 4096) × (start + 64 ≤ 4096) × (length marks ≡ 64) ⌝ }
+    ensures { λ r. ⌜ (length r ≡ 64) × ((i : ℕ) → i < 64 → not (eqb (getD r i 0) 0) ≡ (not (eqb (getD marks i 0) 0) || not (eqb (getD (now (table .entry)) (start + i) 0) 0))) ⌝ }
+{
+    let mut more = marks;
     let mut i: usize = 0;
-    while i < slots {
-        let other = page.bidders[i];
-        let j = other.0 as usize;
-        if j != 0 {
-            if table[64 * own + (8 * (j - 1) + i)] != 0 {
-                return true;
-            }
-        }
+    while i < 64 {
+        more[i] = either(more[i], table[start + i]);
         i += 1;
     }
-    false
+    more
+}
+
+// The marks with all slots of one bidder marked, by its index.
+fn mark_bidder(marks: [u8; 64], index: usize) -> [u8; 64]
+    requires { ⌜ (length marks ≡ 64) × (index < 8) ⌝ }
+    ensures { λ r. ⌜ (length r ≡ 64) × ((i : ℕ) → i < 64 → not (eqb (getD r i 0) 0) ≡ (not (eqb (getD marks i 0) 0) || ofBidder index i)) ⌝ }
+{
+    let mut more = marks;
+    let mut l: usize = 0;
+    while l < 8 {
+        more[8 * index + l] = 1;
+        l += 1;
+    }
+    more
+}
+
+// The marks with a bidder, or nobody, at the next slot: it has a slot now, and its row of the table is added.
+pub fn more_marks(table: &[u8], marks: [u8; 64], slot: Slot, bidder: Bidder) -> [u8; 64]
+    requires { ⌜ (length (now table) ≡ 4096) × (length marks ≡ 64) × ((0 < slot .0) × (slot .0 ≤ 8)) × (bidder .0 ≤ 8) ⌝ }
+    ensures { λ r. ⌜ ((k : ℕ) → suc k ≡ slot .0 → MarksAdded (now (table .entry)) marks k (bidder .0) r) ⌝ }
+{
+    if bidder.0 == 0 {
+        return marks;
+    }
+    let index = bidder.0 as usize - 1;
+    let row = 8 * index + (slot.0 as usize - 1);
+    mark_bidder(add_row(table, 64 * row, marks), index)
 }

@@ -1,15 +1,15 @@
 -- Why the search may leave a node whose bound is too small, and which choices at a slot lead somewhere. Assumes nothing.
 use Prim.Native.Nat.{ℕ, zero, suc, _+_, _*_, _-_, _<_, _≤_}
-use borrow.Author.Tests.{not-true, not-false}
-use mathlib.Core.Bool.{Bool, true, false, not, _&&_, cond}
+use borrow.Author.Tests.{eqb-true, not-true, not-false}
+use mathlib.Core.Bool.{Bool, true, false, not, _&&_, _||_, cond}
 use mathlib.Core.List.{List}
 use mathlib.Core.Logic.{_⊎_, inl, inr, ⊎-elim}
 use mathlib.Core.Path.{_≡_, refl, sym, _∙_, ap, ap₂, subst}
 use native.Mathlib.Nat.{not-suc-le-zero, eq-or-lt-of-le, le-of-suc-le-suc, mul-le-mul}
 use native.Mathlib.Omega.{arith}
-use lib.Dec.{ltb}
+use lib.Dec.{eqb, ltb}
 use lib.ListN.{length, getD}
-use Rattle.basis.proofs.TestLaws.{holds-or-fails, not-both, and-parts, and-fails}
+use Rattle.basis.proofs.TestLaws.{holds-or-fails, not-both, and-parts, and-fails, or-fails}
 use Rattle.sheet.specs.declared.Page.{Page}
 use Rattle.sheet.specs.declared.Round.{Round}
 use Rattle.choice.specs.Tables.{bidIn}
@@ -18,15 +18,15 @@ use Rattle.auction.specs.Broken.{breaks}
 use Rattle.auction.specs.Greedy.{bidOf, effectOf}
 use Rattle.auction.specs.Proper.{ProperRound}
 use Rattle.auction.proofs.PageLaws.{same-or-not, at-put-same, at-put-other, at-within, put-nobody}
-use Rattle.bound.specs.Bound.{sumFrom, slotAfter, addAfter, Falling, NoRise, Assigns, BoundHolds, listed}
-use Rattle.clash.specs.Clash.{clashes, clashesIn}
+use Rattle.bound.specs.Bound.{sumFrom, slotAfter, addAfter, Falling, NoRise, Assigns, BoundHolds, liveIn, listed}
+use Rattle.clash.specs.Clash.{clashes, clashesIn, BarredBy}
 use Rattle.optimal.specs.Best.{Allowed, total}
 use Rattle.optimal.specs.Search.{Searched}
-use Rattle.optimal.specs.Node.{TablesOf, Node, Agrees, Tried, mayStand}
-use Rattle.bound.proofs.BoundLaws.{bound-holds}
+use Rattle.optimal.specs.Node.{TablesOf, Node, Agrees, Tried, mayStand, openTo}
+use Rattle.bound.proofs.BoundLaws.{bound-holds, open-live}
 use Rattle.clash.proofs.ClashLaws.{breaks-added, table-clashes}
 use Rattle.optimal.proofs.SearchLaws.{searched-none}
-use Rattle.optimal.proofs.NodeLaws.{node-assigns, node-total, node-next, placed-nowhere, broken-nowhere}
+use Rattle.optimal.proofs.NodeLaws.{later-unplaced, node-assigns, node-total, node-next, placed-nowhere, broken-later, broken-nowhere}
 use Rattle.optimal.proofs.StepLaws.{leaf-found, leaf-small}
 
 -- sums of the same bids and effects
@@ -94,24 +94,53 @@ module _ (r : Round) (clashes ranked bids effects : List ℕ) (bidders slots : �
       subst (λ (n : ℕ). Searched r (Agrees p n) need page need page) (sym same)
       (leaf-small r p had need page (subst (λ (n : ℕ). Node r p n had) same w) l)
 
+  -- the table tells whether a bidder at a slot left breaks a constraint
+  told : (b j : ℕ) → 0 < b → b ≤ bidders → placed p b ≡ false → k ≤ j → j < slots → breaks r (put p (suc j) b) ≡ clashesIn clashes p (suc j) b
+  told b j s m free past inside =
+      let eight = v .few-bidders in
+      let n = v .bidders-are in
+      let short = v .few-slots in
+      breaks-added r (v .proper) p (suc j) b (w .page .sized) (omega arith) (omega arith) (λ i l. w .later i (omega arith)) free (λ z. absurd (omega arith)) (w .unbroken)
+      ∙ sym
+      (table-clashes r clashes (v .table) (v .proper) p (suc j) b (omega arith) (omega arith) s (omega arith)
+      (λ i. (let h = w .page .bidders i in omega arith)) free (w .page .sized) (w .later (suc j) (omega arith)) (w .unbroken))
+
+  -- who stands at a slot left of an allowed page is not barred from it
+  open-later : (marks : List ℕ) → BarredBy clashes p k marks → (q : Page) → Agrees p k q → Allowed r q → (j : ℕ) → k ≤ j → j < slots →
+      (at q (suc j) ≡ 0 → ⊥) → liveIn marks k slots (at q (suc j)) ≡ true
+  open-later marks barred q f ok j past inside s =
+      let b = at q (suc j) in
+      let low : b ≤ bidders = (let h = ok .page .bidders (suc j) in let n = v .bidders-are in omega arith) in
+      let eight = v .few-bidders in
+      let short = v .few-slots in
+      let free : placed p b ≡ false = later-unplaced r p k had w q f ok j past s in
+      let whole : breaks r (put p (suc j) b) ≡ false = broken-later r (v .proper) p k had w q f ok j b past (omega arith) refl in
+      let apart : clashesIn clashes p (suc j) b ≡ false = sym (told b j (omega arith) low free past inside) ∙ whole in
+      open-live marks b k slots j past inside
+      (eqb-true (getD marks (8 * (b - 1) + j) 0) 0
+      (not-false (eqb (getD marks (8 * (b - 1) + j) 0) 0)
+      (ap (λ (n : ℕ). not (eqb (getD marks (8 * (b - 1) + n) 0) 0)) (let e : j ≡ suc j - 1 = omega arith in e)
+      ∙ barred .told b (suc j) (omega arith) (omega arith) (omega arith) (omega arith)
+      ∙ or-fails free apart)))
+
   -- the bound is too small
-  pub bound-small : (need : ℕ) (page : Page) →
-      had + addAfter (λ b. not (placed p b)) (listed ranked) (bidIn bids) (listed effects) k slots bidders < need →
+  pub bound-small : (need : ℕ) (page : Page) (marks : List ℕ) → BarredBy clashes p k marks →
+      had + addAfter (liveIn marks k slots) (listed ranked) (bidIn bids) (listed effects) k slots bidders < need →
       Searched r (Agrees p k) need page need page
   unfolding BoundHolds listed
-  bound-small need page l =
+  bound-small need page marks barred l =
       searched-none r (Agrees p k) need page
       (λ q f ok.
       let left = slots - k in
       let end : k + left ≡ slots = (let a = w .room in let b = v .slots-are in omega arith) in
       let many = v .bidders-are in
-      let assigns = node-assigns r p k had left (λ i. getD ranked i 0) w (end ∙ sym (v .slots-are))
+      let assigns = node-assigns r p k had left (λ i. getD ranked i 0) (liveIn marks k slots) w (end ∙ sym (v .slots-are))
       (λ b s m.
       let a = v .ranking .everybody b s (omega arith) in
       (a .0, (let h : a .0 < bidders = a .1 in omega arith), a .2))
-      q f ok in
-      let assigns′ = subst (λ (n : ℕ). Assigns (λ b. not (placed p b)) (λ i. getD ranked i 0) n k (k + left) (λ j. at q (suc j))) many assigns in
-      let most = bound-holds (λ b. not (placed p b)) (listed ranked) (bidIn bids) (listed effects) bidders k left (bids-zero bids)
+      q f ok (λ j h g s. open-later marks barred q f ok j h (omega arith) s) in
+      let assigns′ = subst (λ (n : ℕ). Assigns (liveIn marks k slots) (λ i. getD ranked i 0) n k (k + left) (λ j. at q (suc j))) many assigns in
+      let most = bound-holds (liveIn marks k slots) (listed ranked) (bidIn bids) (listed effects) bidders k left (bids-zero bids)
       (λ i h z. absurd (let a = v .ranking .some i h .0 in let e : getD ranked i 0 ≡ 0 = z in omega arith))
       (λ i j h g e. v .ranking .once i j h g e)
       (λ i j h g.
@@ -127,19 +156,8 @@ module _ (r : Round) (clashes ranked bids effects : List ℕ) (bidders slots : �
       (λ j. at q (suc j)) assigns′ in
       let sum = sum-same (bidIn bids) (bidOf r) (listed effects) (λ j. effectOf r (suc j)) (λ j. at q (suc j)) k left (v .bids-are) (v .effects-are) in
       let whole = node-total r p k had left w (end ∙ sym (v .slots-are)) q f in
-      let within = subst (λ (m : ℕ). sumFrom (bidIn bids) (listed effects) (λ j. at q (suc j)) k left ≤ addAfter (λ b. not (placed p b)) (listed ranked) (bidIn bids) (listed effects) k m bidders) end most in
+      let within = subst (λ (m : ℕ). sumFrom (bidIn bids) (listed effects) (λ j. at q (suc j)) k left ≤ addAfter (liveIn marks k slots) (listed ranked) (bidIn bids) (listed effects) k m bidders) end most in
       omega arith)
-
-  -- the table tells whether a bidder at the next slot breaks a constraint
-  told : (b : ℕ) → 0 < b → b ≤ bidders → placed p b ≡ false → k < slots → breaks r (put p (suc k) b) ≡ clashesIn clashes p (suc k) b
-  told b s m free inside =
-      let eight = v .few-bidders in
-      let n = v .bidders-are in
-      let short = v .few-slots in
-      breaks-added r (v .proper) p (suc k) b (w .page .sized) (omega arith) (omega arith) (λ i l. w .later i l) free (λ z. absurd (omega arith)) (w .unbroken)
-      ∙ sym
-      (table-clashes r clashes (v .table) p (suc k) b (omega arith) (omega arith) s (omega arith)
-      (λ i. (let h = w .page .bidders i in omega arith)) free (w .page .sized) (w .later (suc k) (omega arith)))
 
   -- a choice that may stand is a node
   pub may-node : (b : ℕ) → k < slots → b ≤ bidders → mayStand clashes p (suc k) b ≡ true →
@@ -157,7 +175,7 @@ module _ (r : Round) (clashes ranked bids effects : List ℕ) (bidders slots : �
           let parts = and-parts (not (placed p (suc b))) (not (clashesIn clashes p (suc k) (suc b))) e in
           let free = not-true (placed p (suc b)) (parts .0) in
           node-next r p k had (suc b) w few (let a = v .slots-are in omega arith) (let a = v .bidders-are in omega arith) (inr free)
-          (told (suc b) (omega arith) m free inside ∙ not-true (clashesIn clashes p (suc k) (suc b)) (parts .1))
+          (told (suc b) k (omega arith) m free (omega arith) inside ∙ not-true (clashesIn clashes p (suc k) (suc b)) (parts .1))
 
   -- and one that may not leads to no allowed page
   pub may-not : (b : ℕ) → k < slots → b ≤ bidders → mayStand clashes p (suc k) b ≡ false →
@@ -172,7 +190,27 @@ module _ (r : Round) (clashes ranked bids effects : List ℕ) (bidders slots : �
       ⊎-elim
       (λ (u : not (placed p (suc b)) ≡ false). not-both (not-false (placed p (suc b)) u) t)
       (λ (u : not (clashesIn clashes p (suc k) (suc b)) ≡ false).
-      broken-nowhere r (v .proper) p k had (suc b) w inside′
-      (told (suc b) (omega arith) m t inside ∙ not-false (clashesIn clashes p (suc k) (suc b)) u) q f ok)
+      broken-nowhere r (v .proper) p k had (suc b) w inside′ few
+      (told (suc b) k (omega arith) m t (omega arith) inside ∙ not-false (clashesIn clashes p (suc k) (suc b)) u) q f ok)
       (and-fails (not (placed p (suc b))) (not (clashesIn clashes p (suc k) (suc b))) e))
       (holds-or-fails (placed p (suc b)))
+
+-- the marks tell who may stand
+not-twice : (e : Bool) → e ≡ not (not e)
+not-twice true = refl
+not-twice false = refl
+
+neither : (a b : Bool) → not (a || b) ≡ (not a && not b)
+neither true b = refl
+neither false b = refl
+
+pub open-may : (table marks : List ℕ) (p : Page) (k b : ℕ) → BarredBy table p k marks → suc k ≤ 8 → b ≤ 8 →
+    openTo marks (suc k) b ≡ mayStand table p (suc k) b
+unfolding openTo mayStand
+open-may table marks p k zero barred short few = refl
+open-may table marks p k (suc b) barred short few =
+    not-twice (eqb (getD marks (8 * b + (suc k - 1)) 0) 0)
+    ∙ ap not
+    (ap (λ (n : ℕ). not (eqb (getD marks (8 * n + (suc k - 1)) 0) 0)) (let e : b ≡ suc b - 1 = omega arith in e)
+    ∙ barred .told (suc b) (suc k) (omega arith) few (omega arith) short)
+    ∙ neither (placed p (suc b)) (clashesIn table p (suc k) (suc b))

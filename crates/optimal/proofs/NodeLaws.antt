@@ -78,33 +78,35 @@ module _ (r : Round) where
   unfolding total
   leaf-total p had v = sym (v .had-is)
 
-  -- an allowed page that agrees with a node gives the slots left free bidders, each once
-  pub node-assigns : (p : Page) (k had left : ℕ) (ranked : ℕ → ℕ) → Node r p k had → k + left ≡ r .slots →
+  -- who stands at a slot left has no settled one
+  pub later-unplaced : (p : Page) (k had : ℕ) → Node r p k had → (q : Page) → Agrees p k q → Allowed r q → (j : ℕ) → k ≤ j → (at q (suc j) ≡ 0 → ⊥) →
+      placed p (at q (suc j)) ≡ false
+  later-unplaced p k had v q f ok j l s =
+      fails (placed p (at q (suc j)))
+      (λ t.
+      let x = placed-where p (at q (suc j)) t in
+      let settled : x .0 ≤ k
+      = ⊎-elim
+      (λ (a : k < x .0). absurd (s (sym (x .3) ∙ v .later (x .0) a)))
+      (λ (a : x .0 ≤ k). a)
+      (below-or-not k (x .0)) in
+      let same : suc j ≡ x .0 = ok .page .once (suc j) (x .0) s (sym (f (x .0) settled ∙ x .3)) in
+      absurd (omega arith))
+
+  -- an allowed page that agrees with a node gives the slots left bidders, each once, that pass a test that all of those pass
+  pub node-assigns : (p : Page) (k had left : ℕ) (ranked : ℕ → ℕ) (free : ℕ → Bool) → Node r p k had → k + left ≡ r .slots →
       ((b : ℕ) → 0 < b → b ≤ r .bidders → (i : ℕ) × (i < r .bidders) × (ranked i ≡ b)) →
-      (q : Page) → Agrees p k q → Allowed r q → Assigns (λ b. not (placed p b)) ranked (r .bidders) k (k + left) (λ j. at q (suc j))
-  node-assigns p k had left ranked v end everybody q f ok =
+      (q : Page) → Agrees p k q → Allowed r q →
+      ((j : ℕ) → k ≤ j → j < k + left → (at q (suc j) ≡ 0 → ⊥) → free (at q (suc j)) ≡ true) →
+      Assigns free ranked (r .bidders) k (k + left) (λ j. at q (suc j))
+  node-assigns p k had left ranked free v end everybody q f ok able =
       record {
         ranked = λ j l m.
             ⊎-elim
             (λ (z : at q (suc j) ≡ 0). inl z)
             (λ (s : at q (suc j) ≡ 0 → ⊥).
             let w = everybody (at q (suc j)) (omega arith) (ok .page .bidders (suc j)) in
-            inr (
-              w .0,
-              w .1,
-              w .2,
-              not-holds
-                  (fails (placed p (at q (suc j)))
-                  (λ t.
-                  let x = placed-where p (at q (suc j)) t in
-                  let settled : x .0 ≤ k
-                  = ⊎-elim
-                  (λ (a : k < x .0). absurd (s (sym (x .3) ∙ v .later (x .0) a)))
-                  (λ (a : x .0 ≤ k). a)
-                  (below-or-not k (x .0)) in
-                  let same : suc j ≡ x .0 = ok .page .once (suc j) (x .0) s (sym (f (x .0) settled ∙ x .3)) in
-                  absurd (omega arith))),
-            ))
+            inr (w .0, w .1, w .2, able j l m s))
             (same-or-not (at q (suc j)) 0);
         once = λ i j a b c d s e. (let same = ok .page .once (suc i) (suc j) s e in omega arith);
       }
@@ -170,11 +172,6 @@ module _ (r : Round) where
           not-both (placed-at p b i (place .0) (place .1) there) u)
           free
 
-  -- a page that agrees with a node keeps what stands there
-  agrees-keeps : (p : Page) (k had : ℕ) → ((j : ℕ) → k < j → at p j ≡ 0) → (q : Page) → Agrees p k q → Keeps p q
-  agrees-keeps p k had later q f j s =
-      ⊎-elim (λ (l : k < j). absurd (s (later j l))) (λ (l : j ≤ k). f j l) (below-or-not k j)
-
   -- a choice that is placed already, or breaks a constraint, leads to no allowed page
   pub placed-nowhere : (p : Page) (k had b : ℕ) → Node r p k had → r .slots ≤ 16 → k < r .slots → (b ≡ 0 → ⊥) → placed p b ≡ true →
       (q : Page) → Agrees (put p (suc k) b) (suc k) q → Allowed r q → ⊥
@@ -187,17 +184,32 @@ module _ (r : Round) where
       let same = ok .page .once (w .0) (suc k) (λ z. s (sym there ∙ z)) (there ∙ sym here) in
       absurd (omega arith)
 
-  pub broken-nowhere : ProperRound r → (p : Page) (k had b : ℕ) → Node r p k had → k < r .slots → breaks r (put p (suc k) b) ≡ true →
-      (q : Page) → Agrees (put p (suc k) b) (suc k) q → Allowed r q → ⊥
-  broken-nowhere c p k had b v inside t q f ok =
-      let w = breaks-where r (put p (suc k) b) t in
+  -- a page that agrees with a node and has b at a slot left breaks what the node with b there breaks
+  pub broken-later : ProperRound r → (p : Page) (k had : ℕ) → Node r p k had → (q : Page) → Agrees p k q → Allowed r q →
+      (j b : ℕ) → k ≤ j → suc j ≤ 16 → at q (suc j) ≡ b → breaks r (put p (suc j) b) ≡ false
+  broken-later c p k had v q f ok j b l room here =
+      fails (breaks r (put p (suc j) b))
+      (λ t.
+      let w = breaks-where r (put p (suc j) b) t in
       not-both
-      (breaks-at r q (w .0) (w .1)
-      (broken-stays (put p (suc k) b) q (w .0)
-      (agrees-keeps (put p (suc k) b) (suc k) had
-      (λ j l. at-put-other p (suc k) b j (λ e. absurd (omega arith)) ∙ v .later j (omega arith)) q f)
-      (c .proper (w .0) (w .1)) (w .2)))
-      (ok .unbroken)
+      (breaks-at r q (w .0) (w .1) (broken-stays (put p (suc j) b) q (w .0) kept (c .proper (w .0) (w .1)) (w .2)))
+      (ok .unbroken))
+    where
+      kept : Keeps (put p (suc j) b) q
+      kept i s =
+          ⊎-elim
+          (λ (e : i ≡ suc j). ap (at q) e ∙ here ∙ sym (ap (at (put p (suc j) b)) e ∙ at-put-same p (suc j) b (v .page .sized) (omega arith) room))
+          (λ (d : i ≡ suc j → ⊥).
+          let same = at-put-other p (suc j) b i d in
+          ⊎-elim (λ (a : k < i). absurd (s (same ∙ v .later i a))) (λ (a : i ≤ k). f i a ∙ sym same) (below-or-not k i))
+          (same-or-not i (suc j))
+
+  pub broken-nowhere : ProperRound r → (p : Page) (k had b : ℕ) → Node r p k had → k < r .slots → r .slots ≤ 16 → breaks r (put p (suc k) b) ≡ true →
+      (q : Page) → Agrees (put p (suc k) b) (suc k) q → Allowed r q → ⊥
+  broken-nowhere c p k had b v inside few t q f ok =
+      not-both t
+      (broken-later c p k had v q (λ j l. f j (omega arith) ∙ at-put-other p (suc k) b j (λ e. absurd (omega arith))) ok k b (omega arith) (omega arith)
+      (f (suc k) (omega arith) ∙ at-put-same p (suc k) b (v .page .sized) (omega arith) (omega arith)))
 
 -- Choices at the next slot are tried in rising order, so what is tried first comes first.
 pub tried-part : (p : Page) (k b : ℕ) → Sized p → suc k ≤ 16 → (q : Page) → Tried p k (suc b) q → Tried p k b q ⊎ Agrees (put p (suc k) b) (suc k) q

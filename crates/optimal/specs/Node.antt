@@ -1,6 +1,7 @@
 -- A node of the search: a page whose first k slots are settled, and the pages that it can become.
-use Prim.Native.Nat.{ℕ, zero, suc, _+_, _*_, _<_, _≤_}
+use Prim.Native.Nat.{ℕ, zero, suc, _+_, _*_, _-_, _<_, _≤_}
 use mathlib.Core.Bool.{Bool, true, false, not, _&&_}
+use lib.Dec.{eqb}
 use lib.ListN.{length, getD}
 use mathlib.Core.List.{List}
 use mathlib.Core.Path.{_≡_}
@@ -55,6 +56,11 @@ Tried p k b q = Agrees p k q × (at q (suc k) < b)
 unfoldable pub mayStand : List ℕ → Page → ℕ → ℕ → Bool
 mayStand table p k zero = true
 mayStand table p k (suc b) = not (placed p (suc b)) && not (clashesIn table p k (suc b))
+
+-- the same by the marks of who is barred, 8 slots a bidder
+unfoldable pub openTo : List ℕ → ℕ → ℕ → Bool
+openTo marks k zero = true
+openTo marks k (suc b) = eqb (getD marks (8 * b + (k - 1)) 0) 0
 
 -- sizes and ranges of what the search is lent
 pub record Lent (clashes ranked bids effects : List ℕ) (bidders slots : ℕ) : Type 0 where

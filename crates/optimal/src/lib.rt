@@ -12,7 +12,8 @@ ghost use Rattle.optimal.specs.Call.{BestGiven};
 ghost use Rattle.choice.specs.Tables.{bidIn};
 ghost use Rattle.auction.specs.Page.{at, Sized};
 ghost use Rattle.bound.specs.Bound.{listed};
-ghost use Rattle.optimal.specs.Node.{mayStand, Lent, Attempt, totalIn};
+ghost use Rattle.clash.specs.Clash.{BarredBy};
+ghost use Rattle.optimal.specs.Node.{openTo, Lent, Attempt, totalIn};
 use sheet::Bidder;
 use sheet::Page;
 use sheet::Round;
@@ -30,22 +31,16 @@ pub struct Chosen {
     pub total: u64,
 }
 
-// Whether a bidder may stand at the next slot: nobody may, and a bidder that has no slot and clashes with nobody on the page.
-fn may_stand(clashes: &[u8], page: Page, slot: Slot, bidder: Bidder) -> bool
-    requires { ⌜ (length (now clashes) ≡ 4096) × ((0 < slot .0) × (slot .0 ≤ 8)) × (bidder .0 ≤ 8) ⌝ }
-    requires { ⌜ ((k : ℕ) → at page k ≤ 8) ⌝ }
-    ensures { λ r. ⌜ r ≡ mayStand (now (clashes .entry)) page (slot .0) (bidder .0) ⌝ }
+// Whether a bidder may stand at the next slot, by the marks: nobody may, and a bidder that is not barred.
+fn may_stand(marks: [u8; 64], slot: Slot, bidder: Bidder) -> bool
+    requires { ⌜ (length marks ≡ 64) × ((0 < slot .0) × (slot .0 ≤ 8)) × (bidder .0 ≤ 8) ⌝ }
+    ensures { λ r. ⌜ r ≡ openTo marks (slot .0) (bidder .0) ⌝ }
 {
     if bidder.0 == 0 {
         return true;
     }
-    if auction::is_placed(page, bidder) {
-        return false;
-    }
-    if clash::clashes_at(clashes, page, slot, bidder) {
-        return false;
-    }
-    true
+    let at = 8 * (bidder.0 as usize - 1) + (slot.0 as usize - 1);
+    marks[at] == 0
 }
 
 // What a bidder, or nobody, adds at a slot.
@@ -72,11 +67,13 @@ fn search(
     slots: usize,
     from: usize,
     page: Page,
+    marks: [u8; 64],
     had: u64,
     answer: Answer,
 ) -> Answer
     requires { ⌜ Lent (now clashes) (now ranked) (now bids) (now effects) bidders slots ⌝ }
     requires { ⌜ (from ≤ slots) × ((k : ℕ) → at page k ≤ 8) × (had ≤ from * 1000000000000000) × Sized page ⌝ }
+    requires { ⌜ BarredBy (now clashes) page from marks × ((k : ℕ) → from < k → at page k ≡ 0) ⌝ }
     ensures { λ r. ⌜ Attempt (now (clashes .entry)) (now (ranked .entry)) (now (bids .entry)) (now (effects .entry)) bidders slots from page had (answer .need) (answer .page) (r .need) (r .page) ⌝ }
 {
     if from == slots {
@@ -88,7 +85,7 @@ fn search(
         }
         return answer;
     }
-    let most = had + bound::most_added(page, ranked, bids, effects, from, slots);
+    let most = had + bound::most_added(marks, ranked, bids, effects, from, slots);
     if most < answer.need {
         return answer;
     }
@@ -97,8 +94,9 @@ fn search(
     let mut b: u8 = 0;
     while b <= bidders {
         let bidder = Bidder(b);
-        if may_stand(clashes, page, slot, bidder) {
+        if may_stand(marks, slot, bidder) {
             let next = auction::with_bidder(page, slot, bidder);
+            let more = clash::more_marks(clashes, marks, slot, bidder);
             best = search(
                 clashes,
                 ranked,
@@ -108,6 +106,7 @@ fn search(
                 slots,
                 from + 1,
                 next,
+                more,
                 had + adds(bids, effects, bidder, from),
                 best,
             );
@@ -148,6 +147,7 @@ fn best_page(round: Round) -> Answer
     let mut table = [0u8; 4096];
     clash::fill_table(&mut table, round);
     let page = auction::empty_page();
+    let marks = clash::first_marks(&table);
     search(
         &table,
         &ranked[..bidders],
@@ -157,6 +157,7 @@ fn best_page(round: Round) -> Answer
         slots,
         0,
         page,
+        marks,
         0,
         Answer { page, need },
     )

@@ -1,7 +1,6 @@
 -- `bound::most_added` meets its contract: `slot` is always the slot index after the ranked bidders passed, and `sum` what they
 -- add, at most 10 ^ 15 each. Assumes nothing.
 use Prim.Native.Nat.{ℕ, zero, suc, _+_, _*_, _-_, _<_, _≤_}
-use borrow.Author.Tests.{not-true, not-false}
 use mathlib.Core.Bool.{Bool, true, false, not}
 use mathlib.Core.List.{List}
 use mathlib.Core.Logic.{_⊎_, inl, inr, ⊎-elim}
@@ -10,18 +9,11 @@ use native.Mathlib.Nat.{mul-le-mul}
 use native.Mathlib.Numerals.{add-one}
 use native.Mathlib.Omega.{arith}
 use lib.ListN.{length, getD}
-use Rattle.basis.proofs.TestLaws.{not-holds, not-fails}
-use Rattle.sheet.specs.declared.Page.{Page}
 use Rattle.choice.specs.Tables.{bidIn}
-use Rattle.auction.specs.Page.{placed}
-use Rattle.bound.specs.Bound.{slotAfter, addAfter, listed}
+use Rattle.bound.specs.Bound.{slotAfter, addAfter, liveIn, listed}
 use Rattle.bound.proofs.BoundLaws.{slot-taken, add-taken, slot-kept, add-kept}
 use Rattle.bound.proofs.most_added.Statement.{statement}
 use Rattle.bound.proofs.most_added.Tie as tie
-
--- who has no slot on the page
-abbrev free : Page → ℕ → Bool
-free page b = not (placed page b)
 
 -- a bidder's bid by its index
 bid-at : (bids : List ℕ) (b : ℕ) → 0 < b → bidIn bids b ≡ getD bids (b - 1) 0
@@ -34,52 +26,52 @@ product-fits : (b e : ℕ) → b ≤ 1000000000 → e ≤ 1000000 → b * e ≤ 
 product-fits b e p q = mul-le-mul p q
 
 -- `slot` is the next slot index after the first i ranked bidders, and `sum` what they add
-record Added (page : Page) (ranked bids effects : List ℕ) (from slots sum slot i : ℕ) : Type 0 where
-  next-slot : slot ≡ slotAfter (free page) (listed ranked) from slots i
-  so-far : sum ≡ addAfter (free page) (listed ranked) (bidIn bids) (listed effects) from slots i
+record Added (marks ranked bids effects : List ℕ) (from slots sum slot i : ℕ) : Type 0 where
+  next-slot : slot ≡ slotAfter (liveIn marks from slots) (listed ranked) from slots i
+  so-far : sum ≡ addAfter (liveIn marks from slots) (listed ranked) (bidIn bids) (listed effects) from slots i
   fits : sum ≤ i * 1000000000000000
   room : i ≤ length ranked
 
-module _ (page : Page) (ranked bids effects : List ℕ) (from slots sum slot i : ℕ)
-    (h : Added page ranked bids effects from slots sum slot i) (l : i < length ranked) where
-  -- a bidder on the page, or one that finds no slot, adds nothing
-  skipped-adds : (placed page (getD ranked i 0) ≡ true) ⊎ (slots ≤ slot) → Added page ranked bids effects from slots sum slot (i + 1)
+module _ (marks ranked bids effects : List ℕ) (from slots sum slot i : ℕ)
+    (h : Added marks ranked bids effects from slots sum slot i) (l : i < length ranked) where
+  -- a bidder that may get no slot, or finds none left, adds nothing
+  skipped-adds : (liveIn marks from slots (getD ranked i 0) ≡ false) ⊎ (slots ≤ slot) → Added marks ranked bids effects from slots sum slot (i + 1)
   unfolding listed
   skipped-adds why = record {
-    next-slot = rw add-one (h .next-slot ∙ sym (slot-kept (free page) (listed ranked) (bidIn bids) (listed effects) from slots i none));
-    so-far = rw add-one (h .so-far ∙ sym (add-kept (free page) (listed ranked) (bidIn bids) (listed effects) from slots i none));
+    next-slot = rw add-one (h .next-slot ∙ sym (slot-kept (liveIn marks from slots) (listed ranked) (bidIn bids) (listed effects) from slots i none));
+    so-far = rw add-one (h .so-far ∙ sym (add-kept (liveIn marks from slots) (listed ranked) (bidIn bids) (listed effects) from slots i none));
     fits = omega arith;
     room = omega arith;
   }
     where
-      none : (free page (listed ranked i) ≡ false) ⊎ (slots ≤ slotAfter (free page) (listed ranked) from slots i)
+      none : (liveIn marks from slots (listed ranked i) ≡ false) ⊎ (slots ≤ slotAfter (liveIn marks from slots) (listed ranked) from slots i)
       none =
           ⊎-elim
-          (λ (e : placed page (getD ranked i 0) ≡ true). inl (not-fails e))
+          (λ (e : liveIn marks from slots (getD ranked i 0) ≡ false). inl e)
           (λ (b : slots ≤ slot). let q = h .next-slot in inr (omega arith))
           why
 
-  -- a free bidder adds its bid times the effect of the next slot
-  free-adds : placed page (getD ranked i 0) ≡ false → slot < slots → 0 < getD ranked i 0 →
+  -- another one adds its bid times the effect of the next slot
+  free-adds : liveIn marks from slots (getD ranked i 0) ≡ true → slot < slots → 0 < getD ranked i 0 →
       getD bids (getD ranked i 0 - 1) 0 * getD effects slot 0 ≤ 1000000000000000 →
-      Added page ranked bids effects from slots (sum + getD bids (getD ranked i 0 - 1) 0 * getD effects slot 0) (slot + 1) (i + 1)
+      Added marks ranked bids effects from slots (sum + getD bids (getD ranked i 0 - 1) 0 * getD effects slot 0) (slot + 1) (i + 1)
   unfolding listed
   free-adds e b some low = record {
-    next-slot = rw (add-one slot, add-one i) (ap suc (h .next-slot) ∙ sym (slot-taken (free page) (listed ranked) (bidIn bids) (listed effects) from slots i unplaced room));
-    so-far = rw (add-one i) (added ∙ sym (add-taken (free page) (listed ranked) (bidIn bids) (listed effects) from slots i unplaced room));
+    next-slot = rw (add-one slot, add-one i) (ap suc (h .next-slot) ∙ sym (slot-taken (liveIn marks from slots) (listed ranked) (bidIn bids) (listed effects) from slots i live room));
+    so-far = rw (add-one i) (added ∙ sym (add-taken (liveIn marks from slots) (listed ranked) (bidIn bids) (listed effects) from slots i live room));
     fits = omega arith;
     room = omega arith;
   }
     where
-      unplaced : free page (listed ranked i) ≡ true
-      unplaced = not-holds e
+      live : liveIn marks from slots (listed ranked i) ≡ true
+      live = e
 
-      room : slotAfter (free page) (listed ranked) from slots i < slots
+      room : slotAfter (liveIn marks from slots) (listed ranked) from slots i < slots
       room = let q = h .next-slot in omega arith
 
       added : sum + getD bids (getD ranked i 0 - 1) 0 * getD effects slot 0
-          ≡ addAfter (free page) (listed ranked) (bidIn bids) (listed effects) from slots i
-          + bidIn bids (listed ranked i) * listed effects (slotAfter (free page) (listed ranked) from slots i)
+          ≡ addAfter (liveIn marks from slots) (listed ranked) (bidIn bids) (listed effects) from slots i
+          + bidIn bids (listed ranked i) * listed effects (slotAfter (liveIn marks from slots) (listed ranked) from slots i)
       added =
           ap₂
           _+_
@@ -87,10 +79,10 @@ module _ (page : Page) (ranked bids effects : List ℕ) (from slots sum slot i :
           (ap₂ _*_ (sym (bid-at bids (getD ranked i 0) some)) (ap (λ (j : ℕ). getD effects j 0) (h .next-slot)))
 
 abbrev Inv-loop : tie.InvT-loop
-Inv-loop page ranked bids effects from slots sum₀ slot₀ i₀ sum slot i = Added page ranked bids effects from slots sum slot i
+Inv-loop marks ranked bids effects from slots sum₀ slot₀ i₀ sum slot i = Added marks ranked bids effects from slots sum slot i
 
 abbrev μ-loop : tie.MeasureT-loop
-μ-loop page ranked bids effects from slots sum₀ slot₀ i₀ sum slot i = length ranked - i
+μ-loop marks ranked bids effects from slots sum₀ slot₀ i₀ sum slot i = length ranked - i
 
 loop-holds : tie.Need-loop-holds Inv-loop μ-loop
 unfolding slotAfter addAfter
@@ -99,8 +91,11 @@ loop-holds c = record { next-slot = refl; so-far = refl; fits = omega arith; roo
 shared-slice-read-number : tie.Need-shared-slice-read-number Inv-loop μ-loop
 shared-slice-read-number c = omega arith
 
-is-placed-requires : tie.Need-is-placed-requires Inv-loop μ-loop
-is-placed-requires c κs = tt
+is-live-requires : tie.Need-is-live-requires Inv-loop μ-loop
+is-live-requires c κs =
+    let p = c .before .before .before .before .before .before .before .pre in
+    let n = p .1 .0 (c .before .before .before .loop .i) (c .before .before .loop-test .taken) in
+    (p .0 .4, n .0, n .2, p .0 .2, p .0 .1)
 
 cast-bid : tie.Need-cast-bid Inv-loop μ-loop
 cast-bid c = omega (arith, c .before .before .before .before .before .before .before .before .before .pre .1 .0 (c .before .before .before .before .before .loop .i) (c .before .before .before .before .loop-test .taken))
@@ -149,13 +144,13 @@ loop-again c =
     (λ w.
     rw (w .6, w .7)
     (free-adds _ _ _ _ _ _ _ _ _ h l
-    (sym (w .2 .ensures) ∙ not-true _ (w .3 .taken))
+    (sym (w .2 .ensures) ∙ w .3 .taken)
     (w .0 .taken)
     (c .before .before .before .before .before .before .pre .1 .0 _ l .0)
     (product-fits _ _ (c .before .before .before .before .before .before .pre .1 .1 .0 _) (c .before .before .before .before .before .before .pre .1 .1 .1 _))))
     (λ u.
     ⊎-elim
-    (λ w. rw (w .4, w .5) (skipped-adds _ _ _ _ _ _ _ _ _ h l (inl (sym (w .2 .ensures) ∙ not-false _ (w .3 .left)))))
+    (λ w. rw (w .4, w .5) (skipped-adds _ _ _ _ _ _ _ _ _ h l (inl (sym (w .2 .ensures) ∙ w .3 .left))))
     (λ w. rw (w .1, w .2) (skipped-adds _ _ _ _ _ _ _ _ _ h l (inr (w .0 .left))))
     u)
     (c .if1 .came)
@@ -174,7 +169,7 @@ most-added-spec =
     μ-loop
     loop-holds
     shared-slice-read-number
-    is-placed-requires
+    is-live-requires
     cast-bid
     sub-bid
     mul-bid

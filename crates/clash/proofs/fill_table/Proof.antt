@@ -12,7 +12,7 @@ use Rattle.auction.specs.Broken.{constraintAt}
 use Rattle.auction.specs.Proper.{ProperRound}
 use Rattle.clash.specs.Clash.{clash, TableOf}
 use Rattle.clash.specs.Marks.{Entry, marked, marks}
-use Rattle.clash.proofs.MarkLaws.{someMarks, no-marks, marks-more, pairs-clash, alone-clash}
+use Rattle.clash.proofs.MarkLaws.{someMarks, no-marks, marks-more, entry-twice, pairs-clash, alone-clash}
 use Rattle.clash.proofs.fill_table.Statement.{statement}
 use Rattle.clash.proofs.fill_table.Tie as tie
 
@@ -28,12 +28,12 @@ unfolding marked
 filled r p table n past v =
     record {
       size = v .size;
-      pairs = λ b k j l b-some b-most k-some k-most j-some j-most l-some l-most others apart.
-          let i = entry b k j l b-some b-most k-some k-most j-some j-most l-some l-most in
-          all-marks b k j l i ∙ pairs-clash r p b k j l i apart;
       alone = λ b k b-some b-most k-some k-most.
-          let i = entry b k b k b-some b-most k-some k-most b-some b-most k-some k-most in
+          let i = entry-twice b k b-some b-most k-some k-most in
           all-marks b k b k i ∙ alone-clash r p b k i;
+      pairs = λ b k j l b-some b-most k-some k-most j-some j-most l-some l-most others apart first second.
+          all-marks j l b k (entry j l b k j-some j-most l-some l-most b-some b-most k-some k-most)
+          ∙ pairs-clash r p b k j l (entry b k j l b-some b-most k-some k-most j-some j-most l-some l-most) apart first second;
     }
   where
     all-marks : (b k j l : ℕ) → Entry b k j l → marked table b k j l ≡ someMarks r (r .used) b k j l

@@ -12,12 +12,12 @@ use Rattle.clash.proofs.mark_constraint.Tie as tie
 enum-known-kind : tie.Need-enum-known-kind
 enum-known-kind c = search needs
 
-mark-alone-requires : tie.Need-mark-alone-requires
-mark-alone-requires c κs =
+mark-requires : tie.Need-mark-requires
+mark-requires c κs =
     let p = c .before .before .before .before .before .before .pre in
     let owned = p .1 .owned in
     let named = subst (ProperKind (c .before .before .before .before .before .before .args .constraint .owner .0)) (c .before .before .kind .given .1) (p .1 .named) in
-    (p .0, omega arith, named .0)
+    (p .0, omega arith, named .0, omega arith, named .0)
 
 enum-known-kind-2 : tie.Need-enum-known-kind-2
 enum-known-kind-2 c = search needs
@@ -50,7 +50,7 @@ returns : tie.Need-returns
 unfolding marks
 returns c =
     λ b k j l i.
-    c .before .before .mark-alone .ensures b k j l i
+    c .before .before .mark .ensures b k j l i
     ∙ ap
     (λ (kind : Kind). marked (c .before .before .before .before .before .before .before .before .before .args .table .now) b k j l || marks kind (c .before .before .before .before .before .before .before .before .before .args .constraint .owner .0) b k j l)
     (sym (c .before .before .before .before .before .kind .given .1))
@@ -84,7 +84,7 @@ mark-constraint-spec =
     tie.close
     (tie.spec
     enum-known-kind
-    mark-alone-requires
+    mark-requires
     enum-known-kind-2
     mark-anywhere-requires
     enum-known-kind-3

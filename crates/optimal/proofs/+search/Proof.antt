@@ -2,7 +2,7 @@
 -- whose bound is too small has nothing; and else, after b turns of the loop, the first b choices for the next slot have been searched.
 -- Assumes nothing.
 use Prim.Native.Nat.{suc, _+_, _-_, _*_, _≤_}
-use mathlib.Core.Bool.{Bool, true, false, not}
+use mathlib.Core.Bool.{true, false}
 use mathlib.Core.List.{List}
 use mathlib.Core.Logic.{⊎-elim}
 use mathlib.Core.Path.{_≡_, refl, sym, _∙_, ap, subst}
@@ -12,14 +12,15 @@ use lib.ListN.{length}
 use Rattle.sheet.specs.declared.Page.{Page}
 use Rattle.sheet.specs.declared.Round.{Round}
 use Rattle.choice.specs.Tables.{bidIn}
-use Rattle.auction.specs.Page.{at, put, placed, Sized}
+use Rattle.auction.specs.Page.{at, put, Sized}
 use Rattle.auction.proofs.PageLaws.{same-or-not, put-sized, at-put-same, at-put-other, at-within}
-use Rattle.bound.specs.Bound.{addAfter, listed}
+use Rattle.bound.specs.Bound.{addAfter, liveIn, listed}
+use Rattle.clash.specs.Clash.{BarredBy, MarksAdded}
 use Rattle.optimal.specs.Search.{Searched}
-use Rattle.optimal.specs.Node.{TablesOf, Node, Agrees, Tried, mayStand, Lent, Attempt}
+use Rattle.optimal.specs.Node.{TablesOf, Node, Agrees, Tried, mayStand, openTo, Lent, Attempt}
 use Rattle.optimal.specs.declared.Answer.{Answer}
 use Rattle.optimal.proofs.StepLaws.{none-tried, choice-tried, choice-nowhere, all-tried}
-use Rattle.optimal.proofs.ChoiceLaws.{settled-found, settled-small, bound-small, may-node, may-not, added-low, product-low}
+use Rattle.optimal.proofs.ChoiceLaws.{settled-found, settled-small, bound-small, may-node, may-not, open-may, added-low, product-low}
 use Prim.Native.Nat.{ℕ, _<_}
 use borrow.Fn.Kinds.{In}
 use borrow.Fn.PlainCycle.{Measures, is, falls, and}
@@ -29,6 +30,7 @@ use Rattle.optimal.proofs.+search.Lts-search as search-lts
 use Rattle.auction.proofs.with_bidder.Reads as with-bidder-reads
 use Rattle.optimal.proofs.adds.Reads as adds-reads
 use Rattle.optimal.proofs.may_stand.Reads as may-stand-reads
+use Rattle.clash.proofs.more_marks.Reads as more-marks-reads
 use Rattle.bound.proofs.most_added.Reads as most-added-reads
 use Rattle.optimal.proofs.+search.{statement}
 use Rattle.optimal.proofs.+search.Tie.{close}
@@ -42,11 +44,18 @@ record Trying (clashes ranked bids effects : List ℕ) (bidders slots k : ℕ) (
 -- one choice more, which may stand and was searched, or may not
 module _ (clashes ranked bids effects : List ℕ) (bidders slots k : ℕ) (p : Page) (had : ℕ) (start best : Answer) (b : ℕ)
     (v : Trying clashes ranked bids effects bidders slots k p had start best b) (lent′ : Lent clashes ranked bids effects bidders slots)
-    (inside : k < slots) (listed′ : b ≤ bidders) where
+    (inside : k < slots) (listed′ : b ≤ bidders) (marks : List ℕ) (barred : BarredBy clashes p k marks) where
+  -- the marks tell whether it may stand
+  may-told : openTo marks (k + 1) b ≡ mayStand clashes p (k + 1) b
+  may-told =
+      let few = lent′ .few-bidders in
+      let short = lent′ .few-slots in
+      subst (λ (n : ℕ). openTo marks n b ≡ mayStand clashes p n b) (sym (add-one k)) (open-may clashes marks p k b barred (omega arith) (omega arith))
+
   room : suc k ≤ 16
   room = let d = lent′ .few-slots in omega arith
 
-  trying-tried : (found : Answer) (next : Page) (added : ℕ) → mayStand clashes p (k + 1) b ≡ true → next ≡ put p (k + 1) b →
+  trying-tried : (found : Answer) (next : Page) (added : ℕ) → openTo marks (k + 1) b ≡ true → next ≡ put p (k + 1) b →
       added ≡ bidIn bids b * listed effects k →
       Attempt clashes ranked bids effects bidders slots (k + 1) next (had + added) (best .need) (best .page) (found .need) (found .page) →
       Trying clashes ranked bids effects bidders slots k p had start found (b + 1)
@@ -56,7 +65,7 @@ module _ (clashes ranked bids effects : List ℕ) (bidders slots k : ℕ) (p : P
         most = omega arith;
         so-far = λ r t w.
             let node : Node r (put p (suc k) b) (suc k) (had + bidIn bids b * listed effects k)
-            = may-node r clashes ranked bids effects bidders slots t p k had w b inside listed′ (subst (λ (n : ℕ). mayStand clashes p n b ≡ true) one may) in
+            = may-node r clashes ranked bids effects bidders slots t p k had w b inside listed′ (subst (λ (n : ℕ). mayStand clashes p n b ≡ true) one (sym may-told ∙ may)) in
             let node′ : Node r next (k + 1) (had + added)
             = subst (λ (q : Page). Node r q (k + 1) (had + added)) (sym e)
             (subst (λ (n : ℕ). Node r (put p n b) n (had + added)) (sym one)
@@ -69,7 +78,7 @@ module _ (clashes ranked bids effects : List ℕ) (bidders slots k : ℕ) (p : P
             (choice-tried r p k (w .page .sized) room b (start .need) (start .page) (best .need) (best .page) (found .need) (found .page) (v .so-far r t w) below′);
       }
 
-  trying-skipped : mayStand clashes p (k + 1) b ≡ false → Trying clashes ranked bids effects bidders slots k p had start best (b + 1)
+  trying-skipped : openTo marks (k + 1) b ≡ false → Trying clashes ranked bids effects bidders slots k p had start best (b + 1)
   trying-skipped may-stay =
       record {
         most = omega arith;
@@ -77,17 +86,26 @@ module _ (clashes ranked bids effects : List ℕ) (bidders slots k : ℕ) (p : P
             subst (λ (n : ℕ). Searched r (Tried p k n) (start .need) (start .page) (best .need) (best .page)) (sym (add-one b))
             (choice-nowhere r p k (w .page .sized) room b (start .need) (start .page) (best .need) (best .page)
             (may-not r clashes ranked bids effects bidders slots t p k had w b inside listed′
-            (subst (λ (n : ℕ). mayStand clashes p n b ≡ false) (add-one k) may-stay))
+            (subst (λ (n : ℕ). mayStand clashes p n b ≡ false) (add-one k) (sym may-told ∙ may-stay)))
             (v .so-far r t w));
       }
 
 -- what the code compared is the bound
-bound-told : (p : Page) (ranked bids effects : List ℕ) (bidders k slots had added need : ℕ) → length ranked ≡ bidders →
-    added ≡ addAfter (λ b. not (placed p b)) (listed ranked) (bidIn bids) (listed effects) k slots (length ranked) → had + added < need →
-    had + addAfter (λ b. not (placed p b)) (listed ranked) (bidIn bids) (listed effects) k slots bidders < need
-bound-told p ranked bids effects bidders k slots had added need size e l =
-    subst (λ (x : ℕ). had + x < need)
-    (e ∙ ap (addAfter (λ b. not (placed p b)) (listed ranked) (bidIn bids) (listed effects) k slots) size) l
+bound-told : (marks ranked bids effects : List ℕ) (bidders k slots had added need : ℕ) → length ranked ≡ bidders →
+    added ≡ addAfter (liveIn marks k slots) (listed ranked) (bidIn bids) (listed effects) k slots (length ranked) → had + added < need →
+    had + addAfter (liveIn marks k slots) (listed ranked) (bidIn bids) (listed effects) k slots bidders < need
+bound-told marks ranked bids effects bidders k slots had added need size e l =
+    subst (λ (x : ℕ). had + x < need) (e ∙ ap (addAfter (liveIn marks k slots) (listed ranked) (bidIn bids) (listed effects) k slots) size) l
+
+-- the marks of the next page, whose later slots are empty too
+marks-next : (clashes marks more : List ℕ) (p next : Page) (k b : ℕ) → Sized p → next ≡ put p (k + 1) b →
+    ((i : ℕ) → suc i ≡ k + 1 → MarksAdded clashes marks i b more) → BarredBy clashes p k marks × ((j : ℕ) → k < j → at p j ≡ 0) →
+    BarredBy clashes next (k + 1) more × ((j : ℕ) → k + 1 < j → at next j ≡ 0)
+marks-next clashes marks more p next k b s e added was = (
+  subst (λ (q : Page). BarredBy clashes q (k + 1) more) (sym e)
+      (subst (λ (n : ℕ). BarredBy clashes (put p n b) n more) (sym (add-one k)) (added k (sym (add-one k)) p s (was .1 (suc k) (omega arith)) (was .0))),
+  λ j l. ap (λ (q : Page). at q j) e ∙ at-put-other p (k + 1) b j (λ x. absurd (omega arith)) ∙ was .1 j (omega arith),
+)
 
 -- a page with one bidder more has still only numbers up to 8
 put-low : (p : Page) (k b : ℕ) → Sized p → ((j : ℕ) → at p j ≤ 8) → b ≤ 8 → (j : ℕ) → at (put p k b) j ≤ 8
@@ -115,30 +133,30 @@ abbrev search-below : ℕ → In 4 search-kinds.ps
 search-below t = and 4 search-kinds.ps (falls 4 search-kinds.ps _<_ μ-search t) search′.Pre
 
 abbrev search-Inv-loop : search-lts.InvT-loop
-search-Inv-loop clashes ranked bids effects bidders slots from page had most slot best₀ b₀ best b =
+search-Inv-loop clashes ranked bids effects bidders slots from page marks had most slot best₀ b₀ best b =
     Trying clashes ranked bids effects bidders slots from page had best₀ best b
 
 abbrev search-μ-loop : search-lts.MeasureT-loop
-search-μ-loop clashes ranked bids effects bidders slots from page had most slot best₀ b₀ best b =
+search-μ-loop clashes ranked bids effects bidders slots from page marks had most slot best₀ b₀ best b =
     suc bidders - b
 
--- src/lib.rt:79:41
-search-add-t19 : (t : ℕ) → search-lts.Need-add-t19 (
+search-add-t21 : (t : ℕ) → search-lts.Need-add-t21 (
   most-added-reads.Asked,
   most-added-reads.Learnt,
   may-stand-reads.Asked,
   may-stand-reads.Learnt,
   with-bidder-reads.Asked,
   with-bidder-reads.Learnt,
+  more-marks-reads.Asked,
+  more-marks-reads.Learnt,
   adds-reads.Asked,
   adds-reads.Learnt,
   search-below t,
   search′.Post,
 ) (search-at t) search′.Post search-Inv-loop search-μ-loop
-search-add-t19 t c =
-    let l = c .before .before .before .before .before .before .before .pre .1 .0 in let p = c .before .before .before .before .before .before .before .pre .1 .1 .2 in let e = c .before .before .if1 .taken in let d = l .few-slots in omega arith
+search-add-t21 t c =
+    let l = c .before .before .before .before .before .before .before .pre .1 .0 in let p = c .before .before .before .before .before .before .before .pre .1 .1 .0 .2 in let e = c .before .before .if1 .taken in let d = l .few-slots in omega arith
 
--- src/lib.rt:79:13
 search-returns : (t : ℕ) → search-lts.Need-returns (
   most-added-reads.Asked,
   most-added-reads.Learnt,
@@ -146,6 +164,8 @@ search-returns : (t : ℕ) → search-lts.Need-returns (
   may-stand-reads.Learnt,
   with-bidder-reads.Asked,
   with-bidder-reads.Learnt,
+  more-marks-reads.Asked,
+  more-marks-reads.Learnt,
   adds-reads.Asked,
   adds-reads.Learnt,
   search-below t,
@@ -155,7 +175,6 @@ search-returns t c =
     λ r v w.
     settled-found r _ _ _ _ _ _ v _ _ _ w _ _ (c .before .before .if1 .taken) (c .if2 .taken)
 
--- src/lib.rt:81:9
 search-returns-2 : (t : ℕ) → search-lts.Need-returns-2 (
   most-added-reads.Asked,
   most-added-reads.Learnt,
@@ -163,6 +182,8 @@ search-returns-2 : (t : ℕ) → search-lts.Need-returns-2 (
   may-stand-reads.Learnt,
   with-bidder-reads.Asked,
   with-bidder-reads.Learnt,
+  more-marks-reads.Asked,
+  more-marks-reads.Learnt,
   adds-reads.Asked,
   adds-reads.Learnt,
   search-below t,
@@ -172,7 +193,6 @@ search-returns-2 t c =
     λ r v w.
     settled-small r _ _ _ _ _ _ v _ _ _ w _ _ (c .before .before .if1 .taken) (c .if2 .left)
 
--- src/lib.rt:83:22
 search-most-added-requires : (t : ℕ) → search-lts.Need-most-added-requires (
   most-added-reads.Asked,
   most-added-reads.Learnt,
@@ -180,6 +200,8 @@ search-most-added-requires : (t : ℕ) → search-lts.Need-most-added-requires (
   may-stand-reads.Learnt,
   with-bidder-reads.Asked,
   with-bidder-reads.Learnt,
+  more-marks-reads.Asked,
+  more-marks-reads.Learnt,
   adds-reads.Asked,
   adds-reads.Learnt,
   search-below t,
@@ -191,11 +213,10 @@ search-most-added-requires t c κs =
     let d = l .few-slots in
     let e = l .ranked-size in
     let g = l .bids-size in (
-      (omega arith, d, c .before .before .before .before .before .pre .1 .1 .0, l .effects-size),
-      ((λ i h. (l .ranked-range i (omega arith) .0, (let k = l .ranked-range i (omega arith) .1 in omega arith))), (l .bids-low, l .effects-low)),
+      (omega arith, d, c .before .before .before .before .before .pre .1 .1 .0 .0, l .effects-size, c .before .before .before .before .before .pre .1 .1 .1 .0 .size),
+      ((λ i h. (l .ranked-range i (omega arith) .0, (let k = l .ranked-range i (omega arith) .1 in omega arith), (let k = l .ranked-range i (omega arith) .1 in omega arith))), (l .bids-low, l .effects-low)),
     )
 
--- src/lib.rt:83:16
 search-add-most : (t : ℕ) → search-lts.Need-add-most (
   most-added-reads.Asked,
   most-added-reads.Learnt,
@@ -203,6 +224,8 @@ search-add-most : (t : ℕ) → search-lts.Need-add-most (
   may-stand-reads.Learnt,
   with-bidder-reads.Asked,
   with-bidder-reads.Learnt,
+  more-marks-reads.Asked,
+  more-marks-reads.Learnt,
   adds-reads.Asked,
   adds-reads.Learnt,
   search-below t,
@@ -213,13 +236,12 @@ search-add-most t c =
     let few = l .few-bidders in
     let short = l .few-slots in
     let size = l .ranked-size in
-    let p = c .before .before .before .before .before .before .pre .1 .1 .2 in
-    let q = c .before .before .before .before .before .before .pre .1 .1 .0 in
+    let p = c .before .before .before .before .before .before .pre .1 .1 .0 .2 in
+    let q = c .before .before .before .before .before .before .pre .1 .1 .0 .0 in
     let e = c .most-added .ensures in
-    let low = added-low (λ b. not (placed (c .before .before .before .before .before .before .args .page) b)) (listed (c .before .before .before .before .before .before .args .ranked .now)) (c .before .before .before .before .before .before .args .bids .now) (c .before .before .before .before .before .before .args .effects .now) (c .before .before .before .before .before .before .args .«from») (c .before .before .before .before .before .before .args .slots) (length (c .before .before .before .before .before .before .args .ranked .now)) (l .bids-low) (l .effects-low) in
+    let low = added-low (liveIn (c .before .before .before .before .before .before .args .marks) (c .before .before .before .before .before .before .args .«from») (c .before .before .before .before .before .before .args .slots)) (listed (c .before .before .before .before .before .before .args .ranked .now)) (c .before .before .before .before .before .before .args .bids .now) (c .before .before .before .before .before .before .args .effects .now) (c .before .before .before .before .before .before .args .«from») (c .before .before .before .before .before .before .args .slots) (length (c .before .before .before .before .before .before .args .ranked .now)) (l .bids-low) (l .effects-low) in
     omega arith
 
--- src/lib.rt:85:9
 search-returns-3 : (t : ℕ) → search-lts.Need-returns-3 (
   most-added-reads.Asked,
   most-added-reads.Learnt,
@@ -227,6 +249,8 @@ search-returns-3 : (t : ℕ) → search-lts.Need-returns-3 (
   may-stand-reads.Learnt,
   with-bidder-reads.Asked,
   with-bidder-reads.Learnt,
+  more-marks-reads.Asked,
+  more-marks-reads.Learnt,
   adds-reads.Asked,
   adds-reads.Learnt,
   search-below t,
@@ -234,42 +258,43 @@ search-returns-3 : (t : ℕ) → search-lts.Need-returns-3 (
 ) (search-at t) search′.Post search-Inv-loop search-μ-loop
 search-returns-3 t c =
     λ r v w.
-    bound-small r _ _ _ _ _ _ v _ _ _ w _ _
+    bound-small r _ _ _ _ _ _ v _ _ _ w _ _ (c .before .before .before .before .before .before .before .before .args .marks) (c .before .before .before .before .before .before .before .before .pre .1 .1 .1 .0)
     (bound-told _ _ _ _ _ _ _ _ _ _ (c .before .before .before .before .before .before .before .before .pre .1 .0 .ranked-size) (c .before .before .most-added .ensures) (c .if3 .taken))
 
--- src/lib.rt:87:22
-search-add-t21 : (t : ℕ) → search-lts.Need-add-t21 (
+search-add-t23 : (t : ℕ) → search-lts.Need-add-t23 (
   most-added-reads.Asked,
   most-added-reads.Learnt,
   may-stand-reads.Asked,
   may-stand-reads.Learnt,
   with-bidder-reads.Asked,
   with-bidder-reads.Learnt,
+  more-marks-reads.Asked,
+  more-marks-reads.Learnt,
   adds-reads.Asked,
   adds-reads.Learnt,
   search-below t,
   search′.Post,
 ) (search-at t) search′.Post search-Inv-loop search-μ-loop
-search-add-t21 t c =
-    let l = c .before .before .before .before .before .before .before .before .pre .1 .0 in let q = c .before .before .before .before .before .before .before .before .pre .1 .1 .0 in let d = l .few-slots in let f = l .few-bidders in omega arith
+search-add-t23 t c =
+    let l = c .before .before .before .before .before .before .before .before .pre .1 .0 in let q = c .before .before .before .before .before .before .before .before .pre .1 .1 .0 .0 in let d = l .few-slots in let f = l .few-bidders in omega arith
 
--- src/lib.rt:87:21
-search-cast-t22 : (t : ℕ) → search-lts.Need-cast-t22 (
+search-cast-t24 : (t : ℕ) → search-lts.Need-cast-t24 (
   most-added-reads.Asked,
   most-added-reads.Learnt,
   may-stand-reads.Asked,
   may-stand-reads.Learnt,
   with-bidder-reads.Asked,
   with-bidder-reads.Learnt,
+  more-marks-reads.Asked,
+  more-marks-reads.Learnt,
   adds-reads.Asked,
   adds-reads.Learnt,
   search-below t,
   search′.Post,
 ) (search-at t) search′.Post search-Inv-loop search-μ-loop
-search-cast-t22 t c =
-    let l = c .before .before .before .before .before .before .before .before .pre .1 .0 in let q = c .before .before .before .before .before .before .before .before .pre .1 .1 .0 in let d = l .few-slots in let f = l .few-bidders in omega arith
+search-cast-t24 t c =
+    let l = c .before .before .before .before .before .before .before .before .pre .1 .0 in let q = c .before .before .before .before .before .before .before .before .pre .1 .1 .0 .0 in let d = l .few-slots in let f = l .few-bidders in omega arith
 
--- src/lib.rt:90:5
 search-loop-holds : (t : ℕ) → search-lts.Need-loop-holds (
   most-added-reads.Asked,
   most-added-reads.Learnt,
@@ -277,19 +302,20 @@ search-loop-holds : (t : ℕ) → search-lts.Need-loop-holds (
   may-stand-reads.Learnt,
   with-bidder-reads.Asked,
   with-bidder-reads.Learnt,
+  more-marks-reads.Asked,
+  more-marks-reads.Learnt,
   adds-reads.Asked,
   adds-reads.Learnt,
   search-below t,
   search′.Post,
 ) (search-at t) search′.Post search-Inv-loop search-μ-loop
 search-loop-holds t c =
-    let l = c .before .before .before .before .before .before .before .before .pre .1 .0 in let q = c .before .before .before .before .before .before .before .before .pre .1 .1 .0 in let d = l .few-slots in let f = l .few-bidders in
+    let l = c .before .before .before .before .before .before .before .before .pre .1 .0 in let q = c .before .before .before .before .before .before .before .before .pre .1 .1 .0 .0 in let d = l .few-slots in let f = l .few-bidders in
     record {
       most = omega arith;
       so-far = λ r v w. none-tried r _ _ (w .page .sized) (omega arith) _ _;
     }
 
--- src/lib.rt:92:12
 search-may-stand-requires : (t : ℕ) → search-lts.Need-may-stand-requires (
   most-added-reads.Asked,
   most-added-reads.Learnt,
@@ -297,18 +323,19 @@ search-may-stand-requires : (t : ℕ) → search-lts.Need-may-stand-requires (
   may-stand-reads.Learnt,
   with-bidder-reads.Asked,
   with-bidder-reads.Learnt,
+  more-marks-reads.Asked,
+  more-marks-reads.Learnt,
   adds-reads.Asked,
   adds-reads.Learnt,
   search-below t,
   search′.Post,
 ) (search-at t) search′.Post search-Inv-loop search-μ-loop
 search-may-stand-requires t c κs =
-    let l = c .before .before .before .before .before .before .before .before .before .before .pre .1 .0 in let q = c .before .before .before .before .before .before .before .before .before .before .pre .1 .1 .0 in let d = l .few-slots in let f = l .few-bidders in
+    let l = c .before .before .before .before .before .before .before .before .before .before .pre .1 .0 in let q = c .before .before .before .before .before .before .before .before .before .before .pre .1 .1 .0 .0 in let d = l .few-slots in let f = l .few-bidders in
     let m = c .before .loop .inv .most in
     let n = c .before .before .before .before .before .if1 .left in
-    ((l .table-size, (omega arith, omega arith), omega arith), c .before .before .before .before .before .before .before .before .before .before .pre .1 .1 .1)
+    (c .before .before .before .before .before .before .before .before .before .before .pre .1 .1 .1 .0 .size, (omega arith, omega arith), omega arith)
 
--- src/lib.rt:93:17
 search-with-bidder-requires : (t : ℕ) → search-lts.Need-with-bidder-requires (
   most-added-reads.Asked,
   most-added-reads.Learnt,
@@ -316,15 +343,35 @@ search-with-bidder-requires : (t : ℕ) → search-lts.Need-with-bidder-requires
   may-stand-reads.Learnt,
   with-bidder-reads.Asked,
   with-bidder-reads.Learnt,
+  more-marks-reads.Asked,
+  more-marks-reads.Learnt,
   adds-reads.Asked,
   adds-reads.Learnt,
   search-below t,
   search′.Post,
 ) (search-at t) search′.Post search-Inv-loop search-μ-loop
 search-with-bidder-requires t c κs =
-    let l = c .before .before .before .before .before .before .before .before .before .before .before .before .pre .1 .0 in let q = c .before .before .before .before .before .before .before .before .before .before .before .before .pre .1 .1 .0 in let d = l .few-slots in let f = l .few-bidders in (omega arith, omega arith)
+    let l = c .before .before .before .before .before .before .before .before .before .before .before .before .pre .1 .0 in let q = c .before .before .before .before .before .before .before .before .before .before .before .before .pre .1 .1 .0 .0 in let d = l .few-slots in let f = l .few-bidders in (omega arith, omega arith)
 
--- src/lib.rt:94:75
+search-more-marks-requires : (t : ℕ) → search-lts.Need-more-marks-requires (
+  most-added-reads.Asked,
+  most-added-reads.Learnt,
+  may-stand-reads.Asked,
+  may-stand-reads.Learnt,
+  with-bidder-reads.Asked,
+  with-bidder-reads.Learnt,
+  more-marks-reads.Asked,
+  more-marks-reads.Learnt,
+  adds-reads.Asked,
+  adds-reads.Learnt,
+  search-below t,
+  search′.Post,
+) (search-at t) search′.Post search-Inv-loop search-μ-loop
+search-more-marks-requires t c κs =
+    let l = c .before .before .before .before .before .before .before .before .before .before .before .before .before .pre .1 .0 in let q = c .before .before .before .before .before .before .before .before .before .before .before .before .before .pre .1 .1 .0 .0 in let d = l .few-slots in let f = l .few-bidders in
+    let n = c .before .before .before .before .before .before .before .before .if1 .left in
+    (l .table-size, c .before .before .before .before .before .before .before .before .before .before .before .before .before .pre .1 .1 .1 .0 .size, (omega arith, omega arith), omega arith)
+
 search-add-search : (t : ℕ) → search-lts.Need-add-search (
   most-added-reads.Asked,
   most-added-reads.Learnt,
@@ -332,15 +379,16 @@ search-add-search : (t : ℕ) → search-lts.Need-add-search (
   may-stand-reads.Learnt,
   with-bidder-reads.Asked,
   with-bidder-reads.Learnt,
+  more-marks-reads.Asked,
+  more-marks-reads.Learnt,
   adds-reads.Asked,
   adds-reads.Learnt,
   search-below t,
   search′.Post,
 ) (search-at t) search′.Post search-Inv-loop search-μ-loop
 search-add-search t c =
-    let l = c .before .before .before .before .before .before .before .before .before .before .before .before .before .pre .1 .0 in let q = c .before .before .before .before .before .before .before .before .before .before .before .before .before .pre .1 .1 .0 in let d = l .few-slots in let f = l .few-bidders in omega arith
+    let l = c .before .before .before .before .before .before .before .before .before .before .before .before .before .before .pre .1 .0 in let q = c .before .before .before .before .before .before .before .before .before .before .before .before .before .before .pre .1 .1 .0 .0 in let d = l .few-slots in let f = l .few-bidders in omega arith
 
--- src/lib.rt:94:97
 search-adds-requires : (t : ℕ) → search-lts.Need-adds-requires (
   most-added-reads.Asked,
   most-added-reads.Learnt,
@@ -348,19 +396,20 @@ search-adds-requires : (t : ℕ) → search-lts.Need-adds-requires (
   may-stand-reads.Learnt,
   with-bidder-reads.Asked,
   with-bidder-reads.Learnt,
+  more-marks-reads.Asked,
+  more-marks-reads.Learnt,
   adds-reads.Asked,
   adds-reads.Learnt,
   search-below t,
   search′.Post,
 ) (search-at t) search′.Post search-Inv-loop search-μ-loop
 search-adds-requires t c κs =
-    let l = c .before .before .before .before .before .before .before .before .before .before .before .before .before .pre .1 .0 in let q = c .before .before .before .before .before .before .before .before .before .before .before .before .before .pre .1 .1 .0 in let d = l .few-slots in let f = l .few-bidders in
+    let l = c .before .before .before .before .before .before .before .before .before .before .before .before .before .before .pre .1 .0 in let q = c .before .before .before .before .before .before .before .before .before .before .before .before .before .before .pre .1 .1 .0 .0 in let d = l .few-slots in let f = l .few-bidders in
     let g = l .bids-size in
     let h = l .effects-size in
-    let n = c .before .before .before .before .before .before .before .before .if1 .left in
+    let n = c .before .before .before .before .before .before .before .before .before .if1 .left in
     ((omega arith, omega arith), (l .bids-low, l .effects-low))
 
--- src/lib.rt:94:91
 search-add-search-2 : (t : ℕ) → search-lts.Need-add-search-2 (
   most-added-reads.Asked,
   most-added-reads.Learnt,
@@ -368,19 +417,20 @@ search-add-search-2 : (t : ℕ) → search-lts.Need-add-search-2 (
   may-stand-reads.Learnt,
   with-bidder-reads.Asked,
   with-bidder-reads.Learnt,
+  more-marks-reads.Asked,
+  more-marks-reads.Learnt,
   adds-reads.Asked,
   adds-reads.Learnt,
   search-below t,
   search′.Post,
 ) (search-at t) search′.Post search-Inv-loop search-μ-loop
 search-add-search-2 t c =
-    let l = c .before .before .before .before .before .before .before .before .before .before .before .before .before .before .pre .1 .0 in let q = c .before .before .before .before .before .before .before .before .before .before .before .before .before .before .pre .1 .1 .0 in let d = l .few-slots in let f = l .few-bidders in
-    let p = c .before .before .before .before .before .before .before .before .before .before .before .before .before .before .pre .1 .1 .2 in
+    let l = c .before .before .before .before .before .before .before .before .before .before .before .before .before .before .before .pre .1 .0 in let q = c .before .before .before .before .before .before .before .before .before .before .before .before .before .before .before .pre .1 .1 .0 .0 in let d = l .few-slots in let f = l .few-bidders in
+    let p = c .before .before .before .before .before .before .before .before .before .before .before .before .before .before .before .pre .1 .1 .0 .2 in
     let e = c .adds .ensures in
-    let low = product-low (c .before .before .before .before .before .before .before .before .before .before .before .before .before .before .args .bids .now) (c .before .before .before .before .before .before .before .before .before .before .before .before .before .before .args .effects .now) (c .before .before .before .before .before .loop .b) (c .before .before .before .before .before .before .before .before .before .before .before .before .before .before .args .«from») (l .bids-low) (l .effects-low) in
+    let low = product-low (c .before .before .before .before .before .before .before .before .before .before .before .before .before .before .before .args .bids .now) (c .before .before .before .before .before .before .before .before .before .before .before .before .before .before .before .args .effects .now) (c .before .before .before .before .before .before .loop .b) (c .before .before .before .before .before .before .before .before .before .before .before .before .before .before .before .args .«from») (l .bids-low) (l .effects-low) in
     omega arith
 
--- src/lib.rt:94:13
 search-search-requires : (t : ℕ) → search-lts.Need-search-requires (
   most-added-reads.Asked,
   most-added-reads.Learnt,
@@ -388,33 +438,38 @@ search-search-requires : (t : ℕ) → search-lts.Need-search-requires (
   may-stand-reads.Learnt,
   with-bidder-reads.Asked,
   with-bidder-reads.Learnt,
+  more-marks-reads.Asked,
+  more-marks-reads.Learnt,
   adds-reads.Asked,
   adds-reads.Learnt,
   search-below t,
   search′.Post,
 ) (search-at t) search′.Post search-Inv-loop search-μ-loop
 search-search-requires t c κs =
-    let l = c .before .before .before .before .before .before .before .before .before .before .before .before .before .before .pre .1 .0 in let q = c .before .before .before .before .before .before .before .before .before .before .before .before .before .before .pre .1 .1 .0 in let d = l .few-slots in let f = l .few-bidders in
-    let p = c .before .before .before .before .before .before .before .before .before .before .before .before .before .before .pre .1 .1 .2 in
+    let l = c .before .before .before .before .before .before .before .before .before .before .before .before .before .before .before .pre .1 .0 in let q = c .before .before .before .before .before .before .before .before .before .before .before .before .before .before .before .pre .1 .1 .0 .0 in let d = l .few-slots in let f = l .few-bidders in
+    let p = c .before .before .before .before .before .before .before .before .before .before .before .before .before .before .before .pre .1 .1 .0 .2 in
     let e = c .adds .ensures in
-    let n = c .before .before .before .before .before .before .before .before .before .if1 .left in
-    let μ = c .before .before .before .before .before .before .before .before .before .before .before .before .before .before .pre .0 in
-    let k = c .before .before .before .before .before .before .before .before .before .before .before .before .before .before .args .«from» in
-    let low = product-low (c .before .before .before .before .before .before .before .before .before .before .before .before .before .before .args .bids .now) (c .before .before .before .before .before .before .before .before .before .before .before .before .before .before .args .effects .now) (c .before .before .before .before .before .loop .b) k (l .bids-low) (l .effects-low) in
-    let next = c .before .with-bidder .ensures in (
+    let n = c .before .before .before .before .before .before .before .before .before .before .if1 .left in
+    let μ = c .before .before .before .before .before .before .before .before .before .before .before .before .before .before .before .pre .0 in
+    let k = c .before .before .before .before .before .before .before .before .before .before .before .before .before .before .before .args .«from» in
+    let low = product-low (c .before .before .before .before .before .before .before .before .before .before .before .before .before .before .before .args .bids .now) (c .before .before .before .before .before .before .before .before .before .before .before .before .before .before .before .args .effects .now) (c .before .before .before .before .before .before .loop .b) k (l .bids-low) (l .effects-low) in
+    let next = c .before .before .with-bidder .ensures in (
       omega arith,
       (
         l,
         (
-          omega arith,
-          (λ j. subst (λ (x : Page). at x j ≤ 8) (sym next) (put-low (c .before .before .before .before .before .before .before .before .before .before .before .before .before .before .args .page) (k + 1) (c .before .before .before .before .before .loop .b) (c .before .before .before .before .before .before .before .before .before .before .before .before .before .before .pre .1 .1 .3) (c .before .before .before .before .before .before .before .before .before .before .before .before .before .before .pre .1 .1 .1) (omega arith) j)),
-          omega arith,
-          subst Sized (sym next) (put-sized (c .before .before .before .before .before .before .before .before .before .before .before .before .before .before .args .page) (k + 1) (c .before .before .before .before .before .loop .b) (c .before .before .before .before .before .before .before .before .before .before .before .before .before .before .pre .1 .1 .3)),
+          (
+            omega arith,
+            (λ j. subst (λ (x : Page). at x j ≤ 8) (sym next) (put-low (c .before .before .before .before .before .before .before .before .before .before .before .before .before .before .before .args .page) (k + 1) (c .before .before .before .before .before .before .loop .b) (c .before .before .before .before .before .before .before .before .before .before .before .before .before .before .before .pre .1 .1 .0 .3) (c .before .before .before .before .before .before .before .before .before .before .before .before .before .before .before .pre .1 .1 .0 .1) (omega arith) j)),
+            omega arith,
+            subst Sized (sym next) (put-sized (c .before .before .before .before .before .before .before .before .before .before .before .before .before .before .before .args .page) (k + 1) (c .before .before .before .before .before .before .loop .b) (c .before .before .before .before .before .before .before .before .before .before .before .before .before .before .before .pre .1 .1 .0 .3)),
+          ),
+          marks-next (c .before .before .before .before .before .before .before .before .before .before .before .before .before .before .before .args .clashes .now) (c .before .before .before .before .before .before .before .before .before .before .before .before .before .before .before .args .marks) (c .before .more-marks .result) (c .before .before .before .before .before .before .before .before .before .before .before .before .before .before .before .args .page) (c .before .before .with-bidder .result) k (c .before .before .before .before .before .before .loop .b)
+              (c .before .before .before .before .before .before .before .before .before .before .before .before .before .before .before .pre .1 .1 .0 .3) next (c .before .more-marks .ensures) (c .before .before .before .before .before .before .before .before .before .before .before .before .before .before .before .pre .1 .1 .1),
         ),
       ),
     )
 
--- src/lib.rt:96:9
 search-add-b : (t : ℕ) → search-lts.Need-add-b (
   most-added-reads.Asked,
   most-added-reads.Learnt,
@@ -422,15 +477,16 @@ search-add-b : (t : ℕ) → search-lts.Need-add-b (
   may-stand-reads.Learnt,
   with-bidder-reads.Asked,
   with-bidder-reads.Learnt,
+  more-marks-reads.Asked,
+  more-marks-reads.Learnt,
   adds-reads.Asked,
   adds-reads.Learnt,
   search-below t,
   search′.Post,
 ) (search-at t) search′.Post search-Inv-loop search-μ-loop
 search-add-b t c =
-    let l = c .before .before .before .before .before .before .before .before .before .before .before .before .pre .1 .0 in let q = c .before .before .before .before .before .before .before .before .before .before .before .before .pre .1 .1 .0 in let d = l .few-slots in let f = l .few-bidders in omega arith
+    let l = c .before .before .before .before .before .before .before .before .before .before .before .before .pre .1 .0 in let q = c .before .before .before .before .before .before .before .before .before .before .before .before .pre .1 .1 .0 .0 in let d = l .few-slots in let f = l .few-bidders in omega arith
 
--- src/lib.rt:90:5
 search-loop-less : (t : ℕ) → search-lts.Need-loop-less (
   most-added-reads.Asked,
   most-added-reads.Learnt,
@@ -438,15 +494,16 @@ search-loop-less : (t : ℕ) → search-lts.Need-loop-less (
   may-stand-reads.Learnt,
   with-bidder-reads.Asked,
   with-bidder-reads.Learnt,
+  more-marks-reads.Asked,
+  more-marks-reads.Learnt,
   adds-reads.Asked,
   adds-reads.Learnt,
   search-below t,
   search′.Post,
 ) (search-at t) search′.Post search-Inv-loop search-μ-loop
 search-loop-less t c =
-    let l = c .before .before .before .before .before .before .before .before .before .before .before .before .pre .1 .0 in let q = c .before .before .before .before .before .before .before .before .before .before .before .before .pre .1 .1 .0 in let d = l .few-slots in let f = l .few-bidders in omega arith
+    let l = c .before .before .before .before .before .before .before .before .before .before .before .before .pre .1 .0 in let q = c .before .before .before .before .before .before .before .before .before .before .before .before .pre .1 .1 .0 .0 in let d = l .few-slots in let f = l .few-bidders in omega arith
 
--- src/lib.rt:90:5
 search-loop-again : (t : ℕ) → search-lts.Need-loop-again (
   most-added-reads.Asked,
   most-added-reads.Learnt,
@@ -454,6 +511,8 @@ search-loop-again : (t : ℕ) → search-lts.Need-loop-again (
   may-stand-reads.Learnt,
   with-bidder-reads.Asked,
   with-bidder-reads.Learnt,
+  more-marks-reads.Asked,
+  more-marks-reads.Learnt,
   adds-reads.Asked,
   adds-reads.Learnt,
   search-below t,
@@ -461,19 +520,18 @@ search-loop-again : (t : ℕ) → search-lts.Need-loop-again (
 ) (search-at t) search′.Post search-Inv-loop search-μ-loop
 search-loop-again t c =
     let l = c .before .before .before .before .before .before .before .before .before .before .before .before .pre .1 .0 in
-    let q = c .before .before .before .before .before .before .before .before .before .before .before .before .pre .1 .1 .0 in
+    let q = c .before .before .before .before .before .before .before .before .before .before .before .before .pre .1 .1 .0 .0 in
     let n = c .before .before .before .before .before .before .before .if1 .left in
     let inside : c .before .before .before .before .before .before .before .before .before .before .before .before .args .«from» < c .before .before .before .before .before .before .before .before .before .before .before .before .args .slots = omega arith in
     ⊎-elim
     (λ x.
-    subst (λ (a : Answer). search-Inv-loop (c .before .before .before .before .before .before .before .before .before .before .before .before .args .clashes .now) (c .before .before .before .before .before .before .before .before .before .before .before .before .args .ranked .now) (c .before .before .before .before .before .before .before .before .before .before .before .before .args .bids .now) (c .before .before .before .before .before .before .before .before .before .before .before .before .args .effects .now) (c .before .before .before .before .before .before .before .before .before .before .before .before .args .bidders) (c .before .before .before .before .before .before .before .before .before .before .before .before .args .slots) (c .before .before .before .before .before .before .before .before .before .before .before .before .args .«from») (c .before .before .before .before .before .before .before .before .before .before .before .before .args .page) (c .before .before .before .before .before .before .before .before .before .before .before .before .args .had) 0 (record { 0 = 0 }) (c .before .before .before .before .before .before .before .before .before .before .before .before .args .answer) 0 a (c .before .before .before .loop .b + 1)) (sym (x .4))
-    (trying-tried (c .before .before .before .before .before .before .before .before .before .before .before .before .args .clashes .now) (c .before .before .before .before .before .before .before .before .before .before .before .before .args .ranked .now) (c .before .before .before .before .before .before .before .before .before .before .before .before .args .bids .now) (c .before .before .before .before .before .before .before .before .before .before .before .before .args .effects .now) (c .before .before .before .before .before .before .before .before .before .before .before .before .args .bidders) (c .before .before .before .before .before .before .before .before .before .before .before .before .args .slots) (c .before .before .before .before .before .before .before .before .before .before .before .before .args .«from») (c .before .before .before .before .before .before .before .before .before .before .before .before .args .page) (c .before .before .before .before .before .before .before .before .before .before .before .before .args .had) (c .before .before .before .before .before .before .before .before .before .before .before .before .args .answer) (c .before .before .before .loop .best) (c .before .before .before .loop .b) (c .before .before .before .loop .inv) l inside (c .before .before .loop-test .taken) (x .3 .result) (x .1 .result) (x .2 .result) (sym (c .before .may-stand .ensures) ∙ x .0 .taken) (x .1 .ensures) (x .2 .ensures) (x .3 .ensures)))
+    subst (λ (a : Answer). search-Inv-loop (c .before .before .before .before .before .before .before .before .before .before .before .before .args .clashes .now) (c .before .before .before .before .before .before .before .before .before .before .before .before .args .ranked .now) (c .before .before .before .before .before .before .before .before .before .before .before .before .args .bids .now) (c .before .before .before .before .before .before .before .before .before .before .before .before .args .effects .now) (c .before .before .before .before .before .before .before .before .before .before .before .before .args .bidders) (c .before .before .before .before .before .before .before .before .before .before .before .before .args .slots) (c .before .before .before .before .before .before .before .before .before .before .before .before .args .«from») (c .before .before .before .before .before .before .before .before .before .before .before .before .args .page) (c .before .before .before .before .before .before .before .before .before .before .before .before .args .marks) (c .before .before .before .before .before .before .before .before .before .before .before .before .args .had) 0 (record { 0 = 0 }) (c .before .before .before .before .before .before .before .before .before .before .before .before .args .answer) 0 a (c .before .before .before .loop .b + 1)) (sym (x .5))
+    (trying-tried (c .before .before .before .before .before .before .before .before .before .before .before .before .args .clashes .now) (c .before .before .before .before .before .before .before .before .before .before .before .before .args .ranked .now) (c .before .before .before .before .before .before .before .before .before .before .before .before .args .bids .now) (c .before .before .before .before .before .before .before .before .before .before .before .before .args .effects .now) (c .before .before .before .before .before .before .before .before .before .before .before .before .args .bidders) (c .before .before .before .before .before .before .before .before .before .before .before .before .args .slots) (c .before .before .before .before .before .before .before .before .before .before .before .before .args .«from») (c .before .before .before .before .before .before .before .before .before .before .before .before .args .page) (c .before .before .before .before .before .before .before .before .before .before .before .before .args .had) (c .before .before .before .before .before .before .before .before .before .before .before .before .args .answer) (c .before .before .before .loop .best) (c .before .before .before .loop .b) (c .before .before .before .loop .inv) l inside (c .before .before .loop-test .taken) (c .before .before .before .before .before .before .before .before .before .before .before .before .args .marks) (c .before .before .before .before .before .before .before .before .before .before .before .before .pre .1 .1 .1 .0) (x .4 .result) (x .1 .result) (x .3 .result) (sym (c .before .may-stand .ensures) ∙ x .0 .taken) (x .1 .ensures) (x .3 .ensures) (x .4 .ensures)))
     (λ x.
-    subst (λ (a : Answer). search-Inv-loop (c .before .before .before .before .before .before .before .before .before .before .before .before .args .clashes .now) (c .before .before .before .before .before .before .before .before .before .before .before .before .args .ranked .now) (c .before .before .before .before .before .before .before .before .before .before .before .before .args .bids .now) (c .before .before .before .before .before .before .before .before .before .before .before .before .args .effects .now) (c .before .before .before .before .before .before .before .before .before .before .before .before .args .bidders) (c .before .before .before .before .before .before .before .before .before .before .before .before .args .slots) (c .before .before .before .before .before .before .before .before .before .before .before .before .args .«from») (c .before .before .before .before .before .before .before .before .before .before .before .before .args .page) (c .before .before .before .before .before .before .before .before .before .before .before .before .args .had) 0 (record { 0 = 0 }) (c .before .before .before .before .before .before .before .before .before .before .before .before .args .answer) 0 a (c .before .before .before .loop .b + 1)) (sym (x .1))
-    (trying-skipped (c .before .before .before .before .before .before .before .before .before .before .before .before .args .clashes .now) (c .before .before .before .before .before .before .before .before .before .before .before .before .args .ranked .now) (c .before .before .before .before .before .before .before .before .before .before .before .before .args .bids .now) (c .before .before .before .before .before .before .before .before .before .before .before .before .args .effects .now) (c .before .before .before .before .before .before .before .before .before .before .before .before .args .bidders) (c .before .before .before .before .before .before .before .before .before .before .before .before .args .slots) (c .before .before .before .before .before .before .before .before .before .before .before .before .args .«from») (c .before .before .before .before .before .before .before .before .before .before .before .before .args .page) (c .before .before .before .before .before .before .before .before .before .before .before .before .args .had) (c .before .before .before .before .before .before .before .before .before .before .before .before .args .answer) (c .before .before .before .loop .best) (c .before .before .before .loop .b) (c .before .before .before .loop .inv) l inside (c .before .before .loop-test .taken) (sym (c .before .may-stand .ensures) ∙ x .0 .left)))
+    subst (λ (a : Answer). search-Inv-loop (c .before .before .before .before .before .before .before .before .before .before .before .before .args .clashes .now) (c .before .before .before .before .before .before .before .before .before .before .before .before .args .ranked .now) (c .before .before .before .before .before .before .before .before .before .before .before .before .args .bids .now) (c .before .before .before .before .before .before .before .before .before .before .before .before .args .effects .now) (c .before .before .before .before .before .before .before .before .before .before .before .before .args .bidders) (c .before .before .before .before .before .before .before .before .before .before .before .before .args .slots) (c .before .before .before .before .before .before .before .before .before .before .before .before .args .«from») (c .before .before .before .before .before .before .before .before .before .before .before .before .args .page) (c .before .before .before .before .before .before .before .before .before .before .before .before .args .marks) (c .before .before .before .before .before .before .before .before .before .before .before .before .args .had) 0 (record { 0 = 0 }) (c .before .before .before .before .before .before .before .before .before .before .before .before .args .answer) 0 a (c .before .before .before .loop .b + 1)) (sym (x .1))
+    (trying-skipped (c .before .before .before .before .before .before .before .before .before .before .before .before .args .clashes .now) (c .before .before .before .before .before .before .before .before .before .before .before .before .args .ranked .now) (c .before .before .before .before .before .before .before .before .before .before .before .before .args .bids .now) (c .before .before .before .before .before .before .before .before .before .before .before .before .args .effects .now) (c .before .before .before .before .before .before .before .before .before .before .before .before .args .bidders) (c .before .before .before .before .before .before .before .before .before .before .before .before .args .slots) (c .before .before .before .before .before .before .before .before .before .before .before .before .args .«from») (c .before .before .before .before .before .before .before .before .before .before .before .before .args .page) (c .before .before .before .before .before .before .before .before .before .before .before .before .args .had) (c .before .before .before .before .before .before .before .before .before .before .before .before .args .answer) (c .before .before .before .loop .best) (c .before .before .before .loop .b) (c .before .before .before .loop .inv) l inside (c .before .before .loop-test .taken) (c .before .before .before .before .before .before .before .before .before .before .before .before .args .marks) (c .before .before .before .before .before .before .before .before .before .before .before .before .pre .1 .1 .1 .0) (sym (c .before .may-stand .ensures) ∙ x .0 .left)))
     (c .if4 .came)
 
--- src/lib.rt:72:1
 search-returns-4 : (t : ℕ) → search-lts.Need-returns-4 (
   most-added-reads.Asked,
   most-added-reads.Learnt,
@@ -481,6 +539,8 @@ search-returns-4 : (t : ℕ) → search-lts.Need-returns-4 (
   may-stand-reads.Learnt,
   with-bidder-reads.Asked,
   with-bidder-reads.Learnt,
+  more-marks-reads.Asked,
+  more-marks-reads.Learnt,
   adds-reads.Asked,
   adds-reads.Learnt,
   search-below t,
@@ -498,6 +558,8 @@ pub +search-spec : {M : Type 1} → statement M
   may-stand-reads.Learnt,
   with-bidder-reads.Asked,
   with-bidder-reads.Learnt,
+  more-marks-reads.Asked,
+  more-marks-reads.Learnt,
   adds-reads.Asked,
   adds-reads.Learnt,
   search-below t,
@@ -507,17 +569,18 @@ pub +search-spec : {M : Type 1} → statement M
     search′.Post
     search-Inv-loop
     search-μ-loop
-    (search-add-t19 t)
+    (search-add-t21 t)
     (search-returns t)
     (search-returns-2 t)
     (search-most-added-requires t)
     (search-add-most t)
     (search-returns-3 t)
-    (search-add-t21 t)
-    (search-cast-t22 t)
+    (search-add-t23 t)
+    (search-cast-t24 t)
     (search-loop-holds t)
     (search-may-stand-requires t)
     (search-with-bidder-requires t)
+    (search-more-marks-requires t)
     (search-add-search t)
     (search-adds-requires t)
     (search-add-search-2 t)
