@@ -3,7 +3,7 @@
 -- `barsAfter` names: what w breaks alone is ruled out, since w was eligible. Assumes nothing.
 use Prim.Native.Nat.{ℕ, zero, suc, _<_, _≤_}
 use borrow.Author.Tests.{eq-eqb, ne-eqb, eqb-true, eqb-false, not-true}
-use mathlib.Core.Bool.{Bool, true, false, not, _&&_, _||_, or-false, and-false}
+use mathlib.Core.Bool.{Bool, true, false, not, _&&_, _||_}
 use mathlib.Core.Logic.{_⊎_, inl, inr, ⊎-elim}
 use mathlib.Core.Path.{_≡_, refl, sym, _∙_, ap, ap₂, subst}
 use native.Mathlib.Omega.{arith}
@@ -412,48 +412,6 @@ module _ (l b : ℕ) (l-some : 0 < l) (l-most : l ≤ 16) (b-some : b ≡ 0 → 
     where
       bars : ℕ → Bool
       bars i = barsOwn (constraintAt r i .kind) (constraintAt r i .owner .0) l b
-
--- What a constraint bars once w stands at k, by the tests that the engine makes.
-module _ (w k owner l b : ℕ) where
-  pub after-own-slot : (t : Slot) → barsAfter w k (OwnSlot t) owner l b ≡ false
-  unfolding barsAfter
-  after-own-slot t = refl
-
-  pub after-owner-other : (j : Bidder) (x : Slot) → (j .0 ≡ owner → ⊥) → owner ≡ w → barsAfter w k (OtherSlot j x) owner l b ≡ entryIs (x .0) (j .0) l b
-  unfolding barsAfter
-  after-owner-other j x d o = simp (eq-eqb owner w o, ne-eqb (j .0) w (λ e. d (e ∙ sym o)), or-false)
-
-  pub after-named-other : (j : Bidder) (x : Slot) → (owner ≡ w → ⊥) → j .0 ≡ w → x .0 ≡ k → barsAfter w k (OtherSlot j x) owner l b ≡ eqb b owner
-  unfolding barsAfter
-  after-named-other j x o e f = simp (ne-eqb owner w o, eq-eqb (j .0) w e, eq-eqb (x .0) k f)
-
-  pub after-elsewhere-other : (j : Bidder) (x : Slot) → (owner ≡ w → ⊥) → (x .0 ≡ k → ⊥) → barsAfter w k (OtherSlot j x) owner l b ≡ false
-  unfolding barsAfter
-  after-elsewhere-other j x o f = simp (ne-eqb owner w o, ne-eqb (x .0) k f, and-false)
-
-  pub after-stranger-other : (j : Bidder) (x : Slot) → (owner ≡ w → ⊥) → (j .0 ≡ w → ⊥) → barsAfter w k (OtherSlot j x) owner l b ≡ false
-  unfolding barsAfter
-  after-stranger-other j x o e = simp (ne-eqb owner w o, ne-eqb (j .0) w e)
-
-  pub after-owner-pair : (t : Slot) (j : Bidder) (x : Slot) → (j .0 ≡ owner → ⊥) → owner ≡ w → t .0 ≡ k → barsAfter w k (Pair t j x) owner l b ≡ entryIs (x .0) (j .0) l b
-  unfolding barsAfter
-  after-owner-pair t j x d o f = simp (eq-eqb owner w o, eq-eqb (t .0) k f, ne-eqb (j .0) w (λ e. d (e ∙ sym o)), or-false)
-
-  pub after-owner-elsewhere : (t : Slot) (j : Bidder) (x : Slot) → (j .0 ≡ owner → ⊥) → owner ≡ w → (t .0 ≡ k → ⊥) → barsAfter w k (Pair t j x) owner l b ≡ false
-  unfolding barsAfter
-  after-owner-elsewhere t j x d o f = simp (eq-eqb owner w o, ne-eqb (t .0) k f, ne-eqb (j .0) w (λ e. d (e ∙ sym o)))
-
-  pub after-named-pair : (t : Slot) (j : Bidder) (x : Slot) → (owner ≡ w → ⊥) → j .0 ≡ w → x .0 ≡ k → barsAfter w k (Pair t j x) owner l b ≡ entryIs (t .0) owner l b
-  unfolding barsAfter
-  after-named-pair t j x o e f = simp (ne-eqb owner w o, eq-eqb (j .0) w e, eq-eqb (x .0) k f)
-
-  pub after-elsewhere-pair : (t : Slot) (j : Bidder) (x : Slot) → (owner ≡ w → ⊥) → (x .0 ≡ k → ⊥) → barsAfter w k (Pair t j x) owner l b ≡ false
-  unfolding barsAfter
-  after-elsewhere-pair t j x o f = simp (ne-eqb owner w o, ne-eqb (x .0) k f, and-false)
-
-  pub after-stranger-pair : (t : Slot) (j : Bidder) (x : Slot) → (owner ≡ w → ⊥) → (j .0 ≡ w → ⊥) → barsAfter w k (Pair t j x) owner l b ≡ false
-  unfolding barsAfter
-  after-stranger-pair t j x o e = simp (ne-eqb owner w o, ne-eqb (j .0) w e)
 
 -- a settled slot, by who won it
 pub after-nobody : (r : Round) (w k : ℕ) (was : Bool) (l b : ℕ) → w ≡ 0 → openAfter r w k was l b ≡ was

@@ -2,3 +2,4 @@
 pub mod BarredLaws
 pub mod TableLaws
 pub mod FillLaws
+pub mod ChainLaws

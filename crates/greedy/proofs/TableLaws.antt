@@ -67,6 +67,13 @@ barred-also true true y = refl
 barred-also true false y = refl
 barred-also false x y = refl
 
+-- bidder 0 is nobody, and never open: what is barred to it says nothing
+pub nobody-open : (table : List ℕ) (l b : ℕ) (x y : Bool) → (0 < b → x ≡ y) → (openAt table l b && not x) ≡ (openAt table l b && not y)
+unfolding openAt
+nobody-open table zero b x y h = refl
+nobody-open table (suc l) zero x y h = refl
+nobody-open table (suc l) (suc b) x y h = ap (λ (t : Bool). openAt table (suc l) (suc b) && not t) (h (omega arith))
+
 -- barred to bidder y are slots 1 to n: none at first,
 pub none-barred : (table : List ℕ) (l b y : ℕ) → openAt table l b ≡ (openAt table l b && not (leb l 0 && eqb b y))
 unfolding openAt

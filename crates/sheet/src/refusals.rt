@@ -1,7 +1,7 @@
 // The refusals 1 to 13, each part over the fields that it reads.
 ghost use mathlib.Core.Path.{_≡_};
-ghost use mathlib.Core.Bool.{Bool};
-ghost use Prim.Native.Nat.{_+_, _*_, _≤_};
+ghost use mathlib.Core.Bool.{Bool, false};
+ghost use Prim.Native.Nat.{_+_, _*_, _/_, _%_, _≤_};
 ghost use lib.ListN.{length};
 ghost use Rattle.basis.specs.First.{firstOver, orElse};
 ghost use Rattle.sheet.specs.Sheet.{bidderCount, slotCount, constraintCount, effectsStart, bidsStart, constraintsStart, sheetLength};
@@ -154,14 +154,8 @@ fn constraint_refusal(bidders: u8, slots: u8, owner: u8, own: u8, other: u8, oth
     0
 }
 
-// 10 to 13: each constraint, in sheet order.
-pub fn constraints_refusal(
-    sheet: &[u8],
-    start: usize,
-    bidders: u8,
-    slots: u8,
-    constraints: usize,
-) -> u32
+// 10 to 13: the first number over the constraints in sheet order.
+fn first_refusal(sheet: &[u8], start: usize, bidders: u8, slots: u8, constraints: usize) -> u32
     requires { ⌜ (start ≡ constraintsStart (now sheet)) × (start + 4 * constraints ≤ length (now sheet)) ⌝ }
     requires { ⌜ (bidders ≡ bidderCount (now sheet)) × (slots ≡ slotCount (now sheet)) ⌝ }
     ensures { λ r. ⌜ r ≡ firstOver (constraintRefusal (now (sheet .entry))) constraints ⌝ }
@@ -181,6 +175,62 @@ pub fn constraints_refusal(
             return refusal;
         }
         k += 1;
+    }
+    0
+}
+
+// Whether a constraint, its four bytes as one number, breaks any of 10 to 13. Every rule is tested and none ends the test early:
+// no machine can foretell which kind of constraint comes next, and so there is no branch.
+fn is_faulty(bidders: u32, slots: u32, constraint: u32) -> bool
+    ensures { λ r. ⌜ (r ≡ false → fieldsRefusal bidders slots (constraint % 256) (constraint / 256 % 256) (constraint / 65536 % 256) (constraint / 16777216) ≡ 0) ⌝ }
+{
+    let owner = constraint % 256;
+    let own = constraint / 256 % 256;
+    let other = constraint / 65536 % 256;
+    let others = constraint / 16777216;
+    (owner == 0)
+        | (bidders < owner)
+        | (bidders < other)
+        | (slots < own)
+        | (slots < others)
+        | (other == owner)
+        | ((other == 0) != (others == 0))
+        | ((own == 0) & (other == 0))
+}
+
+// Whether any constraint breaks any of 10 to 13. Each is read as one number and none ends the pass, so that the machine tests several
+// at once.
+fn any_faulty(sheet: &[u8], start: usize, bidders: u8, slots: u8, constraints: usize) -> bool
+    requires { ⌜ (start ≡ constraintsStart (now sheet)) × (start + 4 * constraints ≤ length (now sheet)) ⌝ }
+    requires { ⌜ (bidders ≡ bidderCount (now sheet)) × (slots ≡ slotCount (now sheet)) ⌝ }
+    ensures { λ r. ⌜ (r ≡ false → firstOver (constraintRefusal (now (sheet .entry))) constraints ≡ 0) ⌝ }
+{
+    let most_bidder = wide(bidders);
+    let most_slot = wide(slots);
+    let mut found = false;
+    let mut seen = 0;
+    while seen < constraints {
+        let constraint = word32(sheet, start + 4 * seen);
+        found = found | is_faulty(most_bidder, most_slot, constraint);
+        seen += 1;
+    }
+    found
+}
+
+// 10 to 13: each constraint, in sheet order. An accepted sheet costs the quick pass alone; only a fault has its number looked for.
+pub fn constraints_refusal(
+    sheet: &[u8],
+    start: usize,
+    bidders: u8,
+    slots: u8,
+    constraints: usize,
+) -> u32
+    requires { ⌜ (start ≡ constraintsStart (now sheet)) × (start + 4 * constraints ≤ length (now sheet)) ⌝ }
+    requires { ⌜ (bidders ≡ bidderCount (now sheet)) × (slots ≡ slotCount (now sheet)) ⌝ }
+    ensures { λ r. ⌜ r ≡ firstOver (constraintRefusal (now (sheet .entry))) constraints ⌝ }
+{
+    if any_faulty(sheet, start, bidders, slots, constraints) {
+        return first_refusal(sheet, start, bidders, slots, constraints);
     }
     0
 }

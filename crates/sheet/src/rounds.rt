@@ -14,17 +14,19 @@ use crate::Slot;
 use basis::word16;
 use basis::word32;
 
-// What a constraint's three bytes after its owner forbid.
+// What a constraint's three bytes after its owner forbid. A narrower kind takes the pair's place, and no test returns early: the machine
+// then selects the bytes, and has no branch on a kind that it cannot foretell.
 fn kind_of(own: u8, other: u8, others: u8) -> Kind
     ensures { λ r. ⌜ r ≡ kindOf own other others ⌝ }
 {
-    if other == 0 {
-        return Kind::OwnSlot(Slot(own));
-    }
+    let mut kind = Kind::Pair(Slot(own), Bidder(other), Slot(others));
     if own == 0 {
-        return Kind::OtherSlot(Bidder(other), Slot(others));
+        kind = Kind::OtherSlot(Bidder(other), Slot(others));
     }
-    Kind::Pair(Slot(own), Bidder(other), Slot(others))
+    if other == 0 {
+        kind = Kind::OwnSlot(Slot(own));
+    }
+    kind
 }
 
 // The effects, with 0 after them.
@@ -56,13 +58,15 @@ fn read_bids(sheet: &[u8], start: usize, bidders: usize) -> [u32; 64]
     bids
 }
 
-// The blank constraint, which fills what a sheet leaves.
+// The blank constraint, which fills what a sheet leaves. It is read from bytes that are 0, so that all its bytes are 0, those that its
+// kind leaves unused too, and the machine fills an array of it at once.
 fn blank_constraint() -> Constraint
     ensures { λ r. ⌜ r ≡ blank ⌝ }
 {
+    let kind = kind_of(0, 0, 0);
     Constraint {
         owner: Bidder(0),
-        kind: Kind::OwnSlot(Slot(0)),
+        kind,
     }
 }
 

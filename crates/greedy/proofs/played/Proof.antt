@@ -8,11 +8,12 @@ use Rattle.choice.proofs.WinnerLaws.{winner-most}
 use Rattle.auction.specs.Greedy.{bidOf, pageUpTo, greedyPage}
 use Rattle.auction.specs.Price.{price}
 use Rattle.greedy.specs.Barred.{openAt, Awarded}
-use Prim.Native.Nat.{ℕ, suc, _+_, _-_, _≤_}
+use Prim.Native.Nat.{ℕ, suc, _+_, _*_, _-_, _≤_}
 use native.Mathlib.Nat.{le-antisymm}
 use native.Mathlib.Numerals.{add-one}
 use native.Mathlib.Omega.{arith}
 use Rattle.greedy.specs.Outcome.{outcomeOf}
+use Rattle.greedy.proofs.ChainLaws.{falling-none, chained-none, falling-more}
 use Rattle.greedy.proofs.FillLaws.{Filled, filled-start, filled-next}
 use Rattle.greedy.proofs.played.Statement.{statement}
 use Rattle.greedy.proofs.played.Tie as tie
@@ -23,106 +24,117 @@ won-bidder r table x w paid few a =
     let e = a .won-by in let m = winner-most (openAt table x) (bidIn (r .bids)) (r .bidders) in omega arith
 
 abbrev Inv-loop : tie.InvT-loop
-Inv-loop round table₀ bids bidders slots page₀ prices₀ k₀ table page prices k = Filled round k table page prices
+Inv-loop round table₀ last earlier barring bids bidders page₀ prices₀ k₀ table page prices k = Filled round k table page prices
 
 abbrev μ-loop : tie.MeasureT-loop
-μ-loop round table₀ bids bidders slots page₀ prices₀ k₀ table page prices k = slots - k
+μ-loop round table₀ last earlier barring bids bidders page₀ prices₀ k₀ table page prices k = round .slots - k
 
-slice-aggregate-bar-owns : tie.Need-slice-aggregate-bar-owns Inv-loop μ-loop
-slice-aggregate-bar-owns c = refl
+slice-aggregate-enter-all : tie.Need-slice-aggregate-enter-all Inv-loop μ-loop
+slice-aggregate-enter-all c = refl
 
-bar-owns-requires : tie.Need-bar-owns-requires Inv-loop μ-loop
-bar-owns-requires c κs = (refl, c .before .pre)
+slice-aggregate-enter-all-2 : tie.Need-slice-aggregate-enter-all-2 Inv-loop μ-loop
+slice-aggregate-enter-all-2 c = refl
+
+slice-aggregate-enter-all-3 : tie.Need-slice-aggregate-enter-all-3 Inv-loop μ-loop
+slice-aggregate-enter-all-3 c = refl
+
+slice-aggregate-enter-all-4 : tie.Need-slice-aggregate-enter-all-4 Inv-loop μ-loop
+slice-aggregate-enter-all-4 c = refl
+
+enter-all-requires : tie.Need-enter-all-requires Inv-loop μ-loop
+enter-all-requires c κs = ((refl, c .before .before .before .before .pre), (falling-none, chained-none (c .before .before .before .before .args .round)))
 
 empty-page-requires : tie.Need-empty-page-requires Inv-loop μ-loop
 empty-page-requires c κs = tt
 
 loop-holds : tie.Need-loop-holds Inv-loop μ-loop
-loop-holds c = rw (c .empty-page .ensures) (filled-start (c .before .before .before .before .before .args .round) _ (c .before .before .before .before .before .pre) (c .before .before .before .bar-owns .kept .0) (c .before .before .before .bar-owns .ensures))
+loop-holds c = rw (c .empty-page .ensures) (filled-start (c .before .before .before .before .before .before .before .before .before .before .before .args .round) _ (c .before .before .before .before .before .before .before .before .before .before .before .pre) (c .before .before .before .before .before .before .enter-all .kept .0) (c .before .before .before .before .before .before .enter-all .ensures .0))
 
-add-t16 : tie.Need-add-t16 Inv-loop μ-loop
-add-t16 c =
-    let few = c .before .before .before .before .before .before .before .pre .most-slots in
-    let v = c .before .loop .inv .some in
+add-t24 : tie.Need-add-t24 Inv-loop μ-loop
+add-t24 c = let few = c .before .before .before .before .before .before .before .before .before .before .before .before .before .before .pre .most-slots in
+    let v = c .before .before .loop .inv .some in
     omega arith
 
-cast-t17 : tie.Need-cast-t17 Inv-loop μ-loop
-cast-t17 c =
-    let few = c .before .before .before .before .before .before .before .pre .most-slots in
-    let v = c .before .loop .inv .some in
+cast-t25 : tie.Need-cast-t25 Inv-loop μ-loop
+cast-t25 c = let few = c .before .before .before .before .before .before .before .before .before .before .before .before .before .before .pre .most-slots in
+    let v = c .before .before .loop .inv .some in
     omega arith
 
 slice-aggregate-award-slot : tie.Need-slice-aggregate-award-slot Inv-loop μ-loop
-slice-aggregate-award-slot c = sym (c .before .before .loop .inv .size)
+slice-aggregate-award-slot c = sym (c .before .before .before .loop .inv .size)
 
 slice-aggregate-award-slot-2 : tie.Need-slice-aggregate-award-slot-2 Inv-loop μ-loop
-slice-aggregate-award-slot-2 c = sym (c .before .before .before .before .before .before .before .before .before .pre .sized-bids)
+slice-aggregate-award-slot-2 c = sym (c .before .before .before .before .before .before .before .before .before .before .before .before .before .before .before .before .pre .sized-bids)
 
 award-slot-requires : tie.Need-award-slot-requires Inv-loop μ-loop
 unfolding bidOf
-award-slot-requires c κs =
-    let v = c .before .before .before .loop .inv in
-    let p = c .before .before .before .before .before .before .before .before .before .pre in
+award-slot-requires c κs = let v = c .before .before .before .before .loop .inv in
+    let p = c .before .before .before .before .before .before .before .before .before .before .before .before .before .before .before .before .pre in
     let few = p .most-slots in
     let listed = p .sized-bids in
     let many = p .most-bidders in
     ((v .size, many, omega arith), ((omega arith, omega arith), λ i below. p .most-bid (suc i)))
 
 with-bidder-requires : tie.Need-with-bidder-requires Inv-loop μ-loop
-with-bidder-requires c κs =
-    let few = c .before .before .before .before .before .before .before .before .before .before .before .pre .most-slots in
-    let v = c .before .before .before .before .before .loop .inv .some in
+with-bidder-requires c κs = let few = c .before .before .before .before .before .before .before .before .before .before .before .before .before .before .before .before .before .before .pre .most-slots in
+    let v = c .before .before .before .before .before .before .loop .inv .some in
     omega arith
 
 mul-prices : tie.Need-mul-prices Inv-loop μ-loop
-mul-prices c =
-    let few = c .before .before .before .before .before .before .before .before .before .before .before .before .pre .most-slots in
-    let v = c .before .before .before .before .before .before .loop .inv .some in
+mul-prices c = let few = c .before .before .before .before .before .before .before .before .before .before .before .before .before .before .before .before .before .before .before .pre .most-slots in
+    let v = c .before .before .before .before .before .before .before .loop .inv .some in
     omega arith
 
 array-write-prices : tie.Need-array-write-prices Inv-loop μ-loop
-array-write-prices c =
-    let few = c .before .before .before .before .before .before .before .before .before .before .before .before .pre .most-slots in
-    let v = c .before .before .before .before .before .before .loop .inv .some in
+array-write-prices c = let few = c .before .before .before .before .before .before .before .before .before .before .before .before .before .before .before .before .before .before .before .pre .most-slots in
+    let v = c .before .before .before .before .before .before .before .loop .inv .some in
     omega arith
 
 slice-aggregate-settle : tie.Need-slice-aggregate-settle Inv-loop μ-loop
-slice-aggregate-settle c = sym (c .before .before .before .before .before .before .before .loop .inv .size)
+slice-aggregate-settle c = sym (c .before .before .before .before .before .before .before .before .loop .inv .size)
+
+slice-aggregate-settle-2 : tie.Need-slice-aggregate-settle-2 Inv-loop μ-loop
+slice-aggregate-settle-2 c = sym (c .before .before .before .before .before .before .before .before .before .before .before .before .before .before .before .before .enter-all .ensures .1 .0 .sized-last)
+
+slice-aggregate-settle-3 : tie.Need-slice-aggregate-settle-3 Inv-loop μ-loop
+slice-aggregate-settle-3 c = sym (c .before .before .before .before .before .before .before .before .before .before .before .before .before .before .before .before .before .enter-all .ensures .1 .0 .sized-earlier)
+
+slice-aggregate-settle-4 : tie.Need-slice-aggregate-settle-4 Inv-loop μ-loop
+slice-aggregate-settle-4 c = sym (c .before .before .before .before .before .before .before .before .before .before .before .before .before .before .before .before .before .before .enter-all .ensures .1 .0 .sized-barring)
 
 settle-requires : tie.Need-settle-requires Inv-loop μ-loop
-settle-requires c κs =
-    let v = c .before .before .before .before .before .before .before .loop .inv in
-    let p = c .before .before .before .before .before .before .before .before .before .before .before .before .before .pre in
-    ((v .size, p), won-bidder (c .before .before .before .before .before .before .before .before .before .before .before .before .before .args .round) (c .before .before .before .before .before .before .before .loop .table) (c .before .before .before .before .before .before .before .loop .k + 1) _ _ (p .most-bidders) (c .before .before .before .award-slot .ensures))
+settle-requires c κs = let v = c .before .before .before .before .before .before .before .before .before .before .before .loop .inv in
+    let p = c .before .before .before .before .before .before .before .before .before .before .before .before .before .before .before .before .before .before .before .before .before .before .before .pre in
+    let few = p .most-slots in
+    let used = p .most-used in
+    let won = won-bidder (c .before .before .before .before .before .before .before .before .before .before .before .before .before .before .before .before .before .before .before .before .before .before .before .args .round) (c .before .before .before .before .before .before .before .before .before .before .before .loop .table) (c .before .before .before .before .before .before .before .before .before .before .before .loop .k + 1) _ _ (p .most-bidders) (c .before .before .before .before .before .before .award-slot .ensures) in
+    ((v .size, falling-more (2 * c .before .before .before .before .before .before .before .before .before .before .before .before .before .before .before .before .before .before .before .before .before .before .before .args .round .used) 2048 _ _ _ (omega arith) (c .before .before .before .before .before .before .before .before .before .before .before .before .before .before .before .before .before .before .enter-all .ensures .1 .0)), (won, (omega arith, omega arith)))
 
 add-k : tie.Need-add-k Inv-loop μ-loop
-add-k c =
-    let few = c .before .before .before .before .before .before .before .before .before .before .before .before .before .before .before .pre .most-slots in
-    let v = c .before .before .before .before .before .before .before .before .before .loop .inv .some in
+add-k c = let few = c .before .before .before .before .before .before .before .before .before .before .before .before .before .before .before .before .before .before .before .before .before .before .before .before .before .pre .most-slots in
+    let v = c .before .before .before .before .before .before .before .before .before .before .before .before .before .loop .inv .some in
     omega arith
 
 loop-less : tie.Need-loop-less Inv-loop μ-loop
-loop-less c =
-    let few = c .before .before .before .before .before .before .before .before .before .before .before .before .before .before .before .pre .most-slots in
-    let v = c .before .before .before .before .before .before .before .before .before .loop .inv .some in
+loop-less c = let few = c .before .before .before .before .before .before .before .before .before .before .before .before .before .before .before .before .before .before .before .before .before .before .before .before .before .pre .most-slots in
+    let v = c .before .before .before .before .before .before .before .before .before .before .before .before .before .loop .inv .some in
     omega arith
 
 loop-again : tie.Need-loop-again Inv-loop μ-loop
-loop-again c =
-    let v = c .before .before .before .before .before .before .before .before .before .loop .inv in
-    let p = c .before .before .before .before .before .before .before .before .before .before .before .before .before .before .before .pre in
-    let r = c .before .before .before .before .before .before .before .before .before .before .before .before .before .before .before .args .round in
-    let k = c .before .before .before .before .before .before .before .before .before .loop .k in
-    rw (c .before .before .before .with-bidder .ensures, add-one k)
-    (filled-next r p k (c .before .before .before .before .before .before .before .before .loop-test .taken) _ _ _ v _ _ (rw (add-one k) at (c .before .before .before .before .before .award-slot .ensures)) _ (c .before .settle .kept .0 ∙ v .size)
-    (rw (add-one k) at (c .before .settle .ensures)))
+loop-again c = let v = c .before .before .before .before .before .before .before .before .before .before .before .before .before .loop .inv in
+    let p = c .before .before .before .before .before .before .before .before .before .before .before .before .before .before .before .before .before .before .before .before .before .before .before .before .before .pre in
+    let r = c .before .before .before .before .before .before .before .before .before .before .before .before .before .before .before .before .before .before .before .before .before .before .before .before .before .args .round in
+    let k = c .before .before .before .before .before .before .before .before .before .before .before .before .before .loop .k in
+    let settled = c .before .settle .ensures r p (c .before .before .before .before .before .before .before .before .before .before .before .before .before .before .before .before .before .before .before .before .enter-all .ensures .1 .1) in
+    rw (c .before .before .before .before .before .before .with-bidder .ensures, add-one k)
+    (filled-next r p k (c .before .before .before .before .before .before .before .before .before .before .before .if1 .taken) _ _ _ v _ _ (rw (add-one k) at (c .before .before .before .before .before .before .before .before .award-slot .ensures)) _ (c .before .settle .kept .0 ∙ v .size)
+    (rw (add-one k) at settled))
 
 returns : tie.Need-returns Inv-loop μ-loop
 unfolding outcomeOf greedyPage
-returns c =
-    let v = c .before .loop .inv in
-    let r = c .before .before .before .before .before .before .before .args .round in
-    let end = le-antisymm (v .some) (c .loop-test .left) in
+returns c = let v = c .before .before .loop .inv in
+    let r = c .before .before .before .before .before .before .before .before .before .before .before .before .before .before .args .round in
+    let end = le-antisymm (v .some) (c .if1 .left) in
     λ i. record {
       page = (v .page-is ∙ ap (pageUpTo r) end) i;
       prices = (v .prices-are ∙ ap (λ (n : ℕ). padded (λ j. price r (suc j)) n 16 0) end) i;
@@ -134,12 +146,15 @@ played-spec =
     (tie.spec
     Inv-loop
     μ-loop
-    slice-aggregate-bar-owns
-    bar-owns-requires
+    slice-aggregate-enter-all
+    slice-aggregate-enter-all-2
+    slice-aggregate-enter-all-3
+    slice-aggregate-enter-all-4
+    enter-all-requires
     empty-page-requires
     loop-holds
-    add-t16
-    cast-t17
+    add-t24
+    cast-t25
     slice-aggregate-award-slot
     slice-aggregate-award-slot-2
     award-slot-requires
@@ -147,6 +162,9 @@ played-spec =
     mul-prices
     array-write-prices
     slice-aggregate-settle
+    slice-aggregate-settle-2
+    slice-aggregate-settle-3
+    slice-aggregate-settle-4
     settle-requires
     add-k
     loop-less
