@@ -24,22 +24,26 @@ abbrev μ-loop : tie.MeasureT-loop
 μ-loop table₀ last earlier barring key next₀ table next = next
 
 mul-next : tie.Need-mul-next Inv-loop μ-loop
-mul-next c = let a = c .before .before .before .before .args in
+mul-next c =
+    let a = c .before .before .before .before .args in
     let p = c .before .before .before .before .pre in
     omega arith
 
 shared-slice-read-next : tie.Need-shared-slice-read-next Inv-loop μ-loop
-shared-slice-read-next c = let a = c .before .before .before .before .before .args in
+shared-slice-read-next c =
+    let a = c .before .before .before .before .before .args in
     let p = c .before .before .before .before .before .pre in
     omega arith
 
 cast-next : tie.Need-cast-next Inv-loop μ-loop
-cast-next c = let a = c .before .before .before .before .before .args in
+cast-next c =
+    let a = c .before .before .before .before .before .args in
     let falls = c .before .before .before .before .before .pre .1 in
     omega (arith, falls .last-within (a .key))
 
 loop-holds : tie.Need-loop-holds Inv-loop μ-loop
-loop-holds c = let a = c .before .before .before .before .before .args in
+loop-holds c =
+    let a = c .before .before .before .before .before .args in
     let falls = c .before .before .before .before .before .pre .1 in
     let some-key = c .before .before .before .before .before .pre .0 .1 .0 in
     let most-key = c .before .before .before .before .before .pre .0 .1 .1 in
@@ -50,28 +54,32 @@ loop-holds c = let a = c .before .before .before .before .before .args in
     }
 
 sub-number : tie.Need-sub-number Inv-loop μ-loop
-sub-number c = let a = c .before .before .before .before .before .before .before .args in
+sub-number c =
+    let a = c .before .before .before .before .before .before .before .args in
     let p = c .before .before .before .before .before .before .before .pre in
     let v = c .before .loop .inv in
     let going = c .loop-test .taken in
     omega arith
 
 mul-bar-standing : tie.Need-mul-bar-standing Inv-loop μ-loop
-mul-bar-standing c = let a = c .before .before .before .before .before .before .before .before .args in
+mul-bar-standing c =
+    let a = c .before .before .before .before .before .before .before .before .args in
     let p = c .before .before .before .before .before .before .before .before .pre in
     let v = c .before .before .loop .inv in
     let going = c .before .loop-test .taken in
     omega arith
 
 shared-slice-read-bar-standing : tie.Need-shared-slice-read-bar-standing Inv-loop μ-loop
-shared-slice-read-bar-standing c = let a = c .before .before .before .before .before .before .before .before .before .args in
+shared-slice-read-bar-standing c =
+    let a = c .before .before .before .before .before .before .before .before .before .args in
     let p = c .before .before .before .before .before .before .before .before .before .pre in
     let v = c .before .before .before .loop .inv in
     let going = c .before .before .loop-test .taken in
     omega arith
 
 cast-bar-standing : tie.Need-cast-bar-standing Inv-loop μ-loop
-cast-bar-standing c = let a = c .before .before .before .before .before .before .before .before .before .args in
+cast-bar-standing c =
+    let a = c .before .before .before .before .before .before .before .before .before .args in
     let falls = c .before .before .before .before .before .before .before .before .before .pre .1 in
     let v = c .before .before .before .loop .inv in
     let next = c .before .before .before .loop .next in
@@ -79,7 +87,8 @@ cast-bar-standing c = let a = c .before .before .before .before .before .before 
     omega (arith, falls .barring-within (next - 1))
 
 bar-standing-requires : tie.Need-bar-standing-requires Inv-loop μ-loop
-bar-standing-requires c κs = let a = c .before .before .before .before .before .before .before .before .before .args in
+bar-standing-requires c κs =
+    let a = c .before .before .before .before .before .before .before .before .before .args in
     let falls = c .before .before .before .before .before .before .before .before .before .pre .1 in
     let v = c .before .before .before .loop .inv in
     let next = c .before .before .before .loop .next in
@@ -87,21 +96,24 @@ bar-standing-requires c κs = let a = c .before .before .before .before .before 
     (v .size, falls .barring-within (next - 1))
 
 mul-next-2 : tie.Need-mul-next-2 Inv-loop μ-loop
-mul-next-2 c = let a = c .before .before .before .before .before .before .before .before .before .before .before .before .args in
+mul-next-2 c =
+    let a = c .before .before .before .before .before .before .before .before .before .before .before .before .args in
     let p = c .before .before .before .before .before .before .before .before .before .before .before .before .pre in
     let v = c .before .before .before .before .before .before .loop .inv in
     let going = c .before .before .before .before .before .loop-test .taken in
     omega arith
 
 shared-slice-read-next-2 : tie.Need-shared-slice-read-next-2 Inv-loop μ-loop
-shared-slice-read-next-2 c = let a = c .before .before .before .before .before .before .before .before .before .before .before .before .before .args in
+shared-slice-read-next-2 c =
+    let a = c .before .before .before .before .before .before .before .before .before .before .before .before .before .args in
     let p = c .before .before .before .before .before .before .before .before .before .before .before .before .before .pre in
     let v = c .before .before .before .before .before .before .before .loop .inv in
     let going = c .before .before .before .before .before .before .loop-test .taken in
     omega arith
 
 cast-next-2 : tie.Need-cast-next-2 Inv-loop μ-loop
-cast-next-2 c = let a = c .before .before .before .before .before .before .before .before .before .before .before .before .before .args in
+cast-next-2 c =
+    let a = c .before .before .before .before .before .before .before .before .before .before .before .before .before .args in
     let falls = c .before .before .before .before .before .before .before .before .before .before .before .before .before .pre .1 in
     let v = c .before .before .before .before .before .before .before .loop .inv in
     let next = c .before .before .before .before .before .before .before .loop .next in
@@ -109,7 +121,8 @@ cast-next-2 c = let a = c .before .before .before .before .before .before .befor
     omega (arith, falls .earlier-within (next - 1))
 
 loop-less : tie.Need-loop-less Inv-loop μ-loop
-loop-less c = let a = c .before .before .before .before .before .before .before .before .before .before .before .before .before .args in
+loop-less c =
+    let a = c .before .before .before .before .before .before .before .before .before .before .before .before .before .args in
     let falls = c .before .before .before .before .before .before .before .before .before .before .before .before .before .pre .1 in
     let v = c .before .before .before .before .before .before .before .loop .inv in
     let next = c .before .before .before .before .before .before .before .loop .next in
@@ -117,7 +130,8 @@ loop-less c = let a = c .before .before .before .before .before .before .before 
     omega (arith, falls .earlier-within (next - 1))
 
 loop-again : tie.Need-loop-again Inv-loop μ-loop
-loop-again c = let a = c .before .before .before .before .before .before .before .before .before .before .before .before .before .args in
+loop-again c =
+    let a = c .before .before .before .before .before .before .before .before .before .before .before .before .before .args in
     let falls = c .before .before .before .before .before .before .before .before .before .before .before .before .before .pre .1 in
     let some-key = c .before .before .before .before .before .before .before .before .before .before .before .before .before .pre .0 .1 .0 in
     let v = c .before .before .before .before .before .before .before .loop .inv in

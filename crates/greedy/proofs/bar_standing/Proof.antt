@@ -14,7 +14,8 @@ use Rattle.greedy.proofs.bar_standing.Statement.{statement}
 use Rattle.greedy.proofs.bar_standing.Tie as tie
 
 returns : tie.Need-returns
-returns c = let table = c .before .before .args .table .now in
+returns c =
+    let table = c .before .before .args .table .now in
     λ l b l-most b-most.
     sym (and-true (openAt table l b))
     ∙ nobody-open table l b false (bars (c .before .before .args .key) l b) (λ b-some. sym (bars-nobody l b b-some b-most l-most _ (c .if1 .taken)))
@@ -32,7 +33,8 @@ cast-t8 : tie.Need-cast-t8
 cast-t8 c = search needs
 
 bar-everywhere-requires : tie.Need-bar-everywhere-requires
-bar-everywhere-requires c κs = let key = c .before .before .before .before .args .key in
+bar-everywhere-requires c κs =
+    let key = c .before .before .before .before .args .key in
     let most = c .before .before .before .before .pre .1 in
     let some = c .before .before .if1 .left in
     let none = c .before .if2 .taken in
@@ -42,7 +44,8 @@ same-length : tie.Need-same-length
 same-length c = search needs
 
 returns-2 : tie.Need-returns-2
-returns-2 c = let key = c .before .before .before .before .before .before .before .args .key in
+returns-2 c =
+    let key = c .before .before .before .before .before .before .before .args .key in
     let most = c .before .before .before .before .before .before .before .pre .1 in
     let some = c .before .before .before .before .before .if1 .left in
     let none = c .before .before .before .before .if2 .taken in
@@ -58,7 +61,8 @@ cast-t8-2 : tie.Need-cast-t8-2
 cast-t8-2 c = search needs
 
 bar-requires : tie.Need-bar-requires
-bar-requires c κs = let key = c .before .before .before .before .args .key in
+bar-requires c κs =
+    let key = c .before .before .before .before .args .key in
     let most = c .before .before .before .before .pre .1 in
     let some = c .before .before .if1 .left in
     let far = c .before .if2 .left in
@@ -68,7 +72,8 @@ same-length-2 : tie.Need-same-length-2
 same-length-2 c = search needs
 
 returns-3 : tie.Need-returns-3
-returns-3 c = let key = c .before .before .before .before .before .before .before .args .key in
+returns-3 c =
+    let key = c .before .before .before .before .before .before .before .args .key in
     let most = c .before .before .before .before .before .before .before .pre .1 in
     let some = c .before .before .before .before .before .if1 .left in
     let far = c .before .before .before .before .if2 .left in

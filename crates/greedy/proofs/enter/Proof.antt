@@ -17,13 +17,14 @@ enum-known-kind : tie.Need-enum-known-kind
 enum-known-kind c = search needs
 
 bar-requires : tie.Need-bar-requires
-bar-requires c κs = let q = c .before .before .before .before .before .before .before .before .before .args .constraint in
+bar-requires c κs =
+    let q = c .before .before .before .before .before .before .before .before .before .args .constraint in
     let p = c .before .before .before .before .before .before .before .before .before .pre in
     let e = c .before .before .kind .given .1 in
     let named = subst (ProperKind (q .owner .0)) e (p .0 .1 .named) in
     let owned = p .0 .1 .owned in
     let listed = p .0 .1 .listed in
-    (p .0 .0, named, (omega arith, listed))
+    (p .0 .0, named, (omega arith, omega arith))
 
 enum-known-kind-2 : tie.Need-enum-known-kind-2
 enum-known-kind-2 c = search needs
@@ -32,16 +33,20 @@ standing-key-requires : tie.Need-standing-key-requires
 standing-key-requires c κs = search needs
 
 standing-key-requires-2 : tie.Need-standing-key-requires-2
-standing-key-requires-2 c κs = let q = c .before .before .before .before .before .before .before .before .before .args .constraint in
+standing-key-requires-2 c κs =
+    let q = c .before .before .before .before .before .before .before .before .before .args .constraint in
     let p = c .before .before .before .before .before .before .before .before .before .pre in
     let e = c .before .before .kind2 .given .1 in
     let named = subst (ProperKind (q .owner .0)) e (p .0 .1 .named) in
     let owned = p .0 .1 .owned in
     let listed = p .0 .1 .listed in
-    (named .2, named .4)
+    let j-most = named .2 in
+    let x-most = named .4 in
+    (omega arith, omega arith)
 
 link-both-requires : tie.Need-link-both-requires
-link-both-requires c κs = let q = c .before .before .before .before .before .before .before .before .before .before .before .before .before .args .constraint in
+link-both-requires c κs =
+    let q = c .before .before .before .before .before .before .before .before .before .before .before .before .before .args .constraint in
     let p = c .before .before .before .before .before .before .before .before .before .before .before .before .before .pre in
     let e = c .before .before .before .before .before .before .kind2 .given .1 in
     let named = subst (ProperKind (q .owner .0)) e (p .0 .1 .named) in
@@ -57,25 +62,34 @@ enum-known-kind-3 : tie.Need-enum-known-kind-3
 enum-known-kind-3 c = search needs
 
 standing-key-requires-3 : tie.Need-standing-key-requires-3
-standing-key-requires-3 c κs = let q = c .before .before .before .before .before .before .before .before .args .constraint in
+standing-key-requires-3 c κs =
+    let q = c .before .before .before .before .before .before .before .before .args .constraint in
     let p = c .before .before .before .before .before .before .before .before .pre in
     let e = c .before .kind3 .given .1 in
     let named = subst (ProperKind (q .owner .0)) e (p .0 .1 .named) in
     let owned = p .0 .1 .owned in
     let listed = p .0 .1 .listed in
-    (listed, named .6)
+    let j-most = named .2 in
+    let x-most = named .4 in
+    let t-most = named .6 in
+    (omega arith, omega arith)
 
 standing-key-requires-4 : tie.Need-standing-key-requires-4
-standing-key-requires-4 c κs = let q = c .before .before .before .before .before .before .before .before .before .args .constraint in
+standing-key-requires-4 c κs =
+    let q = c .before .before .before .before .before .before .before .before .before .args .constraint in
     let p = c .before .before .before .before .before .before .before .before .before .pre in
     let e = c .before .before .kind3 .given .1 in
     let named = subst (ProperKind (q .owner .0)) e (p .0 .1 .named) in
     let owned = p .0 .1 .owned in
     let listed = p .0 .1 .listed in
-    (named .2, named .4)
+    let j-most = named .2 in
+    let x-most = named .4 in
+    let t-most = named .6 in
+    (omega arith, omega arith)
 
 link-both-requires-2 : tie.Need-link-both-requires-2
-link-both-requires-2 c κs = let q = c .before .before .before .before .before .before .before .before .before .before .before .before .before .args .constraint in
+link-both-requires-2 c κs =
+    let q = c .before .before .before .before .before .before .before .before .before .before .before .before .before .args .constraint in
     let p = c .before .before .before .before .before .before .before .before .before .before .before .before .before .pre in
     let e = c .before .before .before .before .before .before .kind3 .given .1 in
     let named = subst (ProperKind (q .owner .0)) e (p .0 .1 .named) in
@@ -93,7 +107,8 @@ same-length c = search needs
 
 returns : tie.Need-returns
 unfolding barsOwn ownerOf otherOf
-returns c = let q = c .before .before .before .before .before .before .before .before .before .before .before .before .args .constraint in
+returns c =
+    let q = c .before .before .before .before .before .before .before .before .before .before .before .before .args .constraint in
     let p = c .before .before .before .before .before .before .before .before .before .before .before .before .pre in
     let e = c .before .before .before .before .before .kind .given .1 in
     let named = subst (ProperKind (q .owner .0)) e (p .0 .1 .named) in
@@ -120,7 +135,8 @@ same-length-4 c = search needs
 
 returns-2 : tie.Need-returns-2
 unfolding barsOwn ownerOf otherOf
-returns-2 c = let q = c .before .before .before .before .before .before .before .before .before .before .before .before .before .before .before .before .before .before .before .before .args .constraint in
+returns-2 c =
+    let q = c .before .before .before .before .before .before .before .before .before .before .before .before .before .before .before .before .before .before .before .before .args .constraint in
     let p = c .before .before .before .before .before .before .before .before .before .before .before .before .before .before .before .before .before .before .before .before .pre in
     let e = c .before .before .before .before .before .before .before .before .before .before .before .before .before .kind2 .given .1 in
     let named = subst (ProperKind (q .owner .0)) e (p .0 .1 .named) in
@@ -150,7 +166,8 @@ same-length-7 c = search needs
 
 returns-3 : tie.Need-returns-3
 unfolding barsOwn ownerOf otherOf
-returns-3 c = let q = c .before .before .before .before .before .before .before .before .before .before .before .before .before .before .before .before .before .before .before .before .args .constraint in
+returns-3 c =
+    let q = c .before .before .before .before .before .before .before .before .before .before .before .before .before .before .before .before .before .before .before .before .args .constraint in
     let p = c .before .before .before .before .before .before .before .before .before .before .before .before .before .before .before .before .before .before .before .before .pre in
     let e = c .before .before .before .before .before .before .before .before .before .before .before .before .before .kind3 .given .1 in
     let named = subst (ProperKind (q .owner .0)) e (p .0 .1 .named) in

@@ -32,7 +32,8 @@ abbrev μ-loop : tie.MeasureT-loop
 
 loop-holds : tie.Need-loop-holds Inv-loop μ-loop
 unfolding barredOwn anyBelow
-loop-holds c = let p = c .before .before .before .before .pre in
+loop-holds c =
+    let p = c .before .before .before .before .pre in
     record {
       some = omega arith;
       size = p .0 .0;
@@ -42,39 +43,45 @@ loop-holds c = let p = c .before .before .before .before .pre in
     }
 
 mul-enter : tie.Need-mul-enter Inv-loop μ-loop
-mul-enter c = let v = c .before .before .before .before .before .loop .inv in
+mul-enter c =
+    let v = c .before .before .before .before .before .loop .inv in
     let p = c .before .before .before .before .before .before .before .before .before .before .pre .0 .1 in
     let below = c .before .before .before .before .loop-test .taken in
     omega arith
 
 element-copy-out-enter : tie.Need-element-copy-out-enter Inv-loop μ-loop
-element-copy-out-enter c = let v = c .before .before .before .before .before .loop .inv in
+element-copy-out-enter c =
+    let v = c .before .before .before .before .before .loop .inv in
     let p = c .before .before .before .before .before .before .before .before .before .before .pre .0 .1 in
     let below = c .before .before .before .before .loop-test .taken in
     omega arith
 
 enter-requires : tie.Need-enter-requires Inv-loop μ-loop
 unfolding constraintAt
-enter-requires c κs = let v = c .before .before .before .before .before .before .loop .inv in
+enter-requires c κs =
+    let v = c .before .before .before .before .before .before .loop .inv in
     let p = c .before .before .before .before .before .before .before .before .before .before .before .pre .0 .1 in
     let below = c .before .before .before .before .before .loop-test .taken in
     ((v .size, p .proper _ (c .before .before .before .before .before .before .loop .i, below, refl), omega arith), v .falls)
 
 add-i : tie.Need-add-i Inv-loop μ-loop
-add-i c = let v = c .before .before .before .before .before .before .before .before .before .before .before .before .before .before .before .loop .inv in
+add-i c =
+    let v = c .before .before .before .before .before .before .before .before .before .before .before .before .before .before .before .loop .inv in
     let p = c .before .before .before .before .before .before .before .before .before .before .before .before .before .before .before .before .before .before .before .before .pre .0 .1 in
     let below = c .before .before .before .before .before .before .before .before .before .before .before .before .before .before .loop-test .taken in
     omega arith
 
 loop-less : tie.Need-loop-less Inv-loop μ-loop
-loop-less c = let v = c .before .before .before .before .before .before .before .before .before .before .before .before .before .before .before .loop .inv in
+loop-less c =
+    let v = c .before .before .before .before .before .before .before .before .before .before .before .before .before .before .before .loop .inv in
     let p = c .before .before .before .before .before .before .before .before .before .before .before .before .before .before .before .before .before .before .before .before .pre .0 .1 in
     let below = c .before .before .before .before .before .before .before .before .before .before .before .before .before .before .loop-test .taken in
     omega arith
 
 loop-again : tie.Need-loop-again Inv-loop μ-loop
 unfolding barredOwn anyBelow constraintAt
-loop-again c = let v = c .before .before .before .before .before .before .before .before .before .before .before .before .before .before .before .loop .inv in
+loop-again c =
+    let v = c .before .before .before .before .before .before .before .before .before .before .before .before .before .before .before .loop .inv in
     let p = c .before .before .before .before .before .before .before .before .before .before .before .before .before .before .before .before .before .before .before .before .pre .0 .1 in
     let below = c .before .before .before .before .before .before .before .before .before .before .before .before .before .before .loop-test .taken in
     let r = c .before .before .before .before .before .before .before .before .before .before .before .before .before .before .before .before .before .before .before .before .args .t5 in
@@ -105,7 +112,8 @@ same-length-4 : tie.Need-same-length-4 Inv-loop μ-loop
 same-length-4 c = c .before .loop .inv .falls .sized-barring ∙ sym (c .before .before .before .before .before .before .pre .1 .0 .sized-barring)
 
 returns : tie.Need-returns Inv-loop μ-loop
-returns c = let v = c .before .loop .inv in
+returns c =
+    let v = c .before .loop .inv in
     let r = c .before .before .before .before .before .before .args .t5 in
     let end = le-antisymm (v .some) (c .loop-test .left) in (
       (λ l b l-most b-most.

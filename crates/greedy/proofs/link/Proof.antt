@@ -50,7 +50,8 @@ same-length-3 : tie.Need-same-length-3
 same-length-3 c = search needs
 
 returns : tie.Need-returns
-returns c = let a = c .before .args in
+returns c =
+    let a = c .before .args in
     (ap (λ (n : ℕ). set (a .last .now) (a .key) n) (add-one (a .number)), refl, refl)
 
 pub link-spec : {M : Type 1} → statement M

@@ -18,11 +18,12 @@ add-link : tie.Need-add-link
 add-link c = search needs
 
 link-requires-2 : tie.Need-link-requires-2
-link-requires-2 c κs = let a = c .before .before .before .before .before .before .before .before .before .before .before .before .before .before .before .before .args in
+link-requires-2 c κs =
+    let a = c .before .before .before .before .before .before .before .before .before .before .before .before .before .before .before .before .args in
     let p = c .before .before .before .before .before .before .before .before .before .before .before .before .before .before .before .before .pre in
     let first = c .before .before .before .before .before .before .before .before .before .link .ensures in (
       falls-once (a .number) (a .owner) (a .other) _ _ _ _ _ _ (p .0) (p .1 .0) (p .1 .1) (p .1 .2) (first .0) (first .1) (first .2),
-      (p .1 .1, p .1 .0, let low = p .1 .2 in omega arith),
+      (omega arith, omega arith, omega arith),
     )
 
 same-length : tie.Need-same-length
@@ -35,7 +36,8 @@ same-length-3 : tie.Need-same-length-3
 same-length-3 c = search needs
 
 returns : tie.Need-returns
-returns c = let a = c .before .before .before .before .before .before .before .before .before .before .before .before .before .before .before .before .before .before .before .before .before .before .before .args in
+returns c =
+    let a = c .before .before .before .before .before .before .before .before .before .before .before .before .before .before .before .before .before .before .before .before .before .before .before .args in
     let p = c .before .before .before .before .before .before .before .before .before .before .before .before .before .before .before .before .before .before .before .before .before .before .before .pre in
     let first = c .before .before .before .before .before .before .before .before .before .before .before .before .before .before .before .before .link .ensures in
     let second = c .before .before .before .before .before .before .link2 .ensures in (

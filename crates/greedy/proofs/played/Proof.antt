@@ -51,12 +51,14 @@ loop-holds : tie.Need-loop-holds Inv-loop μ-loop
 loop-holds c = rw (c .empty-page .ensures) (filled-start (c .before .before .before .before .before .before .before .before .before .before .before .args .round) _ (c .before .before .before .before .before .before .before .before .before .before .before .pre) (c .before .before .before .before .before .before .enter-all .kept .0) (c .before .before .before .before .before .before .enter-all .ensures .0))
 
 add-t24 : tie.Need-add-t24 Inv-loop μ-loop
-add-t24 c = let few = c .before .before .before .before .before .before .before .before .before .before .before .before .before .before .pre .most-slots in
+add-t24 c =
+    let few = c .before .before .before .before .before .before .before .before .before .before .before .before .before .before .pre .most-slots in
     let v = c .before .before .loop .inv .some in
     omega arith
 
 cast-t25 : tie.Need-cast-t25 Inv-loop μ-loop
-cast-t25 c = let few = c .before .before .before .before .before .before .before .before .before .before .before .before .before .before .pre .most-slots in
+cast-t25 c =
+    let few = c .before .before .before .before .before .before .before .before .before .before .before .before .before .before .pre .most-slots in
     let v = c .before .before .loop .inv .some in
     omega arith
 
@@ -68,7 +70,8 @@ slice-aggregate-award-slot-2 c = sym (c .before .before .before .before .before 
 
 award-slot-requires : tie.Need-award-slot-requires Inv-loop μ-loop
 unfolding bidOf
-award-slot-requires c κs = let v = c .before .before .before .before .loop .inv in
+award-slot-requires c κs =
+    let v = c .before .before .before .before .loop .inv in
     let p = c .before .before .before .before .before .before .before .before .before .before .before .before .before .before .before .before .pre in
     let few = p .most-slots in
     let listed = p .sized-bids in
@@ -76,17 +79,20 @@ award-slot-requires c κs = let v = c .before .before .before .before .loop .inv
     ((v .size, many, omega arith), ((omega arith, omega arith), λ i below. p .most-bid (suc i)))
 
 with-bidder-requires : tie.Need-with-bidder-requires Inv-loop μ-loop
-with-bidder-requires c κs = let few = c .before .before .before .before .before .before .before .before .before .before .before .before .before .before .before .before .before .before .pre .most-slots in
+with-bidder-requires c κs =
+    let few = c .before .before .before .before .before .before .before .before .before .before .before .before .before .before .before .before .before .before .pre .most-slots in
     let v = c .before .before .before .before .before .before .loop .inv .some in
     omega arith
 
 mul-prices : tie.Need-mul-prices Inv-loop μ-loop
-mul-prices c = let few = c .before .before .before .before .before .before .before .before .before .before .before .before .before .before .before .before .before .before .before .pre .most-slots in
+mul-prices c =
+    let few = c .before .before .before .before .before .before .before .before .before .before .before .before .before .before .before .before .before .before .before .pre .most-slots in
     let v = c .before .before .before .before .before .before .before .loop .inv .some in
     omega arith
 
 array-write-prices : tie.Need-array-write-prices Inv-loop μ-loop
-array-write-prices c = let few = c .before .before .before .before .before .before .before .before .before .before .before .before .before .before .before .before .before .before .before .pre .most-slots in
+array-write-prices c =
+    let few = c .before .before .before .before .before .before .before .before .before .before .before .before .before .before .before .before .before .before .before .pre .most-slots in
     let v = c .before .before .before .before .before .before .before .loop .inv .some in
     omega arith
 
@@ -103,7 +109,8 @@ slice-aggregate-settle-4 : tie.Need-slice-aggregate-settle-4 Inv-loop μ-loop
 slice-aggregate-settle-4 c = sym (c .before .before .before .before .before .before .before .before .before .before .before .before .before .before .before .before .before .before .enter-all .ensures .1 .0 .sized-barring)
 
 settle-requires : tie.Need-settle-requires Inv-loop μ-loop
-settle-requires c κs = let v = c .before .before .before .before .before .before .before .before .before .before .before .loop .inv in
+settle-requires c κs =
+    let v = c .before .before .before .before .before .before .before .before .before .before .before .loop .inv in
     let p = c .before .before .before .before .before .before .before .before .before .before .before .before .before .before .before .before .before .before .before .before .before .before .before .pre in
     let few = p .most-slots in
     let used = p .most-used in
@@ -111,17 +118,20 @@ settle-requires c κs = let v = c .before .before .before .before .before .befor
     ((v .size, falling-more (2 * c .before .before .before .before .before .before .before .before .before .before .before .before .before .before .before .before .before .before .before .before .before .before .before .args .round .used) 2048 _ _ _ (omega arith) (c .before .before .before .before .before .before .before .before .before .before .before .before .before .before .before .before .before .before .enter-all .ensures .1 .0)), (won, (omega arith, omega arith)))
 
 add-k : tie.Need-add-k Inv-loop μ-loop
-add-k c = let few = c .before .before .before .before .before .before .before .before .before .before .before .before .before .before .before .before .before .before .before .before .before .before .before .before .before .pre .most-slots in
+add-k c =
+    let few = c .before .before .before .before .before .before .before .before .before .before .before .before .before .before .before .before .before .before .before .before .before .before .before .before .before .pre .most-slots in
     let v = c .before .before .before .before .before .before .before .before .before .before .before .before .before .loop .inv .some in
     omega arith
 
 loop-less : tie.Need-loop-less Inv-loop μ-loop
-loop-less c = let few = c .before .before .before .before .before .before .before .before .before .before .before .before .before .before .before .before .before .before .before .before .before .before .before .before .before .pre .most-slots in
+loop-less c =
+    let few = c .before .before .before .before .before .before .before .before .before .before .before .before .before .before .before .before .before .before .before .before .before .before .before .before .before .pre .most-slots in
     let v = c .before .before .before .before .before .before .before .before .before .before .before .before .before .loop .inv .some in
     omega arith
 
 loop-again : tie.Need-loop-again Inv-loop μ-loop
-loop-again c = let v = c .before .before .before .before .before .before .before .before .before .before .before .before .before .loop .inv in
+loop-again c =
+    let v = c .before .before .before .before .before .before .before .before .before .before .before .before .before .loop .inv in
     let p = c .before .before .before .before .before .before .before .before .before .before .before .before .before .before .before .before .before .before .before .before .before .before .before .before .before .pre in
     let r = c .before .before .before .before .before .before .before .before .before .before .before .before .before .before .before .before .before .before .before .before .before .before .before .before .before .args .round in
     let k = c .before .before .before .before .before .before .before .before .before .before .before .before .before .loop .k in
@@ -132,7 +142,8 @@ loop-again c = let v = c .before .before .before .before .before .before .before
 
 returns : tie.Need-returns Inv-loop μ-loop
 unfolding outcomeOf greedyPage
-returns c = let v = c .before .before .loop .inv in
+returns c =
+    let v = c .before .before .loop .inv in
     let r = c .before .before .before .before .before .before .before .before .before .before .before .before .before .before .args .round in
     let end = le-antisymm (v .some) (c .if1 .left) in
     λ i. record {

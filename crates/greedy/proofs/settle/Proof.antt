@@ -13,13 +13,15 @@ same-length : tie.Need-same-length
 same-length c = search needs
 
 returns : tie.Need-returns
-returns c = let a = c .before .before .before .before .before .before .before .before .before .before .args in
+returns c =
+    let a = c .before .before .before .before .before .before .before .before .before .before .args in
     λ r p h l b l-most b-most.
     c .before .before .seat .ensures r p h l b l-most b-most
     ∙ sym (after-somebody r (a .winner .0) (a .at .0) (openAt (a .table .now) l b) l b (c .before .before .before .before .if1 .taken))
 
 returns-2 : tie.Need-returns-2
-returns-2 c = let a = c .before .before .before .before .before .before .args in
+returns-2 c =
+    let a = c .before .before .before .before .before .before .args in
     λ r p h l b l-most b-most. sym (after-nobody r (a .winner .0) (a .at .0) (openAt (a .table .now) l b) l b (c .if1 .left))
 
 pub settle-spec : {M : Type 1} → statement M
