@@ -6,9 +6,9 @@ ghost use Rattle.choice.specs.Tables.{bidIn};
 ghost use Rattle.bound.specs.Bound.{addAfter, liveIn, listed, Ranked};
 
 // Whether a bidder may still get one of the slots from index `from` to below `slots`, by marks of who is barred, 8 slots a bidder.
-fn is_live(marks: [u8; 64], number: u8, from: usize, slots: usize) -> bool
-    requires { ⌜ (length marks ≡ 64) × (0 < number) × (number ≤ 8) × (from ≤ slots) × (slots ≤ 8) ⌝ }
-    ensures { λ r. ⌜ r ≡ liveIn marks from slots number ⌝ }
+fn is_live(marks: &[u8], number: u8, from: usize, slots: usize) -> bool
+    requires { ⌜ (length (now marks) ≡ 64) × (0 < number) × (number ≤ 8) × (from ≤ slots) × (slots ≤ 8) ⌝ }
+    ensures { λ r. ⌜ r ≡ liveIn (now (marks .entry)) from slots number ⌝ }
 {
     let start = 8 * (number as usize - 1);
     let mut l: usize = from;
@@ -23,17 +23,17 @@ fn is_live(marks: [u8; 64], number: u8, from: usize, slots: usize) -> bool
 
 // The bidders of `ranked` that may still get a slot, in their order, paired with the effects of the slots from index `from` to below `slots`.
 pub fn most_added(
-    marks: [u8; 64],
+    marks: &[u8],
     ranked: &[u8],
     bids: &[u32],
     effects: &[u32],
     from: usize,
     slots: usize,
 ) -> u64
-    requires { ⌜ (length (now ranked) ≤ 8) × (slots ≤ 8) × (from ≤ slots) × (slots ≤ length (now effects)) × (length marks ≡ 64) ⌝ }
+    requires { ⌜ (length (now ranked) ≤ 8) × (slots ≤ 8) × (from ≤ slots) × (slots ≤ length (now effects)) × (length (now marks) ≡ 64) ⌝ }
     requires { ⌜ ((i : ℕ) → i < length (now ranked) → (0 < getD (now ranked) i 0) × (getD (now ranked) i 0 ≤ length (now bids)) × (getD (now ranked) i 0 ≤ 8)) ⌝ }
     requires { ⌜ ((i : ℕ) → getD (now bids) i 0 ≤ 1000000000) × ((i : ℕ) → getD (now effects) i 0 ≤ 1000000) ⌝ }
-    ensures { λ r. ⌜ r ≡ addAfter (liveIn marks from slots) (listed (now (ranked .entry))) (bidIn (now (bids .entry))) (listed (now (effects .entry))) from slots (length (now (ranked .entry))) ⌝ }
+    ensures { λ r. ⌜ r ≡ addAfter (liveIn (now (marks .entry)) from slots) (listed (now (ranked .entry))) (bidIn (now (bids .entry))) (listed (now (effects .entry))) from slots (length (now (ranked .entry))) ⌝ }
 {
     let mut sum: u64 = 0;
     let mut slot: usize = from;

@@ -32,9 +32,9 @@ pub struct Chosen {
 }
 
 // Whether a bidder may stand at the next slot, by the marks: nobody may, and a bidder that is not barred.
-fn may_stand(marks: [u8; 64], slot: Slot, bidder: Bidder) -> bool
-    requires { ⌜ (length marks ≡ 64) × ((0 < slot .0) × (slot .0 ≤ 8)) × (bidder .0 ≤ 8) ⌝ }
-    ensures { λ r. ⌜ r ≡ openTo marks (slot .0) (bidder .0) ⌝ }
+fn may_stand(marks: &[u8], slot: Slot, bidder: Bidder) -> bool
+    requires { ⌜ (length (now marks) ≡ 64) × ((0 < slot .0) × (slot .0 ≤ 8)) × (bidder .0 ≤ 8) ⌝ }
+    ensures { λ r. ⌜ r ≡ openTo (now (marks .entry)) (slot .0) (bidder .0) ⌝ }
 {
     if bidder.0 == 0 {
         return true;
@@ -85,7 +85,7 @@ fn search(
         }
         return answer;
     }
-    let most = had + bound::most_added(marks, ranked, bids, effects, from, slots);
+    let most = had + bound::most_added(&marks, ranked, bids, effects, from, slots);
     if most < answer.need {
         return answer;
     }
@@ -94,7 +94,7 @@ fn search(
     let mut b: u8 = 0;
     while b <= bidders {
         let bidder = Bidder(b);
-        if may_stand(marks, slot, bidder) {
+        if may_stand(&marks, slot, bidder) {
             let next = auction::with_bidder(page, slot, bidder);
             let more = clash::more_marks(clashes, marks, slot, bidder);
             best = search(

@@ -45,10 +45,10 @@ none-open marks b k m none =
     none (w .0) (leb-true k (w .0) (both .0)) (w .1) (eqb-true (getD marks (8 * (b - 1) + w .0) 0) 0 (both .1)))
 
 abbrev Inv-loop : tie.InvT-loop
-Inv-loop number from slots marks start l₀ l = Passed marks number from slots l
+Inv-loop marks number from slots start l₀ l = Passed marks number from slots l
 
 abbrev μ-loop : tie.MeasureT-loop
-μ-loop number from slots marks start l₀ l = slots - l
+μ-loop marks number from slots start l₀ l = slots - l
 
 sub-start : tie.Need-sub-start Inv-loop μ-loop
 sub-start c = omega arith
@@ -63,31 +63,31 @@ loop-holds c =
 add-if1 : tie.Need-add-if1 Inv-loop μ-loop
 add-if1 c = let v = c .before .loop .inv in omega arith
 
-array-read-if1 : tie.Need-array-read-if1 Inv-loop μ-loop
-array-read-if1 c = let v = c .before .loop .inv in omega arith
+shared-slice-read-if1 : tie.Need-shared-slice-read-if1 Inv-loop μ-loop
+shared-slice-read-if1 c = let v = c .before .before .loop .inv in omega arith
 
 returns : tie.Need-returns Inv-loop μ-loop
 returns c =
-    let a = c .before .before .before .args in
-    let v = c .before .before .loop .inv in
-    sym (open-live (a .t1) (a .number) (a .«from») (a .slots) (c .before .before .loop .l) (v .low) (c .before .loop-test .taken) (c .if1 .taken))
+    let a = c .before .before .before .before .args in
+    let v = c .before .before .before .loop .inv in
+    sym (open-live (a .marks .now) (a .number) (a .«from») (a .slots) (c .before .before .before .loop .l) (v .low) (c .before .before .loop-test .taken) (c .if1 .taken))
 
 add-l : tie.Need-add-l Inv-loop μ-loop
-add-l c = let v = c .before .before .loop .inv in omega arith
+add-l c = let v = c .before .before .before .loop .inv in omega arith
 
 loop-less : tie.Need-loop-less Inv-loop μ-loop
 loop-less c = omega arith
 
 loop-again : tie.Need-loop-again Inv-loop μ-loop
 loop-again c =
-    let v = c .before .before .loop .inv in
-    one-more _ _ _ _ _ v (c .before .loop-test .taken) (c .if1 .left)
+    let v = c .before .before .before .loop .inv in
+    one-more _ _ _ _ _ v (c .before .before .loop-test .taken) (c .if1 .left)
 
 returns-2 : tie.Need-returns-2 Inv-loop μ-loop
 returns-2 c =
     let a = c .before .before .args in
     let v = c .before .loop .inv in
-    sym (none-open (a .t1) (a .number) (a .«from») (a .slots) (λ j h g. v .marked j h (let e = c .loop-test .left in omega arith)))
+    sym (none-open (a .marks .now) (a .number) (a .«from») (a .slots) (λ j h g. v .marked j h (let e = c .loop-test .left in omega arith)))
 
 pub is-live-spec : {M : Type 1} → statement M
 is-live-spec =
@@ -99,7 +99,7 @@ is-live-spec =
     mul-start
     loop-holds
     add-if1
-    array-read-if1
+    shared-slice-read-if1
     returns
     add-l
     loop-less

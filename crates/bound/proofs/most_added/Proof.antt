@@ -93,24 +93,24 @@ shared-slice-read-number c = omega arith
 
 is-live-requires : tie.Need-is-live-requires Inv-loop μ-loop
 is-live-requires c κs =
-    let p = c .before .before .before .before .before .before .before .pre in
+    let p = c .before .before .before .before .before .before .before .before .pre in
     let n = p .1 .0 (c .before .before .before .loop .i) (c .before .before .loop-test .taken) in
     (p .0 .4, n .0, n .2, p .0 .2, p .0 .1)
 
 cast-bid : tie.Need-cast-bid Inv-loop μ-loop
-cast-bid c = omega (arith, c .before .before .before .before .before .before .before .before .before .pre .1 .0 (c .before .before .before .before .before .loop .i) (c .before .before .before .before .loop-test .taken))
+cast-bid c = omega (arith, c .before .before .before .before .before .before .before .before .before .before .pre .1 .0 (c .before .before .before .before .before .loop .i) (c .before .before .before .before .loop-test .taken))
 
 sub-bid : tie.Need-sub-bid Inv-loop μ-loop
-sub-bid c = omega (arith, c .before .before .before .before .before .before .before .before .before .pre .1 .0 (c .before .before .before .before .before .loop .i) (c .before .before .before .before .loop-test .taken))
+sub-bid c = omega (arith, c .before .before .before .before .before .before .before .before .before .before .pre .1 .0 (c .before .before .before .before .before .loop .i) (c .before .before .before .before .loop-test .taken))
 
 mul-bid : tie.Need-mul-bid Inv-loop μ-loop
-mul-bid c = omega (arith, c .before .before .before .before .before .before .before .before .before .pre .1 .0 (c .before .before .before .before .before .loop .i) (c .before .before .before .before .loop-test .taken))
+mul-bid c = omega (arith, c .before .before .before .before .before .before .before .before .before .before .pre .1 .0 (c .before .before .before .before .before .loop .i) (c .before .before .before .before .loop-test .taken))
 
 shared-slice-read-bid : tie.Need-shared-slice-read-bid Inv-loop μ-loop
-shared-slice-read-bid c = omega (arith, c .before .before .before .before .before .before .before .before .before .before .pre .1 .0 (c .before .before .before .before .before .before .loop .i) (c .before .before .before .before .before .loop-test .taken))
+shared-slice-read-bid c = omega (arith, c .before .before .before .before .before .before .before .before .before .before .before .pre .1 .0 (c .before .before .before .before .before .before .loop .i) (c .before .before .before .before .before .loop-test .taken))
 
 cast-bid-2 : tie.Need-cast-bid-2 Inv-loop μ-loop
-cast-bid-2 c = omega (arith, (c .before .before .before .before .before .before .before .before .before .before .pre .1 .1 .0 (getD (c .before .before .before .before .before .before .before .before .before .before .args .ranked .now) (c .before .before .before .before .before .before .loop .i) 0 - 1)))
+cast-bid-2 c = omega (arith, (c .before .before .before .before .before .before .before .before .before .before .before .pre .1 .1 .0 (getD (c .before .before .before .before .before .before .before .before .before .before .before .args .ranked .now) (c .before .before .before .before .before .before .loop .i) 0 - 1)))
 
 mul-effect : tie.Need-mul-effect Inv-loop μ-loop
 mul-effect c = omega arith
@@ -119,13 +119,13 @@ shared-slice-read-effect : tie.Need-shared-slice-read-effect Inv-loop μ-loop
 shared-slice-read-effect c = omega arith
 
 cast-effect : tie.Need-cast-effect Inv-loop μ-loop
-cast-effect c = omega (arith, (c .before .before .before .before .before .before .before .before .before .before .before .pre .1 .1 .1 (c .before .before .before .before .before .before .before .loop .slot)))
+cast-effect c = omega (arith, (c .before .before .before .before .before .before .before .before .before .before .before .before .pre .1 .1 .1 (c .before .before .before .before .before .before .before .loop .slot)))
 
 mul-sum : tie.Need-mul-sum Inv-loop μ-loop
-mul-sum c = omega (arith, product-fits _ _ (c .before .before .before .before .before .before .before .before .before .before .before .pre .1 .1 .0 (getD (c .before .before .before .before .before .before .before .before .before .before .before .args .ranked .now) (c .before .before .before .before .before .before .before .loop .i) 0 - 1)) (c .before .before .before .before .before .before .before .before .before .before .before .pre .1 .1 .1 (c .before .before .before .before .before .before .before .loop .slot)))
+mul-sum c = omega (arith, product-fits _ _ (c .before .before .before .before .before .before .before .before .before .before .before .before .pre .1 .1 .0 (getD (c .before .before .before .before .before .before .before .before .before .before .before .before .args .ranked .now) (c .before .before .before .before .before .before .before .loop .i) 0 - 1)) (c .before .before .before .before .before .before .before .before .before .before .before .before .pre .1 .1 .1 (c .before .before .before .before .before .before .before .loop .slot)))
 
 add-sum : tie.Need-add-sum Inv-loop μ-loop
-add-sum c = omega (arith, product-fits _ _ (c .before .before .before .before .before .before .before .before .before .before .before .pre .1 .1 .0 (getD (c .before .before .before .before .before .before .before .before .before .before .before .args .ranked .now) (c .before .before .before .before .before .before .before .loop .i) 0 - 1)) (c .before .before .before .before .before .before .before .before .before .before .before .pre .1 .1 .1 (c .before .before .before .before .before .before .before .loop .slot)))
+add-sum c = omega (arith, product-fits _ _ (c .before .before .before .before .before .before .before .before .before .before .before .before .pre .1 .1 .0 (getD (c .before .before .before .before .before .before .before .before .before .before .before .before .args .ranked .now) (c .before .before .before .before .before .before .before .loop .i) 0 - 1)) (c .before .before .before .before .before .before .before .before .before .before .before .before .pre .1 .1 .1 (c .before .before .before .before .before .before .before .loop .slot)))
 
 add-slot : tie.Need-add-slot Inv-loop μ-loop
 add-slot c = omega arith
@@ -146,8 +146,8 @@ loop-again c =
     (free-adds _ _ _ _ _ _ _ _ _ h l
     (sym (w .2 .ensures) ∙ w .3 .taken)
     (w .0 .taken)
-    (c .before .before .before .before .before .before .pre .1 .0 _ l .0)
-    (product-fits _ _ (c .before .before .before .before .before .before .pre .1 .1 .0 _) (c .before .before .before .before .before .before .pre .1 .1 .1 _))))
+    (c .before .before .before .before .before .before .before .pre .1 .0 _ l .0)
+    (product-fits _ _ (c .before .before .before .before .before .before .before .pre .1 .1 .0 _) (c .before .before .before .before .before .before .before .pre .1 .1 .1 _))))
     (λ u.
     ⊎-elim
     (λ w. rw (w .4, w .5) (skipped-adds _ _ _ _ _ _ _ _ _ h l (inl (sym (w .2 .ensures) ∙ w .3 .left))))
@@ -158,7 +158,7 @@ loop-again c =
 returns : tie.Need-returns Inv-loop μ-loop
 returns c =
     let v = c .before .loop .inv in
-    let q : c .before .loop .i ≡ length (c .before .before .before .before .before .args .ranked .now) = omega arith in
+    let q : c .before .loop .i ≡ length (c .before .before .before .before .before .before .args .ranked .now) = omega arith in
     v .so-far ∙ ap (addAfter _ _ _ _ _ _) q
 
 pub most-added-spec : {M : Type 1} → statement M

@@ -22,6 +22,7 @@ use Rattle.optimal.specs.declared.Answer.{Answer}
 use Rattle.optimal.proofs.StepLaws.{none-tried, choice-tried, choice-nowhere, all-tried}
 use Rattle.optimal.proofs.ChoiceLaws.{settled-found, settled-small, bound-small, may-node, may-not, open-may, added-low, product-low}
 use Prim.Native.Nat.{ℕ, _<_}
+use borrow.Author.Needs.{needs}
 use borrow.Fn.Kinds.{In}
 use borrow.Fn.PlainCycle.{Measures, is, falls, and}
 use Rattle.optimal.proofs.search.Reads as search′
@@ -133,14 +134,14 @@ abbrev search-below : ℕ → In 4 search-kinds.ps
 search-below t = and 4 search-kinds.ps (falls 4 search-kinds.ps _<_ μ-search t) search′.Pre
 
 abbrev search-Inv-loop : search-lts.InvT-loop
-search-Inv-loop clashes ranked bids effects bidders slots from page marks had most slot best₀ b₀ best b =
+search-Inv-loop clashes ranked bids effects bidders slots from page had marks most slot best₀ b₀ best b =
     Trying clashes ranked bids effects bidders slots from page had best₀ best b
 
 abbrev search-μ-loop : search-lts.MeasureT-loop
-search-μ-loop clashes ranked bids effects bidders slots from page marks had most slot best₀ b₀ best b =
+search-μ-loop clashes ranked bids effects bidders slots from page had marks most slot best₀ b₀ best b =
     suc bidders - b
 
-search-add-t21 : (t : ℕ) → search-lts.Need-add-t21 (
+search-add-t22 : (t : ℕ) → search-lts.Need-add-t22 (
   most-added-reads.Asked,
   most-added-reads.Learnt,
   may-stand-reads.Asked,
@@ -154,7 +155,7 @@ search-add-t21 : (t : ℕ) → search-lts.Need-add-t21 (
   search-below t,
   search′.Post,
 ) (search-at t) search′.Post search-Inv-loop search-μ-loop
-search-add-t21 t c =
+search-add-t22 t c =
     let l = c .before .before .before .before .before .before .before .pre .1 .0 in let p = c .before .before .before .before .before .before .before .pre .1 .1 .0 .2 in let e = c .before .before .if1 .taken in let d = l .few-slots in omega arith
 
 search-returns : (t : ℕ) → search-lts.Need-returns (
@@ -193,6 +194,22 @@ search-returns-2 t c =
     λ r v w.
     settled-small r _ _ _ _ _ _ v _ _ _ w _ _ (c .before .before .if1 .taken) (c .if2 .left)
 
+search-slice-aggregate-most-added : (t : ℕ) → search-lts.Need-slice-aggregate-most-added (
+  most-added-reads.Asked,
+  most-added-reads.Learnt,
+  may-stand-reads.Asked,
+  may-stand-reads.Learnt,
+  with-bidder-reads.Asked,
+  with-bidder-reads.Learnt,
+  more-marks-reads.Asked,
+  more-marks-reads.Learnt,
+  adds-reads.Asked,
+  adds-reads.Learnt,
+  search-below t,
+  search′.Post,
+) (search-at t) search′.Post search-Inv-loop search-μ-loop
+search-slice-aggregate-most-added t c = search needs
+
 search-most-added-requires : (t : ℕ) → search-lts.Need-most-added-requires (
   most-added-reads.Asked,
   most-added-reads.Learnt,
@@ -208,12 +225,12 @@ search-most-added-requires : (t : ℕ) → search-lts.Need-most-added-requires (
   search′.Post,
 ) (search-at t) search′.Post search-Inv-loop search-μ-loop
 search-most-added-requires t c κs =
-    let l = c .before .before .before .before .before .pre .1 .0 in
+    let l = c .before .before .before .before .before .before .pre .1 .0 in
     let a = l .few-bidders in
     let d = l .few-slots in
     let e = l .ranked-size in
     let g = l .bids-size in (
-      (omega arith, d, c .before .before .before .before .before .pre .1 .1 .0 .0, l .effects-size, c .before .before .before .before .before .pre .1 .1 .1 .0 .size),
+      (omega arith, d, c .before .before .before .before .before .before .pre .1 .1 .0 .0, l .effects-size, c .before .before .before .before .before .before .pre .1 .1 .1 .0 .size),
       ((λ i h. (l .ranked-range i (omega arith) .0, (let k = l .ranked-range i (omega arith) .1 in omega arith), (let k = l .ranked-range i (omega arith) .1 in omega arith))), (l .bids-low, l .effects-low)),
     )
 
@@ -232,14 +249,14 @@ search-add-most : (t : ℕ) → search-lts.Need-add-most (
   search′.Post,
 ) (search-at t) search′.Post search-Inv-loop search-μ-loop
 search-add-most t c =
-    let l = c .before .before .before .before .before .before .pre .1 .0 in
+    let l = c .before .before .before .before .before .before .before .pre .1 .0 in
     let few = l .few-bidders in
     let short = l .few-slots in
     let size = l .ranked-size in
-    let p = c .before .before .before .before .before .before .pre .1 .1 .0 .2 in
-    let q = c .before .before .before .before .before .before .pre .1 .1 .0 .0 in
+    let p = c .before .before .before .before .before .before .before .pre .1 .1 .0 .2 in
+    let q = c .before .before .before .before .before .before .before .pre .1 .1 .0 .0 in
     let e = c .most-added .ensures in
-    let low = added-low (liveIn (c .before .before .before .before .before .before .args .marks) (c .before .before .before .before .before .before .args .«from») (c .before .before .before .before .before .before .args .slots)) (listed (c .before .before .before .before .before .before .args .ranked .now)) (c .before .before .before .before .before .before .args .bids .now) (c .before .before .before .before .before .before .args .effects .now) (c .before .before .before .before .before .before .args .«from») (c .before .before .before .before .before .before .args .slots) (length (c .before .before .before .before .before .before .args .ranked .now)) (l .bids-low) (l .effects-low) in
+    let low = added-low (liveIn (c .before .before .before .before .before .before .before .args .t9) (c .before .before .before .before .before .before .before .args .«from») (c .before .before .before .before .before .before .before .args .slots)) (listed (c .before .before .before .before .before .before .before .args .ranked .now)) (c .before .before .before .before .before .before .before .args .bids .now) (c .before .before .before .before .before .before .before .args .effects .now) (c .before .before .before .before .before .before .before .args .«from») (c .before .before .before .before .before .before .before .args .slots) (length (c .before .before .before .before .before .before .before .args .ranked .now)) (l .bids-low) (l .effects-low) in
     omega arith
 
 search-returns-3 : (t : ℕ) → search-lts.Need-returns-3 (
@@ -258,10 +275,10 @@ search-returns-3 : (t : ℕ) → search-lts.Need-returns-3 (
 ) (search-at t) search′.Post search-Inv-loop search-μ-loop
 search-returns-3 t c =
     λ r v w.
-    bound-small r _ _ _ _ _ _ v _ _ _ w _ _ (c .before .before .before .before .before .before .before .before .args .marks) (c .before .before .before .before .before .before .before .before .pre .1 .1 .1 .0)
-    (bound-told _ _ _ _ _ _ _ _ _ _ (c .before .before .before .before .before .before .before .before .pre .1 .0 .ranked-size) (c .before .before .most-added .ensures) (c .if3 .taken))
+    bound-small r _ _ _ _ _ _ v _ _ _ w _ _ (c .before .before .before .before .before .before .before .before .before .args .t9) (c .before .before .before .before .before .before .before .before .before .pre .1 .1 .1 .0)
+    (bound-told _ _ _ _ _ _ _ _ _ _ (c .before .before .before .before .before .before .before .before .before .pre .1 .0 .ranked-size) (c .before .before .most-added .ensures) (c .if3 .taken))
 
-search-add-t23 : (t : ℕ) → search-lts.Need-add-t23 (
+search-add-t26 : (t : ℕ) → search-lts.Need-add-t26 (
   most-added-reads.Asked,
   most-added-reads.Learnt,
   may-stand-reads.Asked,
@@ -275,10 +292,10 @@ search-add-t23 : (t : ℕ) → search-lts.Need-add-t23 (
   search-below t,
   search′.Post,
 ) (search-at t) search′.Post search-Inv-loop search-μ-loop
-search-add-t23 t c =
-    let l = c .before .before .before .before .before .before .before .before .pre .1 .0 in let q = c .before .before .before .before .before .before .before .before .pre .1 .1 .0 .0 in let d = l .few-slots in let f = l .few-bidders in omega arith
+search-add-t26 t c =
+    let l = c .before .before .before .before .before .before .before .before .before .pre .1 .0 in let q = c .before .before .before .before .before .before .before .before .before .pre .1 .1 .0 .0 in let d = l .few-slots in let f = l .few-bidders in omega arith
 
-search-cast-t24 : (t : ℕ) → search-lts.Need-cast-t24 (
+search-cast-t27 : (t : ℕ) → search-lts.Need-cast-t27 (
   most-added-reads.Asked,
   most-added-reads.Learnt,
   may-stand-reads.Asked,
@@ -292,8 +309,8 @@ search-cast-t24 : (t : ℕ) → search-lts.Need-cast-t24 (
   search-below t,
   search′.Post,
 ) (search-at t) search′.Post search-Inv-loop search-μ-loop
-search-cast-t24 t c =
-    let l = c .before .before .before .before .before .before .before .before .pre .1 .0 in let q = c .before .before .before .before .before .before .before .before .pre .1 .1 .0 .0 in let d = l .few-slots in let f = l .few-bidders in omega arith
+search-cast-t27 t c =
+    let l = c .before .before .before .before .before .before .before .before .before .pre .1 .0 in let q = c .before .before .before .before .before .before .before .before .before .pre .1 .1 .0 .0 in let d = l .few-slots in let f = l .few-bidders in omega arith
 
 search-loop-holds : (t : ℕ) → search-lts.Need-loop-holds (
   most-added-reads.Asked,
@@ -310,11 +327,27 @@ search-loop-holds : (t : ℕ) → search-lts.Need-loop-holds (
   search′.Post,
 ) (search-at t) search′.Post search-Inv-loop search-μ-loop
 search-loop-holds t c =
-    let l = c .before .before .before .before .before .before .before .before .pre .1 .0 in let q = c .before .before .before .before .before .before .before .before .pre .1 .1 .0 .0 in let d = l .few-slots in let f = l .few-bidders in
+    let l = c .before .before .before .before .before .before .before .before .before .pre .1 .0 in let q = c .before .before .before .before .before .before .before .before .before .pre .1 .1 .0 .0 in let d = l .few-slots in let f = l .few-bidders in
     record {
       most = omega arith;
       so-far = λ r v w. none-tried r _ _ (w .page .sized) (omega arith) _ _;
     }
+
+search-slice-aggregate-may-stand : (t : ℕ) → search-lts.Need-slice-aggregate-may-stand (
+  most-added-reads.Asked,
+  most-added-reads.Learnt,
+  may-stand-reads.Asked,
+  may-stand-reads.Learnt,
+  with-bidder-reads.Asked,
+  with-bidder-reads.Learnt,
+  more-marks-reads.Asked,
+  more-marks-reads.Learnt,
+  adds-reads.Asked,
+  adds-reads.Learnt,
+  search-below t,
+  search′.Post,
+) (search-at t) search′.Post search-Inv-loop search-μ-loop
+search-slice-aggregate-may-stand t c = search needs
 
 search-may-stand-requires : (t : ℕ) → search-lts.Need-may-stand-requires (
   most-added-reads.Asked,
@@ -331,10 +364,10 @@ search-may-stand-requires : (t : ℕ) → search-lts.Need-may-stand-requires (
   search′.Post,
 ) (search-at t) search′.Post search-Inv-loop search-μ-loop
 search-may-stand-requires t c κs =
-    let l = c .before .before .before .before .before .before .before .before .before .before .pre .1 .0 in let q = c .before .before .before .before .before .before .before .before .before .before .pre .1 .1 .0 .0 in let d = l .few-slots in let f = l .few-bidders in
-    let m = c .before .loop .inv .most in
-    let n = c .before .before .before .before .before .if1 .left in
-    (c .before .before .before .before .before .before .before .before .before .before .pre .1 .1 .1 .0 .size, (omega arith, omega arith), omega arith)
+    let l = c .before .before .before .before .before .before .before .before .before .before .before .before .pre .1 .0 in let q = c .before .before .before .before .before .before .before .before .before .before .before .before .pre .1 .1 .0 .0 in let d = l .few-slots in let f = l .few-bidders in
+    let m = c .before .before .loop .inv .most in
+    let n = c .before .before .before .before .before .before .before .if1 .left in
+    (c .before .before .before .before .before .before .before .before .before .before .before .before .pre .1 .1 .1 .0 .size, (omega arith, omega arith), omega arith)
 
 search-with-bidder-requires : (t : ℕ) → search-lts.Need-with-bidder-requires (
   most-added-reads.Asked,
@@ -351,7 +384,7 @@ search-with-bidder-requires : (t : ℕ) → search-lts.Need-with-bidder-requires
   search′.Post,
 ) (search-at t) search′.Post search-Inv-loop search-μ-loop
 search-with-bidder-requires t c κs =
-    let l = c .before .before .before .before .before .before .before .before .before .before .before .before .pre .1 .0 in let q = c .before .before .before .before .before .before .before .before .before .before .before .before .pre .1 .1 .0 .0 in let d = l .few-slots in let f = l .few-bidders in (omega arith, omega arith)
+    let l = c .before .before .before .before .before .before .before .before .before .before .before .before .before .before .pre .1 .0 in let q = c .before .before .before .before .before .before .before .before .before .before .before .before .before .before .pre .1 .1 .0 .0 in let d = l .few-slots in let f = l .few-bidders in (omega arith, omega arith)
 
 search-more-marks-requires : (t : ℕ) → search-lts.Need-more-marks-requires (
   most-added-reads.Asked,
@@ -368,9 +401,9 @@ search-more-marks-requires : (t : ℕ) → search-lts.Need-more-marks-requires (
   search′.Post,
 ) (search-at t) search′.Post search-Inv-loop search-μ-loop
 search-more-marks-requires t c κs =
-    let l = c .before .before .before .before .before .before .before .before .before .before .before .before .before .pre .1 .0 in let q = c .before .before .before .before .before .before .before .before .before .before .before .before .before .pre .1 .1 .0 .0 in let d = l .few-slots in let f = l .few-bidders in
-    let n = c .before .before .before .before .before .before .before .before .if1 .left in
-    (l .table-size, c .before .before .before .before .before .before .before .before .before .before .before .before .before .pre .1 .1 .1 .0 .size, (omega arith, omega arith), omega arith)
+    let l = c .before .before .before .before .before .before .before .before .before .before .before .before .before .before .before .pre .1 .0 in let q = c .before .before .before .before .before .before .before .before .before .before .before .before .before .before .before .pre .1 .1 .0 .0 in let d = l .few-slots in let f = l .few-bidders in
+    let n = c .before .before .before .before .before .before .before .before .before .before .if1 .left in
+    (l .table-size, c .before .before .before .before .before .before .before .before .before .before .before .before .before .before .before .pre .1 .1 .1 .0 .size, (omega arith, omega arith), omega arith)
 
 search-add-search : (t : ℕ) → search-lts.Need-add-search (
   most-added-reads.Asked,
@@ -387,7 +420,7 @@ search-add-search : (t : ℕ) → search-lts.Need-add-search (
   search′.Post,
 ) (search-at t) search′.Post search-Inv-loop search-μ-loop
 search-add-search t c =
-    let l = c .before .before .before .before .before .before .before .before .before .before .before .before .before .before .pre .1 .0 in let q = c .before .before .before .before .before .before .before .before .before .before .before .before .before .before .pre .1 .1 .0 .0 in let d = l .few-slots in let f = l .few-bidders in omega arith
+    let l = c .before .before .before .before .before .before .before .before .before .before .before .before .before .before .before .before .pre .1 .0 in let q = c .before .before .before .before .before .before .before .before .before .before .before .before .before .before .before .before .pre .1 .1 .0 .0 in let d = l .few-slots in let f = l .few-bidders in omega arith
 
 search-adds-requires : (t : ℕ) → search-lts.Need-adds-requires (
   most-added-reads.Asked,
@@ -404,10 +437,10 @@ search-adds-requires : (t : ℕ) → search-lts.Need-adds-requires (
   search′.Post,
 ) (search-at t) search′.Post search-Inv-loop search-μ-loop
 search-adds-requires t c κs =
-    let l = c .before .before .before .before .before .before .before .before .before .before .before .before .before .before .pre .1 .0 in let q = c .before .before .before .before .before .before .before .before .before .before .before .before .before .before .pre .1 .1 .0 .0 in let d = l .few-slots in let f = l .few-bidders in
+    let l = c .before .before .before .before .before .before .before .before .before .before .before .before .before .before .before .before .pre .1 .0 in let q = c .before .before .before .before .before .before .before .before .before .before .before .before .before .before .before .before .pre .1 .1 .0 .0 in let d = l .few-slots in let f = l .few-bidders in
     let g = l .bids-size in
     let h = l .effects-size in
-    let n = c .before .before .before .before .before .before .before .before .before .if1 .left in
+    let n = c .before .before .before .before .before .before .before .before .before .before .before .if1 .left in
     ((omega arith, omega arith), (l .bids-low, l .effects-low))
 
 search-add-search-2 : (t : ℕ) → search-lts.Need-add-search-2 (
@@ -425,10 +458,10 @@ search-add-search-2 : (t : ℕ) → search-lts.Need-add-search-2 (
   search′.Post,
 ) (search-at t) search′.Post search-Inv-loop search-μ-loop
 search-add-search-2 t c =
-    let l = c .before .before .before .before .before .before .before .before .before .before .before .before .before .before .before .pre .1 .0 in let q = c .before .before .before .before .before .before .before .before .before .before .before .before .before .before .before .pre .1 .1 .0 .0 in let d = l .few-slots in let f = l .few-bidders in
-    let p = c .before .before .before .before .before .before .before .before .before .before .before .before .before .before .before .pre .1 .1 .0 .2 in
+    let l = c .before .before .before .before .before .before .before .before .before .before .before .before .before .before .before .before .before .pre .1 .0 in let q = c .before .before .before .before .before .before .before .before .before .before .before .before .before .before .before .before .before .pre .1 .1 .0 .0 in let d = l .few-slots in let f = l .few-bidders in
+    let p = c .before .before .before .before .before .before .before .before .before .before .before .before .before .before .before .before .before .pre .1 .1 .0 .2 in
     let e = c .adds .ensures in
-    let low = product-low (c .before .before .before .before .before .before .before .before .before .before .before .before .before .before .before .args .bids .now) (c .before .before .before .before .before .before .before .before .before .before .before .before .before .before .before .args .effects .now) (c .before .before .before .before .before .before .loop .b) (c .before .before .before .before .before .before .before .before .before .before .before .before .before .before .before .args .«from») (l .bids-low) (l .effects-low) in
+    let low = product-low (c .before .before .before .before .before .before .before .before .before .before .before .before .before .before .before .before .before .args .bids .now) (c .before .before .before .before .before .before .before .before .before .before .before .before .before .before .before .before .before .args .effects .now) (c .before .before .before .before .before .before .before .loop .b) (c .before .before .before .before .before .before .before .before .before .before .before .before .before .before .before .before .before .args .«from») (l .bids-low) (l .effects-low) in
     omega arith
 
 search-search-requires : (t : ℕ) → search-lts.Need-search-requires (
@@ -446,13 +479,13 @@ search-search-requires : (t : ℕ) → search-lts.Need-search-requires (
   search′.Post,
 ) (search-at t) search′.Post search-Inv-loop search-μ-loop
 search-search-requires t c κs =
-    let l = c .before .before .before .before .before .before .before .before .before .before .before .before .before .before .before .pre .1 .0 in let q = c .before .before .before .before .before .before .before .before .before .before .before .before .before .before .before .pre .1 .1 .0 .0 in let d = l .few-slots in let f = l .few-bidders in
-    let p = c .before .before .before .before .before .before .before .before .before .before .before .before .before .before .before .pre .1 .1 .0 .2 in
+    let l = c .before .before .before .before .before .before .before .before .before .before .before .before .before .before .before .before .before .pre .1 .0 in let q = c .before .before .before .before .before .before .before .before .before .before .before .before .before .before .before .before .before .pre .1 .1 .0 .0 in let d = l .few-slots in let f = l .few-bidders in
+    let p = c .before .before .before .before .before .before .before .before .before .before .before .before .before .before .before .before .before .pre .1 .1 .0 .2 in
     let e = c .adds .ensures in
-    let n = c .before .before .before .before .before .before .before .before .before .before .if1 .left in
-    let μ = c .before .before .before .before .before .before .before .before .before .before .before .before .before .before .before .pre .0 in
-    let k = c .before .before .before .before .before .before .before .before .before .before .before .before .before .before .before .args .«from» in
-    let low = product-low (c .before .before .before .before .before .before .before .before .before .before .before .before .before .before .before .args .bids .now) (c .before .before .before .before .before .before .before .before .before .before .before .before .before .before .before .args .effects .now) (c .before .before .before .before .before .before .loop .b) k (l .bids-low) (l .effects-low) in
+    let n = c .before .before .before .before .before .before .before .before .before .before .before .before .if1 .left in
+    let μ = c .before .before .before .before .before .before .before .before .before .before .before .before .before .before .before .before .before .pre .0 in
+    let k = c .before .before .before .before .before .before .before .before .before .before .before .before .before .before .before .before .before .args .«from» in
+    let low = product-low (c .before .before .before .before .before .before .before .before .before .before .before .before .before .before .before .before .before .args .bids .now) (c .before .before .before .before .before .before .before .before .before .before .before .before .before .before .before .before .before .args .effects .now) (c .before .before .before .before .before .before .before .loop .b) k (l .bids-low) (l .effects-low) in
     let next = c .before .before .with-bidder .ensures in (
       omega arith,
       (
@@ -460,12 +493,12 @@ search-search-requires t c κs =
         (
           (
             omega arith,
-            (λ j. subst (λ (x : Page). at x j ≤ 8) (sym next) (put-low (c .before .before .before .before .before .before .before .before .before .before .before .before .before .before .before .args .page) (k + 1) (c .before .before .before .before .before .before .loop .b) (c .before .before .before .before .before .before .before .before .before .before .before .before .before .before .before .pre .1 .1 .0 .3) (c .before .before .before .before .before .before .before .before .before .before .before .before .before .before .before .pre .1 .1 .0 .1) (omega arith) j)),
+            (λ j. subst (λ (x : Page). at x j ≤ 8) (sym next) (put-low (c .before .before .before .before .before .before .before .before .before .before .before .before .before .before .before .before .before .args .page) (k + 1) (c .before .before .before .before .before .before .before .loop .b) (c .before .before .before .before .before .before .before .before .before .before .before .before .before .before .before .before .before .pre .1 .1 .0 .3) (c .before .before .before .before .before .before .before .before .before .before .before .before .before .before .before .before .before .pre .1 .1 .0 .1) (omega arith) j)),
             omega arith,
-            subst Sized (sym next) (put-sized (c .before .before .before .before .before .before .before .before .before .before .before .before .before .before .before .args .page) (k + 1) (c .before .before .before .before .before .before .loop .b) (c .before .before .before .before .before .before .before .before .before .before .before .before .before .before .before .pre .1 .1 .0 .3)),
+            subst Sized (sym next) (put-sized (c .before .before .before .before .before .before .before .before .before .before .before .before .before .before .before .before .before .args .page) (k + 1) (c .before .before .before .before .before .before .before .loop .b) (c .before .before .before .before .before .before .before .before .before .before .before .before .before .before .before .before .before .pre .1 .1 .0 .3)),
           ),
-          marks-next (c .before .before .before .before .before .before .before .before .before .before .before .before .before .before .before .args .clashes .now) (c .before .before .before .before .before .before .before .before .before .before .before .before .before .before .before .args .marks) (c .before .more-marks .result) (c .before .before .before .before .before .before .before .before .before .before .before .before .before .before .before .args .page) (c .before .before .with-bidder .result) k (c .before .before .before .before .before .before .loop .b)
-              (c .before .before .before .before .before .before .before .before .before .before .before .before .before .before .before .pre .1 .1 .0 .3) next (c .before .more-marks .ensures) (c .before .before .before .before .before .before .before .before .before .before .before .before .before .before .before .pre .1 .1 .1),
+          marks-next (c .before .before .before .before .before .before .before .before .before .before .before .before .before .before .before .before .before .args .clashes .now) (c .before .before .before .before .before .before .before .before .before .before .before .before .before .before .before .before .before .args .t9) (c .before .more-marks .result) (c .before .before .before .before .before .before .before .before .before .before .before .before .before .before .before .before .before .args .page) (c .before .before .with-bidder .result) k (c .before .before .before .before .before .before .before .loop .b)
+              (c .before .before .before .before .before .before .before .before .before .before .before .before .before .before .before .before .before .pre .1 .1 .0 .3) next (c .before .more-marks .ensures) (c .before .before .before .before .before .before .before .before .before .before .before .before .before .before .before .before .before .pre .1 .1 .1),
         ),
       ),
     )
@@ -485,7 +518,7 @@ search-add-b : (t : ℕ) → search-lts.Need-add-b (
   search′.Post,
 ) (search-at t) search′.Post search-Inv-loop search-μ-loop
 search-add-b t c =
-    let l = c .before .before .before .before .before .before .before .before .before .before .before .before .pre .1 .0 in let q = c .before .before .before .before .before .before .before .before .before .before .before .before .pre .1 .1 .0 .0 in let d = l .few-slots in let f = l .few-bidders in omega arith
+    let l = c .before .before .before .before .before .before .before .before .before .before .before .before .before .before .pre .1 .0 in let q = c .before .before .before .before .before .before .before .before .before .before .before .before .before .before .pre .1 .1 .0 .0 in let d = l .few-slots in let f = l .few-bidders in omega arith
 
 search-loop-less : (t : ℕ) → search-lts.Need-loop-less (
   most-added-reads.Asked,
@@ -502,7 +535,7 @@ search-loop-less : (t : ℕ) → search-lts.Need-loop-less (
   search′.Post,
 ) (search-at t) search′.Post search-Inv-loop search-μ-loop
 search-loop-less t c =
-    let l = c .before .before .before .before .before .before .before .before .before .before .before .before .pre .1 .0 in let q = c .before .before .before .before .before .before .before .before .before .before .before .before .pre .1 .1 .0 .0 in let d = l .few-slots in let f = l .few-bidders in omega arith
+    let l = c .before .before .before .before .before .before .before .before .before .before .before .before .before .before .pre .1 .0 in let q = c .before .before .before .before .before .before .before .before .before .before .before .before .before .before .pre .1 .1 .0 .0 in let d = l .few-slots in let f = l .few-bidders in omega arith
 
 search-loop-again : (t : ℕ) → search-lts.Need-loop-again (
   most-added-reads.Asked,
@@ -519,17 +552,17 @@ search-loop-again : (t : ℕ) → search-lts.Need-loop-again (
   search′.Post,
 ) (search-at t) search′.Post search-Inv-loop search-μ-loop
 search-loop-again t c =
-    let l = c .before .before .before .before .before .before .before .before .before .before .before .before .pre .1 .0 in
-    let q = c .before .before .before .before .before .before .before .before .before .before .before .before .pre .1 .1 .0 .0 in
-    let n = c .before .before .before .before .before .before .before .if1 .left in
-    let inside : c .before .before .before .before .before .before .before .before .before .before .before .before .args .«from» < c .before .before .before .before .before .before .before .before .before .before .before .before .args .slots = omega arith in
+    let l = c .before .before .before .before .before .before .before .before .before .before .before .before .before .before .pre .1 .0 in
+    let q = c .before .before .before .before .before .before .before .before .before .before .before .before .before .before .pre .1 .1 .0 .0 in
+    let n = c .before .before .before .before .before .before .before .before .before .if1 .left in
+    let inside : c .before .before .before .before .before .before .before .before .before .before .before .before .before .before .args .«from» < c .before .before .before .before .before .before .before .before .before .before .before .before .before .before .args .slots = omega arith in
     ⊎-elim
     (λ x.
-    subst (λ (a : Answer). search-Inv-loop (c .before .before .before .before .before .before .before .before .before .before .before .before .args .clashes .now) (c .before .before .before .before .before .before .before .before .before .before .before .before .args .ranked .now) (c .before .before .before .before .before .before .before .before .before .before .before .before .args .bids .now) (c .before .before .before .before .before .before .before .before .before .before .before .before .args .effects .now) (c .before .before .before .before .before .before .before .before .before .before .before .before .args .bidders) (c .before .before .before .before .before .before .before .before .before .before .before .before .args .slots) (c .before .before .before .before .before .before .before .before .before .before .before .before .args .«from») (c .before .before .before .before .before .before .before .before .before .before .before .before .args .page) (c .before .before .before .before .before .before .before .before .before .before .before .before .args .marks) (c .before .before .before .before .before .before .before .before .before .before .before .before .args .had) 0 (record { 0 = 0 }) (c .before .before .before .before .before .before .before .before .before .before .before .before .args .answer) 0 a (c .before .before .before .loop .b + 1)) (sym (x .5))
-    (trying-tried (c .before .before .before .before .before .before .before .before .before .before .before .before .args .clashes .now) (c .before .before .before .before .before .before .before .before .before .before .before .before .args .ranked .now) (c .before .before .before .before .before .before .before .before .before .before .before .before .args .bids .now) (c .before .before .before .before .before .before .before .before .before .before .before .before .args .effects .now) (c .before .before .before .before .before .before .before .before .before .before .before .before .args .bidders) (c .before .before .before .before .before .before .before .before .before .before .before .before .args .slots) (c .before .before .before .before .before .before .before .before .before .before .before .before .args .«from») (c .before .before .before .before .before .before .before .before .before .before .before .before .args .page) (c .before .before .before .before .before .before .before .before .before .before .before .before .args .had) (c .before .before .before .before .before .before .before .before .before .before .before .before .args .answer) (c .before .before .before .loop .best) (c .before .before .before .loop .b) (c .before .before .before .loop .inv) l inside (c .before .before .loop-test .taken) (c .before .before .before .before .before .before .before .before .before .before .before .before .args .marks) (c .before .before .before .before .before .before .before .before .before .before .before .before .pre .1 .1 .1 .0) (x .4 .result) (x .1 .result) (x .3 .result) (sym (c .before .may-stand .ensures) ∙ x .0 .taken) (x .1 .ensures) (x .3 .ensures) (x .4 .ensures)))
+    subst (λ (a : Answer). search-Inv-loop (c .before .before .before .before .before .before .before .before .before .before .before .before .before .before .args .clashes .now) (c .before .before .before .before .before .before .before .before .before .before .before .before .before .before .args .ranked .now) (c .before .before .before .before .before .before .before .before .before .before .before .before .before .before .args .bids .now) (c .before .before .before .before .before .before .before .before .before .before .before .before .before .before .args .effects .now) (c .before .before .before .before .before .before .before .before .before .before .before .before .before .before .args .bidders) (c .before .before .before .before .before .before .before .before .before .before .before .before .before .before .args .slots) (c .before .before .before .before .before .before .before .before .before .before .before .before .before .before .args .«from») (c .before .before .before .before .before .before .before .before .before .before .before .before .before .before .args .page) (c .before .before .before .before .before .before .before .before .before .before .before .before .before .before .args .had) (c .before .before .before .before .before .before .before .before .before .before .before .before .before .before .args .t9) 0 (record { 0 = 0 }) (c .before .before .before .before .before .before .before .before .before .before .before .before .before .before .args .answer) 0 a (c .before .before .before .before .loop .b + 1)) (sym (x .5))
+    (trying-tried (c .before .before .before .before .before .before .before .before .before .before .before .before .before .before .args .clashes .now) (c .before .before .before .before .before .before .before .before .before .before .before .before .before .before .args .ranked .now) (c .before .before .before .before .before .before .before .before .before .before .before .before .before .before .args .bids .now) (c .before .before .before .before .before .before .before .before .before .before .before .before .before .before .args .effects .now) (c .before .before .before .before .before .before .before .before .before .before .before .before .before .before .args .bidders) (c .before .before .before .before .before .before .before .before .before .before .before .before .before .before .args .slots) (c .before .before .before .before .before .before .before .before .before .before .before .before .before .before .args .«from») (c .before .before .before .before .before .before .before .before .before .before .before .before .before .before .args .page) (c .before .before .before .before .before .before .before .before .before .before .before .before .before .before .args .had) (c .before .before .before .before .before .before .before .before .before .before .before .before .before .before .args .answer) (c .before .before .before .before .loop .best) (c .before .before .before .before .loop .b) (c .before .before .before .before .loop .inv) l inside (c .before .before .before .loop-test .taken) (c .before .before .before .before .before .before .before .before .before .before .before .before .before .before .args .t9) (c .before .before .before .before .before .before .before .before .before .before .before .before .before .before .pre .1 .1 .1 .0) (x .4 .result) (x .1 .result) (x .3 .result) (sym (c .before .may-stand .ensures) ∙ x .0 .taken) (x .1 .ensures) (x .3 .ensures) (x .4 .ensures)))
     (λ x.
-    subst (λ (a : Answer). search-Inv-loop (c .before .before .before .before .before .before .before .before .before .before .before .before .args .clashes .now) (c .before .before .before .before .before .before .before .before .before .before .before .before .args .ranked .now) (c .before .before .before .before .before .before .before .before .before .before .before .before .args .bids .now) (c .before .before .before .before .before .before .before .before .before .before .before .before .args .effects .now) (c .before .before .before .before .before .before .before .before .before .before .before .before .args .bidders) (c .before .before .before .before .before .before .before .before .before .before .before .before .args .slots) (c .before .before .before .before .before .before .before .before .before .before .before .before .args .«from») (c .before .before .before .before .before .before .before .before .before .before .before .before .args .page) (c .before .before .before .before .before .before .before .before .before .before .before .before .args .marks) (c .before .before .before .before .before .before .before .before .before .before .before .before .args .had) 0 (record { 0 = 0 }) (c .before .before .before .before .before .before .before .before .before .before .before .before .args .answer) 0 a (c .before .before .before .loop .b + 1)) (sym (x .1))
-    (trying-skipped (c .before .before .before .before .before .before .before .before .before .before .before .before .args .clashes .now) (c .before .before .before .before .before .before .before .before .before .before .before .before .args .ranked .now) (c .before .before .before .before .before .before .before .before .before .before .before .before .args .bids .now) (c .before .before .before .before .before .before .before .before .before .before .before .before .args .effects .now) (c .before .before .before .before .before .before .before .before .before .before .before .before .args .bidders) (c .before .before .before .before .before .before .before .before .before .before .before .before .args .slots) (c .before .before .before .before .before .before .before .before .before .before .before .before .args .«from») (c .before .before .before .before .before .before .before .before .before .before .before .before .args .page) (c .before .before .before .before .before .before .before .before .before .before .before .before .args .had) (c .before .before .before .before .before .before .before .before .before .before .before .before .args .answer) (c .before .before .before .loop .best) (c .before .before .before .loop .b) (c .before .before .before .loop .inv) l inside (c .before .before .loop-test .taken) (c .before .before .before .before .before .before .before .before .before .before .before .before .args .marks) (c .before .before .before .before .before .before .before .before .before .before .before .before .pre .1 .1 .1 .0) (sym (c .before .may-stand .ensures) ∙ x .0 .left)))
+    subst (λ (a : Answer). search-Inv-loop (c .before .before .before .before .before .before .before .before .before .before .before .before .before .before .args .clashes .now) (c .before .before .before .before .before .before .before .before .before .before .before .before .before .before .args .ranked .now) (c .before .before .before .before .before .before .before .before .before .before .before .before .before .before .args .bids .now) (c .before .before .before .before .before .before .before .before .before .before .before .before .before .before .args .effects .now) (c .before .before .before .before .before .before .before .before .before .before .before .before .before .before .args .bidders) (c .before .before .before .before .before .before .before .before .before .before .before .before .before .before .args .slots) (c .before .before .before .before .before .before .before .before .before .before .before .before .before .before .args .«from») (c .before .before .before .before .before .before .before .before .before .before .before .before .before .before .args .page) (c .before .before .before .before .before .before .before .before .before .before .before .before .before .before .args .had) (c .before .before .before .before .before .before .before .before .before .before .before .before .before .before .args .t9) 0 (record { 0 = 0 }) (c .before .before .before .before .before .before .before .before .before .before .before .before .before .before .args .answer) 0 a (c .before .before .before .before .loop .b + 1)) (sym (x .1))
+    (trying-skipped (c .before .before .before .before .before .before .before .before .before .before .before .before .before .before .args .clashes .now) (c .before .before .before .before .before .before .before .before .before .before .before .before .before .before .args .ranked .now) (c .before .before .before .before .before .before .before .before .before .before .before .before .before .before .args .bids .now) (c .before .before .before .before .before .before .before .before .before .before .before .before .before .before .args .effects .now) (c .before .before .before .before .before .before .before .before .before .before .before .before .before .before .args .bidders) (c .before .before .before .before .before .before .before .before .before .before .before .before .before .before .args .slots) (c .before .before .before .before .before .before .before .before .before .before .before .before .before .before .args .«from») (c .before .before .before .before .before .before .before .before .before .before .before .before .before .before .args .page) (c .before .before .before .before .before .before .before .before .before .before .before .before .before .before .args .had) (c .before .before .before .before .before .before .before .before .before .before .before .before .before .before .args .answer) (c .before .before .before .before .loop .best) (c .before .before .before .before .loop .b) (c .before .before .before .before .loop .inv) l inside (c .before .before .before .loop-test .taken) (c .before .before .before .before .before .before .before .before .before .before .before .before .before .before .args .t9) (c .before .before .before .before .before .before .before .before .before .before .before .before .before .before .pre .1 .1 .1 .0) (sym (c .before .may-stand .ensures) ∙ x .0 .left)))
     (c .if4 .came)
 
 search-returns-4 : (t : ℕ) → search-lts.Need-returns-4 (
@@ -569,15 +602,17 @@ pub +search-spec : {M : Type 1} → statement M
     search′.Post
     search-Inv-loop
     search-μ-loop
-    (search-add-t21 t)
+    (search-add-t22 t)
     (search-returns t)
     (search-returns-2 t)
+    (search-slice-aggregate-most-added t)
     (search-most-added-requires t)
     (search-add-most t)
     (search-returns-3 t)
-    (search-add-t23 t)
-    (search-cast-t24 t)
+    (search-add-t26 t)
+    (search-cast-t27 t)
     (search-loop-holds t)
+    (search-slice-aggregate-may-stand t)
     (search-may-stand-requires t)
     (search-with-bidder-requires t)
     (search-more-marks-requires t)

@@ -17,7 +17,7 @@ bidder-open marks k (suc b) h = ap (λ (n : ℕ). eqb (getD marks (8 * n + (k - 
 
 returns : tie.Need-returns
 unfolding openTo
-returns c = sym (ap (openTo (c .before .before .args .t1) (c .before .before .args .slot .0)) (c .if1 .taken))
+returns c = sym (ap (openTo (c .before .before .args .marks .now) (c .before .before .args .slot .0)) (c .if1 .taken))
 
 cast-at : tie.Need-cast-at
 cast-at c = search needs
@@ -37,15 +37,15 @@ sub-at-2 c = search needs
 add-at : tie.Need-add-at
 add-at c = search needs
 
-array-read-result : tie.Need-array-read-result
-array-read-result c = search needs
+shared-slice-read-result : tie.Need-shared-slice-read-result
+shared-slice-read-result c = search needs
 
 returns-2 : tie.Need-returns-2
 returns-2 c =
-    let a = c .before .before .before .before .args in
-    bidder-open (a .t1) (a .slot .0) (a .bidder .0) (c .before .before .if1 .left)
+    let a = c .before .before .before .before .before .args in
+    bidder-open (a .marks .now) (a .slot .0) (a .bidder .0) (c .before .before .before .if1 .left)
 
 pub may-stand-spec : {M : Type 1} → statement M
 may-stand-spec =
     tie.close
-    (tie.spec returns cast-at sub-at mul-at cast-at-2 sub-at-2 add-at array-read-result returns-2)
+    (tie.spec returns cast-at sub-at mul-at cast-at-2 sub-at-2 add-at shared-slice-read-result returns-2)
