@@ -7,7 +7,7 @@
  * for every input. It allocates nothing, keeps nothing between calls and calls nothing but memcpy and memset, so calls
  * may run in several threads at once.
  *
- * Build:   rt staticlib pas           (gives target/staticlib/libpas.a, for x86-64 Linux)
+ * Build:   ./build-library            (proves, and gives target/staticlib/libpas.a, for x86-64 Linux)
  * Link:    cc program.c -I include target/staticlib/libpas.a
  *
  *
