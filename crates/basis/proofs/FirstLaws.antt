@@ -57,3 +57,9 @@ pub first-same : (f g : ℕ → ℕ) (n : ℕ) → ((k : ℕ) → k < n → f k 
 unfolding firstOver
 first-same f g zero h = refl
 first-same f g (suc n) h = ap₂ orElse (first-same f g n (λ k l. h k (omega arith))) (h n (omega arith))
+
+-- a row of nothing gives none
+pub first-all-none : (f : ℕ → ℕ) (n : ℕ) → ((k : ℕ) → k < n → f k ≡ 0) → firstOver f n ≡ 0
+unfolding firstOver
+first-all-none f zero h = refl
+first-all-none f (suc n) h = ap₂ orElse (first-all-none f n (λ k l. h k (omega arith))) (h n (omega arith))

@@ -143,3 +143,9 @@ pub joined-same : {A : Type 0} (f g : ℕ → List A) (k : ℕ) → ((i : ℕ) �
 unfolding joined
 joined-same f g zero h = refl
 joined-same f g (suc k) h = ap₂ _++_ (joined-same f g k (λ i l. h i (omega arith))) (h k (omega arith))
+
+-- zeros are zero at every index, past the end too
+pub zeros : (n i : ℕ) → _≡_ {A = ℕ} (getD (replicate n 0) i 0) 0
+zeros zero i = refl
+zeros (suc n) zero = refl
+zeros (suc n) (suc i) = zeros n i

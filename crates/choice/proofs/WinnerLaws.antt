@@ -9,7 +9,7 @@ use native.Mathlib.Omega.{arith}
 use lib.Dec.{eqb, ltb, leb}
 use Rattle.basis.specs.First.{_when_otherwise_, firstOver}
 use Rattle.basis.specs.Tests.{allBelow}
-use Rattle.basis.proofs.FirstLaws.{first-next, first-found}
+use Rattle.basis.proofs.FirstLaws.{first-next, first-found, first-all-none}
 use Rattle.basis.proofs.TestLaws.{holds-or-fails, not-both, fails, and-holds, and-parts, or-left, or-right, or-parts, not-holds, not-fails, all-at, at-all}
 use Rattle.choice.specs.Winner.{before, wins, winner}
 
@@ -90,12 +90,6 @@ module _ (bid : ℕ → ℕ) where
   pub before-self : (b : ℕ) → before bid b b ≡ true
   before-self b = before-equal b b refl (omega arith)
 
--- a search that finds none at each index finds none
-none-first : (f : ℕ → ℕ) (n : ℕ) → ((k : ℕ) → k < n → f k ≡ 0) → firstOver f n ≡ 0
-unfolding firstOver
-none-first f zero h = refl
-none-first f (suc n) h = first-next f n (none-first f n (λ k l. h k (omega arith))) (h n (omega arith))
-
 module _ (eligible : ℕ → Bool) (bid : ℕ → ℕ) where
   -- the record says what the test says
   wins-passes : (n w : ℕ) → Wins eligible bid n w → wins eligible bid n w ≡ true
@@ -141,7 +135,7 @@ module _ (eligible : ℕ → Bool) (bid : ℕ → ℕ) where
       let f : ℕ → ℕ = λ k. suc k when wins eligible bid n (suc k) otherwise 0 in
       let here : f i ≡ suc i = ap (λ (t : Bool). suc i when t otherwise 0) (wins-passes n (suc i) h) in
       let none : firstOver f i ≡ 0 =
-      none-first
+      first-all-none
       f
       i
       (λ k l.
@@ -158,7 +152,7 @@ module _ (eligible : ℕ → Bool) (bid : ℕ → ℕ) where
   pub none-winner : (n : ℕ) → ((j : ℕ) → 0 < j → j ≤ n → eligible j ≡ false) → winner eligible bid n ≡ 0
   unfolding winner
   none-winner n h =
-      none-first
+      first-all-none
       (λ k. suc k when wins eligible bid n (suc k) otherwise 0)
       n
       (λ k l.

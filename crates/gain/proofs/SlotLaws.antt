@@ -11,7 +11,7 @@ use lib.Signed.{_≤ℤ_, mag}
 use lib.IntN.{ℤ, pos, negsuc, negℤ, subℕ, _+ℤ_, _-ℤ_, _*ℤ_, pos-*ℤ-pos}
 use Rattle.basis.specs.First.{_when_otherwise_, firstOver}
 use Rattle.basis.specs.Tests.{anyBelow}
-use Rattle.basis.proofs.FirstLaws.{first-found, first-none, first-next, orElse-left, orElse-right}
+use Rattle.basis.proofs.FirstLaws.{first-found, first-none, first-next, orElse-left, orElse-right, first-all-none}
 use Rattle.basis.proofs.TestLaws.{holds-or-fails, not-both, fails, and-holds, and-parts, any-at, any-where}
 use Rattle.sheet.specs.declared.Constraint.{Constraint}
 use Rattle.sheet.specs.declared.Page.{Page}
@@ -30,11 +30,6 @@ seen-here p i k e = simp (eq-eqb (at p (suc k)) i e)
 
 pub seen-not : (p : Page) (i k : ℕ) → (at p (suc k) ≡ i → ⊥) → seen p i k ≡ 0
 seen-not p i k d = simp (ne-eqb (at p (suc k)) i d)
-
-first-all-none : (f : ℕ → ℕ) (n : ℕ) → ((k : ℕ) → k < n → f k ≡ 0) → firstOver f n ≡ 0
-unfolding firstOver
-first-all-none f zero h = refl
-first-all-none f (suc n) h = first-next f n (first-all-none f n (λ k l. h k (omega arith))) (h n (omega arith))
 
 first-at : (p : Page) (i k n : ℕ) → firstOver (seen p i) n ≡ suc k → n ≤ 16 → (at p (suc k) ≡ i) × (k < 16)
 unfolding firstOver

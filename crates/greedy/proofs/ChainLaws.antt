@@ -1,6 +1,7 @@
 -- Why a winner that walks its two chains bars as much as one that reads every constraint. A chain leaves out no link of its key, since
 -- nothing of the key lies between a link and the one before it. And a constraint bars an entry once w stands at k exactly when it has
 -- a link that bars the entry and whose key says that w stands at k, or at any slot. Assumes nothing.
+use Rattle.basis.proofs.RowLaws.{zeros}
 use Prim.Native.Nat.{ℕ, zero, suc, _+_, _*_, _-_, _/_, _%_, _<_, _≤_}
 use borrow.Author.Tests.{eq-eqb, ne-eqb, eqb-true}
 use mathlib.Core.Bool.{Bool, true, false, cond, not, _&&_, _||_, and-true, or-false, or-comm}
@@ -63,11 +64,6 @@ after-set P s i a j inside here elsewhere =
     (λ (e : j ≡ i). subst P (sym (ap (λ (z : ℕ). getD (set s i a) z 0) e ∙ getD-set-same s i a 0 inside)) (here e))
     (λ (d : j ≡ i → ⊥). subst P (sym (getD-set-other s i j a 0 d)) (elsewhere d))
     (same-or-not j i)
-
-zeros : (n i : ℕ) → _≡_ {A = ℕ} (getD (replicate n 0) i 0) 0
-zeros zero i = refl
-zeros (suc n) zero = refl
-zeros (suc n) (suc i) = zeros n i
 
 -- No link yet.
 pub falling-none : Falling 0 (replicate 1089 0) (replicate 2048 0) (replicate 2048 0)

@@ -61,7 +61,7 @@ filled-start r table c size f =
       prices-are = sym (padded-none (λ i. price r (suc i)) 16 0);
     }
 
-bid-listed : (r : Round) (b : ℕ) → bidIn (r .bids) b ≡ bidOf r b
+pub bid-listed : (r : Round) (b : ℕ) → bidIn (r .bids) b ≡ bidOf r b
 unfolding bidIn bidOf
 bid-listed r zero = refl
 bid-listed r (suc i) = refl

@@ -44,7 +44,7 @@ below-ten-or-not : (n : ℕ) → (n < 10) ⊎ (10 ≤ n)
 below-ten-or-not n = ⊎-elim (λ t. inl (ltb-true n 10 t)) (λ t. inr (ltb-false n 10 t)) (holds-or-fails (ltb n 10))
 
 -- the digits of a number of 10 and more are one more than those of its tenth part
-large-length : (n : ℕ) → 10 ≤ n → length (decimal n) ≡ length (decimal (n / 10)) + 1
+pub large-length : (n : ℕ) → 10 ≤ n → length (decimal n) ≡ length (decimal (n / 10)) + 1
 large-length n h = ap length (decimal-large n h) ∙ length-append (decimal (n / 10)) (digit (n % 10) ∷ [])
 
 -- a number below ten, a hundred, .. has at most one digit, two, ..

@@ -1,5 +1,6 @@
 -- Where the search starts: the tables are the round's, the empty page is its first node, and the greedy page has what it looks for.
 -- Assumes nothing.
+use Rattle.greedy.proofs.FillLaws.{bid-listed}
 use Prim.Native.Nat.{ℕ, zero, suc, _+_, _*_, _<_, _≤_}
 use mathlib.Core.Bool.{Bool, false}
 use mathlib.Core.List.{List}
@@ -30,11 +31,6 @@ at-zero : (p : Page) → at p 0 ≡ 0
 unfolding at
 at-zero p = refl
 
-pub bid-same : (r : Round) (b : ℕ) → bidIn (r .bids) b ≡ bidOf r b
-unfolding bidIn bidOf
-bid-same r zero = refl
-bid-same r (suc b) = refl
-
 effect-same : (r : Round) (k : ℕ) → listed (r .effects) k ≡ effectOf r (suc k)
 unfolding listed effectOf
 effect-same r k = refl
@@ -42,15 +38,7 @@ effect-same r k = refl
 total-same : (r : Round) (p : Page) (k : ℕ) → totalIn (r .bids) (r .effects) p k ≡ totalUpTo r p k
 unfolding totalIn totalUpTo
 total-same r p zero = refl
-total-same r p (suc k) = ap₂ _+_ (total-same r p k) (ap₂ _*_ (bid-same r (at p (suc k))) (effect-same r k))
-
--- a table of zeros
-pub zeros : (n i : ℕ) → _≡_ {A = ℕ} (getD (replicate n 0) i 0) 0
-zeros n i =
-    ⊎-elim
-    (λ (l : i < n). getD-replicate n i 0 0 l)
-    (λ (l : n ≤ i). List·getD-eq-default (replicate n 0) 0 (let e : length (replicate {A = ℕ} n 0) ≡ n = length-replicate n 0 in omega arith))
-    (below-or-not i n)
+total-same r p (suc k) = ap₂ _+_ (total-same r p k) (ap₂ _*_ (bid-listed r (at p (suc k))) (effect-same r k))
 
 -- the greedy page is allowed
 pub greedy-allowed : (r : Round) → ProperRound r → Allowed r (greedyPage r)
@@ -110,7 +98,7 @@ module _ (r : Round) (c : ProperRound r) (few : r .bidders ≤ 8) (short : r .sl
         slots-are = refl;
         few-bidders = few;
         few-slots = short;
-        bids-are = bid-same r;
+        bids-are = bid-listed r;
         effects-are = effect-same r;
         table = t;
         ranking =
@@ -120,7 +108,7 @@ module _ (r : Round) (c : ProperRound r) (few : r .bidders ≤ 8) (short : r .sl
               everybody = λ b s m. (let w = k .everybody b s m in (w .0, w .1, same-at (w .0) (w .1) ∙ w .2));
               falls = λ i j l m.
                   subst₂ (λ (x y : ℕ). bidOf r x ≤ bidOf r y) (sym (same-at j m)) (sym (same-at i (omega arith)))
-                  (let h = k .falls i j l m in let e = bid-same r (getD ranked i 0) in let d = bid-same r (getD ranked j 0) in omega arith);
+                  (let h = k .falls i j l m in let e = bid-listed r (getD ranked i 0) in let d = bid-listed r (getD ranked j 0) in omega arith);
             };
       }
 

@@ -1,4 +1,5 @@
 -- What acceptance implies: the ranges of document 01, once, for every crate above. Assumes nothing.
+use Rattle.basis.proofs.TestLaws.{or-none, and-parts}
 use Prim.Native.Nat.{ℕ, zero, suc, _+_, _*_, _<_, _≤_}
 use borrow.Author.Tests.{eqb-true, eqb-false, ltb-false, eq-eqb, not-true, not-false}
 use mathlib.Core.Bool.{Bool, true, false, not, _&&_, _||_, false≢true}
@@ -35,15 +36,6 @@ use Rattle.sheet.specs.Refusal.{
   refusalOf,
   Accepted,
 }
-
--- a disjunction that fails, and a conjunction that holds, part by part
-or-none : (a b : Bool) → (a || b) ≡ false → (a ≡ false) × (b ≡ false)
-or-none true b e = absurd (false≢true (sym e))
-or-none false b e = (refl, e)
-
-and-both : (a b : Bool) → (a && b) ≡ true → (a ≡ true) × (b ≡ true)
-and-both true b e = (refl, e)
-and-both false b e = absurd (false≢true e)
 
 pub record Form (s : List ℕ) : Type 0 where
   pub header : 9 ≤ length s

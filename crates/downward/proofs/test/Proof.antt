@@ -9,7 +9,7 @@ use Rattle.sheet.specs.declared.Reading.{Reading}
 use Rattle.sheet.specs.declared.Round.{Round}
 use Rattle.sheet.specs.Refusal.{refusalOf, Accepted}
 use Rattle.sheet.specs.Round.{roundOf, readingOf}
-use Rattle.sheet.proofs.ReadingLaws.{reading-number, reading-accepted}
+use Rattle.sheet.proofs.ReadingLaws.{read-number, read-round}
 use Rattle.auction.specs.Proper.{ProperRound}
 use Rattle.auction.proofs.AcceptedLaws.{round-proper}
 use Rattle.downward.specs.Downward.{downward}
@@ -17,13 +17,6 @@ use Rattle.downward.proofs.CallLaws.{sheet-refused, no-bidder, bidder-a
 use borrow.Author.Needs.{needs}
 use Rattle.downward.proofs.test.Statement.{statement}
 use Rattle.downward.proofs.test.Tie as tie
-
--- what reading an accepted sheet gave
-read-number : (s : List ℕ) (x : Reading) → x ≡ readingOf s → x .refusal ≡ refusalOf s
-read-number s x e = ap (λ (y : Reading). y .refusal) e ∙ reading-number s
-
-read-round : (s : List ℕ) (x : Reading) → Accepted s → x ≡ readingOf s → x .round ≡ roundOf s
-read-round s x ok e = ap (λ (y : Reading). y .round) (e ∙ reading-accepted s ok)
 
 read-requires : tie.Need-read-requires
 read-requires c κs = search needs

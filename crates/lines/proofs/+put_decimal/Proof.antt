@@ -8,7 +8,7 @@ use native.Mathlib.Omega.{arith}
 use lib.ListN.{length, set, length-set, length-append}
 use Rattle.lines.specs.Decimal.{decimal, digit}
 use Rattle.lines.specs.Put.{Put}
-use Rattle.lines.proofs.DecimalLaws.{decimal-small, decimal-large}
+use Rattle.lines.proofs.DecimalLaws.{decimal-small, decimal-large, large-length}
 use Rattle.lines.proofs.PutLaws.{put-byte-after}
 use borrow.Fn.Kinds.{In}
 use borrow.Fn.PlainCycle.{Measures, is, falls, and}
@@ -32,9 +32,6 @@ put-large text text′ at middle n h p =
 -- the room that a number asks: one byte below 10, and else one more than its tenth part asks
 small-room : (n : ℕ) → n < 10 → length (decimal n) ≡ 1
 small-room n h = ap length (decimal-small n h)
-
-large-room : (n : ℕ) → 10 ≤ n → length (decimal n) ≡ length (decimal (n / 10)) + 1
-large-room n h = ap length (decimal-large n h) ∙ length-append (decimal (n / 10)) (digit (n % 10) ∷ [])
 
 abbrev μ-put-decimal : Measures 1 put-decimal-kinds.ps ℕ
 μ-put-decimal κs a = a .1 .1 .0
@@ -92,7 +89,7 @@ put-decimal-put-decimal-requires : (t : ℕ) → put-decimal-lts.Need-put-decima
   put-decimal.Post,
 ) (put-decimal-at t) put-decimal.Post
 put-decimal-put-decimal-requires t c κs =
-    let room = large-room (c .before .before .before .args .value) (c .before .if1 .left) in
+    let room = large-length (c .before .before .before .args .value) (c .before .if1 .left) in
     (omega arith, omega arith)
 
 put-decimal-cast-text-2 : (t : ℕ) → put-decimal-lts.Need-cast-text-2 (
@@ -112,7 +109,7 @@ put-decimal-slice-write-text-2 : (t : ℕ) → put-decimal-lts.Need-slice-write-
   put-decimal.Post,
 ) (put-decimal-at t) put-decimal.Post
 put-decimal-slice-write-text-2 t c =
-    let room = large-room (c .before .before .before .before .before .before .args .value) (c .before .before .before .before .if1 .left) in
+    let room = large-length (c .before .before .before .before .before .before .args .value) (c .before .before .before .before .if1 .left) in
     let put = c .before .before .put-decimal .ensures in
     omega (arith, c .before .before .put-decimal .kept .0)
 
@@ -121,7 +118,7 @@ put-decimal-add-result-2 : (t : ℕ) → put-decimal-lts.Need-add-result-2 (
   put-decimal.Post,
 ) (put-decimal-at t) put-decimal.Post
 put-decimal-add-result-2 t c =
-    let room = large-room (c .before .before .before .before .before .before .args .value) (c .before .before .before .before .if1 .left) in
+    let room = large-length (c .before .before .before .before .before .before .args .value) (c .before .before .before .before .if1 .left) in
     let put = c .before .before .put-decimal .ensures in
     omega arith
 

@@ -1,5 +1,6 @@
 -- `optimal::best_page` meets its contract: the search through all pages, from the greedy page's total, finds the best one.
 -- Assumes nothing.
+use Rattle.basis.proofs.RowLaws.{zeros}
 use Prim.Native.Nat.{ℕ, _≤_}
 use mathlib.Core.List.{List}
 use mathlib.Core.Path.{_≡_, refl, sym, _∙_, ap, subst}
@@ -14,7 +15,7 @@ use Rattle.greedy.specs.declared.Outcome.{Outcome}
 use Rattle.greedy.specs.Outcome.{outcomeOf}
 use Rattle.clash.specs.Clash.{BarredBy}
 use Rattle.optimal.specs.Node.{totalIn}
-use Rattle.optimal.proofs.StartLaws.{zeros, greedy-low, bids-low, effects-low, front-size, lent-of, best-found}
+use Rattle.optimal.proofs.StartLaws.{greedy-low, bids-low, effects-low, front-size, lent-of, best-found}
 use borrow.Author.Needs.{needs}
 use Rattle.optimal.proofs.best_page.Statement.{statement}
 use Rattle.optimal.proofs.best_page.Tie as tie
