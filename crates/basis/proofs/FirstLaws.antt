@@ -1,12 +1,13 @@
 -- What "the first number that applies" says: it is none exactly when each gives none, and a search that has found none below k
 -- and one at k has found it for any longer row. Assumes nothing.
 use Prim.Native.Nat.{ℕ, zero, suc, _<_, _≤_}
-use mathlib.Core.Bool.{Bool, true, false}
+use mathlib.Core.Bool.{Bool, true, false, _||_}
 use mathlib.Core.Logic.{⊎-elim}
 use mathlib.Core.Path.{_≡_, refl, sym, _∙_, ap, ap₂, subst}
 use native.Mathlib.Nat.{eq-or-lt-of-le, le-of-suc-le-suc, not-suc-le-zero}
 use native.Mathlib.Omega.{arith}
 use Rattle.basis.specs.First.{_when_otherwise_, orElse, firstOver}
+use Rattle.basis.specs.Tests.{anyBelow}
 
 pub orElse-none : (a b : ℕ) → orElse a b ≡ 0 → (a ≡ 0) × (b ≡ 0)
 orElse-none zero b e = (refl, e)
@@ -63,3 +64,17 @@ pub first-all-none : (f : ℕ → ℕ) (n : ℕ) → ((k : ℕ) → k < n → f 
 unfolding firstOver
 first-all-none f zero h = refl
 first-all-none f (suc n) h = ap₂ orElse (first-all-none f n (λ k l. h k (omega arith))) (h n (omega arith))
+
+-- one number for a test at each index: the first is that number where any index passes
+pub first-of-tests : (v : ℕ) (test : ℕ → Bool) (n : ℕ) →
+    firstOver (λ k. v when test k otherwise 0) n ≡ (v when anyBelow test n otherwise 0)
+unfolding firstOver anyBelow
+first-of-tests v test zero = refl
+first-of-tests v test (suc n) =
+    ap (λ (x : ℕ). orElse x (v when test n otherwise 0)) (first-of-tests v test n) ∙ either v (anyBelow test n) (test n)
+  where
+    either : (v : ℕ) (a b : Bool) → orElse (v when a otherwise 0) (v when b otherwise 0) ≡ (v when a || b otherwise 0)
+    either v false b = refl
+    either (suc v) true b = refl
+    either zero true true = refl
+    either zero true false = refl

@@ -1,32 +1,69 @@
--- Which number a field's fault gives. Assumes nothing.
-use Prim.Native.Nat.{ℕ, _<_, _≤_}
-use borrow.Author.Tests.{eq-eqb, ne-eqb, lt-ltb, le-ltb}
-use mathlib.Core.Bool.{or-true}
+-- Which number the faults of the effects and of the bids give: the rule's own where any field is at fault. Assumes nothing.
+use Prim.Native.Nat.{ℕ, zero, suc, _≤_}
+use borrow.Author.Tests.{lt-ltb, le-ltb, ltb-true, ltb-false}
+use mathlib.Core.Bool.{Bool, true, false, _||_}
 use mathlib.Core.List.{List}
-use mathlib.Core.Path.{_≡_}
+use mathlib.Core.Logic.{⊎-elim}
+use mathlib.Core.Path.{_≡_, refl, sym, _∙_, ap}
 use native.Mathlib.Omega.{arith}
+use lib.Dec.{eqb, ltb}
+use Rattle.basis.specs.First.{_when_otherwise_, firstOver}
+use Rattle.basis.specs.Tests.{anyBelow}
+use Rattle.basis.proofs.FirstLaws.{first-of-tests}
+use Rattle.basis.proofs.TestLaws.{holds-or-fails, or-none}
 use Rattle.sheet.specs.Sheet.{effectField, bidField}
 use Rattle.sheet.specs.Refusal.{effectBefore, effectRefusal, bidRefusal}
 
-module _ (s : List ℕ) (k : ℕ) where
-  pub effect-zero-refused : effectField s k ≡ 0 → effectRefusal s k ≡ 8
-  unfolding effectRefusal
-  effect-zero-refused h = simp (eq-eqb (effectField s k) 0 h)
+-- what the passes test of an effect and of a bid
+abbrev pub effectFaulty : List ℕ → ℕ → Bool
+effectFaulty s k = eqb (effectField s k) 0 || ltb (effectBefore s k) (effectField s k)
 
-  pub effect-rise-refused : effectBefore s k < effectField s k → effectRefusal s k ≡ 8
-  unfolding effectRefusal
-  effect-rise-refused h = simp (ne-eqb (effectField s k) 0 (omega arith), lt-ltb (effectBefore s k) (effectField s k) h, or-true)
+abbrev pub bidHigh : List ℕ → ℕ → Bool
+bidHigh s i = ltb 1_000_000_000 (bidField s i)
 
-  pub effect-accepted :
-      (effectField s k ≡ 0 → ⊥) → effectField s k ≤ 1_000_000 → effectField s k ≤ effectBefore s k → effectRefusal s k ≡ 0
-  unfolding effectRefusal
-  effect-accepted z l d =
-      simp (ne-eqb (effectField s k) 0 z, le-ltb 1_000_000 (effectField s k) l, le-ltb (effectBefore s k) (effectField s k) d)
+module _ (s : List ℕ) where
+  -- the rule's whole test of an effect
+  abbrev effectRefused : ℕ → Bool
+  effectRefused k = eqb (effectField s k) 0 || (ltb 1_000_000 (effectField s k) || ltb (effectBefore s k) (effectField s k))
 
-  pub bid-refused : 1_000_000_000 < bidField s k → bidRefusal s k ≡ 9
+  -- effects that do not rise from the limit stay within it,
+  within-the-limit : (n : ℕ) → anyBelow (effectFaulty s) n ≡ false → effectBefore s n ≤ 1_000_000
+  unfolding anyBelow
+  within-the-limit zero e = omega arith
+  within-the-limit (suc n) e =
+      let both = or-none (anyBelow (effectFaulty s) n) (effectFaulty s n) e in
+      let before = within-the-limit n (both .0) in
+      let fell = ltb-false (effectBefore s n) (effectField s n) (or-none (eqb (effectField s n) 0) (ltb (effectBefore s n) (effectField s n)) (both .1) .1) in
+      omega arith
+
+  -- so the first above the limit rises too, and the passes need no test of the limit
+  same-effects : (n : ℕ) → anyBelow effectRefused n ≡ anyBelow (effectFaulty s) n
+  unfolding anyBelow
+  same-effects zero = refl
+  same-effects (suc n) =
+      ap (λ (x : Bool). x || effectRefused n) (same-effects n)
+      ∙ last (anyBelow (effectFaulty s) n) (within-the-limit n)
+    where
+      last : (found : Bool) → (found ≡ false → effectBefore s n ≤ 1_000_000) → (found || effectRefused n) ≡ (found || effectFaulty s n)
+      last true low = refl
+      last false low =
+          let before = low refl in
+          ⊎-elim
+          (λ (h : ltb 1_000_000 (effectField s n) ≡ true).
+          let above = ltb-true 1_000_000 (effectField s n) h in
+          simp (h, lt-ltb (effectBefore s n) (effectField s n) (omega arith)))
+          (λ (h : ltb 1_000_000 (effectField s n) ≡ false). simp h)
+          (holds-or-fails (ltb 1_000_000 (effectField s n)))
+
+  -- the number of the effects and that of the bids, by what a pass over them found
+  pub effects-number : (n : ℕ) {found : Bool} → found ≡ anyBelow (effectFaulty s) n → (8 when found otherwise 0) ≡ firstOver (effectRefusal s) n
+  unfolding effectRefusal
+  effects-number n e = ap (λ (x : Bool). 8 when x otherwise 0) (e ∙ sym (same-effects n)) ∙ sym (first-of-tests 8 effectRefused n)
+
+  pub bids-number : (n : ℕ) {found : Bool} → found ≡ anyBelow (bidHigh s) n → (9 when found otherwise 0) ≡ firstOver (bidRefusal s) n
   unfolding bidRefusal
-  bid-refused h = simp (lt-ltb 1_000_000_000 (bidField s k) h)
+  bids-number n e = ap (λ (x : Bool). 9 when x otherwise 0) e ∙ sym (first-of-tests 9 (bidHigh s) n)
 
-  pub bid-accepted : bidField s k ≤ 1_000_000_000 → bidRefusal s k ≡ 0
+  pub bid-accepted : (i : ℕ) → bidField s i ≤ 1_000_000_000 → bidRefusal s i ≡ 0
   unfolding bidRefusal
-  bid-accepted h = simp (le-ltb 1_000_000_000 (bidField s k) h)
+  bid-accepted i h = simp (le-ltb 1_000_000_000 (bidField s i) h)

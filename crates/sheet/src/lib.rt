@@ -82,7 +82,10 @@ pub fn check(sheet: &[u8]) -> u32
         return bids;
     }
     let constraints_start = bids_start + 4 * (bidders as usize);
-    refusals::constraints_refusal(sheet, constraints_start, bidders, slots, constraints)
+    // The slice is made anew for the call: one lent on as it came is first copied in one piece, where the caller wrote its two halves,
+    // and the machine waits for that.
+    let whole = &sheet[0..];
+    refusals::constraints_refusal(whole, constraints_start, bidders, slots, constraints)
 }
 
 // The round of an accepted sheet with the number 0, or a refused sheet's number with a blank round.

@@ -1,11 +1,13 @@
 // The refusals 1 to 13, each part over the fields that it reads.
 ghost use mathlib.Core.Path.{_≡_};
-ghost use mathlib.Core.Bool.{Bool, false};
+ghost use mathlib.Core.Bool.{Bool, false, _||_};
 ghost use Prim.Native.Nat.{_+_, _*_, _/_, _%_, _≤_};
+ghost use lib.Dec.{eqb, ltb};
 ghost use lib.ListN.{length};
 ghost use Rattle.basis.specs.First.{firstOver, orElse};
-ghost use Rattle.sheet.specs.Sheet.{bidderCount, slotCount, constraintCount, effectsStart, bidsStart, constraintsStart, sheetLength};
-ghost use Rattle.sheet.specs.Refusal.{formRefusal, countsRefusal, effectRefusal, bidRefusal, constraintRefusal, inRange, fieldsRefusal};
+ghost use Rattle.basis.specs.Tests.{anyBelow};
+ghost use Rattle.sheet.specs.Sheet.{bidderCount, slotCount, constraintCount, effectsStart, bidsStart, constraintsStart, sheetLength, effectField, bidField};
+ghost use Rattle.sheet.specs.Refusal.{formRefusal, countsRefusal, effectBefore, effectRefusal, bidRefusal, constraintRefusal, inRange, fieldsRefusal};
 use crate::MAX_BIDDERS;
 use crate::MAX_CONSTRAINTS;
 use crate::MAX_SLOTS;
@@ -70,39 +72,57 @@ pub fn counts_refusal(sheet: &[u8]) -> u32
     0
 }
 
-// 8: each effect, in slot order.
+// Whether any effect is 0 or above the one before it, the first against the largest that any may have. No fault ends the pass, so that
+// the machine tests several effects at once.
+fn any_effect_faulty(sheet: &[u8], slots: usize) -> bool
+    requires { ⌜ effectsStart (now sheet) + 4 * slots ≤ length (now sheet) ⌝ }
+    ensures { λ r. ⌜ r ≡ anyBelow (λ k. eqb (effectField (now (sheet .entry)) k) 0 || ltb (effectBefore (now (sheet .entry)) k) (effectField (now (sheet .entry)) k)) slots ⌝ }
+{
+    let mut before = MAX_EFFECT;
+    let mut found = false;
+    let mut k = 0;
+    while k < slots {
+        let effect = word32(sheet, 9 + 4 * k);
+        found = found | ((effect == 0) | (before < effect));
+        before = effect;
+        k += 1;
+    }
+    found
+}
+
+// 8: the effects.
 pub fn effects_refusal(sheet: &[u8], slots: usize) -> u32
     requires { ⌜ effectsStart (now sheet) + 4 * slots ≤ length (now sheet) ⌝ }
     ensures { λ r. ⌜ r ≡ firstOver (effectRefusal (now (sheet .entry))) slots ⌝ }
 {
-    let mut before = MAX_EFFECT;
-    let mut k = 0;
-    while k < slots {
-        let effect = word32(sheet, 9 + 4 * k);
-        if effect == 0 {
-            return 8;
-        }
-        if before < effect {
-            return 8;
-        }
-        before = effect;
-        k += 1;
+    if any_effect_faulty(sheet, slots) {
+        return 8;
     }
     0
 }
 
-// 9: each bid, in bidder order.
+// Whether any bid is above the limit, again in a pass that no bid ends.
+fn any_bid_high(sheet: &[u8], start: usize, bidders: usize) -> bool
+    requires { ⌜ (start ≡ bidsStart (now sheet)) × (start + 4 * bidders ≤ length (now sheet)) ⌝ }
+    ensures { λ r. ⌜ r ≡ anyBelow (λ i. ltb 1_000_000_000 (bidField (now (sheet .entry)) i)) bidders ⌝ }
+{
+    let mut found = false;
+    let mut i = 0;
+    while i < bidders {
+        let bid = word32(sheet, start + 4 * i);
+        found = found | (MAX_BID < bid);
+        i += 1;
+    }
+    found
+}
+
+// 9: the bids.
 pub fn bids_refusal(sheet: &[u8], start: usize, bidders: usize) -> u32
     requires { ⌜ (start ≡ bidsStart (now sheet)) × (start + 4 * bidders ≤ length (now sheet)) ⌝ }
     ensures { λ r. ⌜ r ≡ firstOver (bidRefusal (now (sheet .entry))) bidders ⌝ }
 {
-    let mut i = 0;
-    while i < bidders {
-        let bid = word32(sheet, start + 4 * i);
-        if MAX_BID < bid {
-            return 9;
-        }
-        i += 1;
+    if any_bid_high(sheet, start, bidders) {
+        return 9;
     }
     0
 }

@@ -1,9 +1,11 @@
 -- `sheet::check` meets its contract: a part that gives a number gives the sheet's, and one that gives none leaves it to the next.
 -- The counts that a part accepts keep the next within the sheet. Assumes nothing.
-use Prim.Native.Nat.{ℕ}
+use Prim.Native.Nat.{ℕ, _-_}
 use mathlib.Core.List.{List}
-use mathlib.Core.Path.{_≡_, sym, _∙_, ap}
+use mathlib.Core.Path.{_≡_, sym, _∙_, ap₂}
 use native.Mathlib.Omega.{arith}
+use lib.ListN.{length, take}
+use lib.Seq.{take-all}
 use Rattle.basis.specs.First.{orElse, firstOver}
 use Rattle.basis.proofs.FirstLaws.{orElse-left, orElse-right}
 use Rattle.sheet.specs.Sheet.{bidderCount, slotCount, constraintCount}
@@ -145,22 +147,35 @@ add-constraints-start c =
     let known = counts-accepted s (sym (c .before .before .before .before .before .before .before .before .counts-refusal .ensures) ∙ c .before .before .before .before .before .before .before .if2 .left) in
     omega arith
 
+-- the part from the first byte on is the sheet
+whole-sheet : (s : List ℕ) → take (length s - 0) s ≡ s
+whole-sheet s = take-all (length s - 0) s (omega arith)
+
+sub-whole : tie.Need-sub-whole
+sub-whole c = search needs
+
+part-whole-start : tie.Need-part-whole-start
+part-whole-start c = search needs
+
+part-whole-end : tie.Need-part-whole-end
+part-whole-end c = search needs
+
 constraints-refusal-requires : tie.Need-constraints-refusal-requires
 constraints-refusal-requires c κs =
-    let s = c .before .before .before .before .before .before .before .before .before .before .before .before .args .sheet .now in
-    let known = counts-accepted s (sym (c .before .before .before .before .before .before .before .before .counts-refusal .ensures) ∙ c .before .before .before .before .before .before .before .if2 .left) in
-    omega arith
+    let s = c .before .before .before .before .before .before .before .before .before .before .before .before .before .args .sheet .now in
+    let known = counts-accepted s (sym (c .before .before .before .before .before .before .before .before .before .counts-refusal .ensures) ∙ c .before .before .before .before .before .before .before .before .if2 .left) in
+    rw (whole-sheet s) (omega arith)
 
 returns-5 : tie.Need-returns-5
 unfolding refusalOf
 returns-5 c =
-    let s = c .before .before .before .before .before .before .before .before .before .before .before .before .before .args .sheet .now in
+    let s = c .before .before .before .before .before .before .before .before .before .before .before .before .before .before .args .sheet .now in
     c .constraints-refusal .ensures
-    ∙ ap (firstOver (constraintRefusal s)) (c .before .before .before .before .before .word16 .ensures .0)
+    ∙ ap₂ (λ (l : List ℕ) (n : ℕ). firstOver (constraintRefusal l) n) (whole-sheet s) (c .before .before .before .before .before .before .word16 .ensures .0)
     ∙ sym
-    (past-counts s (sym (c .before .before .before .before .before .before .before .before .before .before .before .form-refusal .ensures) ∙ c .before .before .before .before .before .before .before .before .before .before .if1 .left) (sym (c .before .before .before .before .before .before .before .before .before .counts-refusal .ensures) ∙ c .before .before .before .before .before .before .before .before .if2 .left)
-    ∙ orElse-right (firstOver (effectRefusal s) (slotCount s)) _ (sym (c .before .before .before .before .effects-refusal .ensures) ∙ c .before .before .before .if3 .left)
-    ∙ orElse-right (firstOver (bidRefusal s) (bidderCount s)) _ (sym (c .before .before .bids-refusal .ensures) ∙ c .before .if4 .left))
+    (past-counts s (sym (c .before .before .before .before .before .before .before .before .before .before .before .before .form-refusal .ensures) ∙ c .before .before .before .before .before .before .before .before .before .before .before .if1 .left) (sym (c .before .before .before .before .before .before .before .before .before .before .counts-refusal .ensures) ∙ c .before .before .before .before .before .before .before .before .before .if2 .left)
+    ∙ orElse-right (firstOver (effectRefusal s) (slotCount s)) _ (sym (c .before .before .before .before .before .effects-refusal .ensures) ∙ c .before .before .before .before .if3 .left)
+    ∙ orElse-right (firstOver (bidRefusal s) (bidderCount s)) _ (sym (c .before .before .before .bids-refusal .ensures) ∙ c .before .before .if4 .left))
 
 pub check-spec : {M : Type 1} → statement M
 check-spec =
@@ -186,5 +201,8 @@ check-spec =
     cast-constraints-start
     mul-constraints-start
     add-constraints-start
+    sub-whole
+    part-whole-start
+    part-whole-end
     constraints-refusal-requires
     returns-5)
