@@ -10,6 +10,7 @@ use Rattle.basis.proofs.TestLaws.{not-both}
 use Rattle.sheet.specs.declared.Constraint.{Constraint}
 use Rattle.sheet.specs.declared.Page.{Page}
 use Rattle.sheet.specs.declared.Round.{Round}
+use Rattle.choice.specs.Tables.{bidIn}
 use Rattle.choice.specs.Winner.{winner}
 use Rattle.auction.specs.Page.{at, put, emptyPage, placed, Sized}
 use Rattle.auction.specs.Broken.{broken, breaks}
@@ -34,6 +35,12 @@ use Rattle.auction.proofs.PageLaws.{
   keeps-placed,
 }
 use Rattle.auction.proofs.BrokenLaws.{empty-unbroken, eligible-unplaced, eligible-unbroken, none-breaks}
+
+-- a bid in the round's list is the bidder's
+pub bid-listed : (r : Round) (b : ℕ) → bidIn (r .bids) b ≡ bidOf r b
+unfolding bidIn bidOf
+bid-listed r zero = refl
+bid-listed r (suc i) = refl
 
 module _ (r : Round) where
   pub upTo-next : (k : ℕ) → pageUpTo r (suc k) ≡ put (pageUpTo r k) (suc k) (winnerAt r (pageUpTo r k) (suc k))

@@ -1,18 +1,20 @@
 -- No assignment of free bidders adds more than the free bidders in falling order of their bids. Turn by turn: the next ranked
 -- bidder is put at the first slot left, and who stood there goes where it stood. That never lowers the sum, since effects do not
--- rise; a bidder that is not free stands nowhere, and after the last one nobody is left. Assumes nothing.
-use mathlib.Core.List.{List}
-use lib.ListN.{getD}
-use Prim.Native.Nat.{ℕ, zero, suc, _+_, _-_, _*_, _<_, _≤_}
-use borrow.Author.Tests.{eq-eqb, ne-eqb, eqb-true, eqb-false, lt-ltb, le-ltb, le-leb}
-use mathlib.Core.Bool.{Bool, true, false, cond, _&&_, and-false}
+-- rise; a bidder that is not free stands nowhere, and after the last one nobody is left. Last, who is live: the and of a word's
+-- eight bytes tells who is not, since each half's and tells it for the slots of that half. Assumes nothing.
+use Prim.Native.Nat.{ℕ, zero, suc, _+_, _-_, _*_, _/_, _^_, _<_, _≤_}
+use borrow.Author.Tests.{eq-eqb, ne-eqb, eqb-true, eqb-false, lt-ltb, le-ltb}
+use mathlib.Core.Bool.{Bool, true, false, cond, not, _&&_, _||_, and-false}
 use mathlib.Core.Logic.{_⊎_, inl, inr, ⊎-elim}
 use mathlib.Core.Path.{_≡_, refl, sym, _∙_, ap, ap₂, subst, subst₂}
 use native.Mathlib.Nat.{eq-or-lt-of-le, add-zero}
 use native.Mathlib.Omega.{arith}
-use lib.Dec.{eqb, ltb, leb}
-use Rattle.basis.specs.Tests.{anyBelow}
-use Rattle.basis.proofs.TestLaws.{holds-or-fails, not-both, and-holds, any-where, any-none, any-at}
+use lib.Bits.{bitAnd}
+use lib.Dec.{eqb, ltb}
+use Rattle.basis.specs.Bits.{bitOf}
+use Rattle.basis.specs.Tests.{anyBelow, allBelow}
+use Rattle.basis.proofs.BitLaws.{bit-and, bit-shr}
+use Rattle.basis.proofs.TestLaws.{holds-or-fails, same-tests, not-both, and-holds, and-parts, any-where, any-none, any-at, all-at, at-all}
 use Rattle.auction.proofs.PageLaws.{same-or-not, below-or-not}
 use Rattle.bound.specs.Bound.{sumFrom, slotAfter, addAfter, Falling, NoRise, BoundHolds, liveIn}
 
@@ -399,9 +401,67 @@ bound-holds free rank bid effect n k left z some once falling no-rise f h =
     n
     (omega arith))
 
--- an open slot among those left
-pub open-live : (marks : List ℕ) (b k m l : ℕ) → k ≤ l → l < m → getD marks (8 * (b - 1) + l) 0 ≡ 0 → liveIn marks k m b ≡ true
+-- a test over twice as many indices is one of pairs, n apart
+all-pairs : (f g : ℕ → Bool) (n : ℕ) → ((l : ℕ) → l < n → g l ≡ (f l && f (n + l))) → allBelow f (n + n) ≡ allBelow g n
+all-pairs f g n pair =
+    same-tests
+    (allBelow f (n + n))
+    (allBelow g n)
+    (λ e.
+    at-all g n
+    (λ l b. pair l b ∙ and-holds (all-at f (n + n) e l (omega arith)) (all-at f (n + n) e (n + l) (omega arith))))
+    (λ e.
+    at-all f (n + n)
+    (λ l b.
+    ⊎-elim
+    (λ (low : l < n). and-parts (f l) (f (n + l)) (sym (pair l low) ∙ all-at g n e l low) .0)
+    (λ (high : n ≤ l).
+    let inside : l - n < n = omega arith in
+    let at : n + (l - n) ≡ l = omega arith in
+    ap f (sym at) ∙ and-parts (f (l - n)) (f (n + (l - n))) (sym (pair (l - n) inside) ∙ all-at g n e (l - n) inside) .1)
+    (below-or-not l n)))
+
+-- every index passes where none fails
+none-fails : (f : ℕ → Bool) (n : ℕ) → allBelow f n ≡ not (anyBelow (λ l. not (f l)) n)
+unfolding allBelow anyBelow
+none-fails f zero = refl
+none-fails f (suc n) = ap (λ (t : Bool). t && f n) (none-fails f n) ∙ by-tests (anyBelow (λ l. not (f l)) n) (f n)
+  where
+    by-tests : (a b : Bool) → (not a && b) ≡ not (a || not b)
+    by-tests true b = refl
+    by-tests false true = refl
+    by-tests false false = refl
+
+-- the and of a word and the same shifted down by n bytes
+abbrev pub halved : ℕ → ℕ → ℕ
+halved x n = bitAnd x (x / 2 ^ (8 * n))
+
+-- bit i is set in all of its first n bytes where it is set in all of the word's first 2 n
+bytes-halved : (x n i : ℕ) → allBelow (λ l. bitOf x (8 * l + i)) (n + n) ≡ allBelow (λ l. bitOf (halved x n) (8 * l + i)) n
+bytes-halved x n i =
+    all-pairs
+    (λ l. bitOf x (8 * l + i))
+    (λ l. bitOf (halved x n) (8 * l + i))
+    n
+    (λ l b.
+    let at : 8 * n + (8 * l + i) ≡ 8 * (n + l) + i = omega arith in
+    bit-and x (x / 2 ^ (8 * n)) (8 * l + i)
+    ∙ ap (λ (t : Bool). bitOf x (8 * l + i) && t) (bit-shr x (8 * n) (8 * l + i) ∙ ap (bitOf x) at))
+
+-- the and of the eight bytes: its bit i is set where no slot is open to bidder i + 1
+pub bytes-and : (barred i : ℕ) → bitOf (halved (halved (halved barred 4) 2) 1) i ≡ not (liveIn barred (suc i))
+unfolding liveIn allBelow
+bytes-and barred i =
+    let first : i ≡ 8 * 0 + i = omega arith in
+    let index : i ≡ suc i - 1 = omega arith in
+    ap (bitOf (halved (halved (halved barred 4) 2) 1)) first
+    ∙ sym (bytes-halved (halved (halved barred 4) 2) 1 i)
+    ∙ sym (bytes-halved (halved barred 4) 2 i)
+    ∙ sym (bytes-halved barred 4 i)
+    ∙ none-fails (λ l. bitOf barred (8 * l + i)) 8
+    ∙ ap (λ (k : ℕ). not (anyBelow (λ l. not (bitOf barred (8 * l + k))) 8)) index
+
+-- a bidder that some slot is open to is live
+pub open-live : (barred b j : ℕ) → j < 8 → bitOf barred (8 * j + (b - 1)) ≡ false → liveIn barred b ≡ true
 unfolding liveIn
-open-live marks b k m l low inside e =
-    any-at (λ j. leb k j && eqb (getD marks (8 * (b - 1) + j) 0) 0) m l inside
-    (and-holds (le-leb k l low) (eq-eqb (getD marks (8 * (b - 1) + l) 0) 0 e))
+open-live barred b j inside e = any-at (λ l. not (bitOf barred (8 * l + (b - 1)))) 8 j inside (ap not e)

@@ -1,12 +1,13 @@
 -- What the slots left can add at most: the free bidders in falling order of their bids, against the effects in falling order.
 -- Slots are counted by index here: index j is slot j + 1.
 use Prim.Native.Nat.{ℕ, zero, suc, _+_, _*_, _-_, _<_, _≤_}
-use mathlib.Core.Bool.{Bool, true, cond, _&&_}
+use mathlib.Core.Bool.{Bool, true, cond, not, _&&_}
 use mathlib.Core.List.{List}
 use mathlib.Core.Logic.{_⊎_}
 use mathlib.Core.Path.{_≡_}
-use lib.Dec.{eqb, leb, ltb}
+use lib.Dec.{ltb}
 use lib.ListN.{length, getD}
+use Rattle.basis.specs.Bits.{bitOf}
 use Rattle.basis.specs.Tests.{anyBelow}
 
 -- the sum of bid × effect of an assignment f of bidders to the slot indices k, .., k + left - 1
@@ -49,9 +50,9 @@ BoundHolds =
     (f : ℕ → ℕ) → Assigns free rank n k (k + left) f →
     sumFrom bid effect f k left ≤ addAfter free rank bid effect k (k + left) n
 
--- some slot index from k to below m is open to bidder b, by marks of who is barred, 8 slots a bidder
-unfoldable pub liveIn : (marks : List ℕ) (k m : ℕ) → ℕ → Bool
-liveIn marks k m b = anyBelow (λ l. leb k l && eqb (getD marks (8 * (b - 1) + l) 0) 0) m
+-- some slot is open to bidder b, by a word whose bits tell who is barred, 8 bidders a slot
+unfoldable pub liveIn : (barred : ℕ) → ℕ → Bool
+liveIn barred b = anyBelow (λ l. not (bitOf barred (8 * l + (b - 1)))) 8
 
 -- lists as functions
 unfoldable pub listed : List ℕ → ℕ → ℕ

@@ -269,19 +269,19 @@ table-clashes r table t proper p k b k-some k-most b-some b-most small unplaced 
     (λ (e : clash r b k b k ≡ false).
     ap₂ _||_ (t .alone b k b-some b-most k-some k-most)
     (any-same
-    (λ i. not (eqb (at p (suc i)) 0) && not (eqb (entryAt table (at p (suc i)) (suc i) b k) 0))
+    (λ i. not (eqb (at p (suc i)) 0) && entryAt table (at p (suc i)) (suc i) b k)
     (λ i. not (eqb (at p (suc i)) 0) && clash r b k (at p (suc i)) (suc i))
     k
     (same e)))
     (holds-or-fails (clash r b k b k))
   where
     same : clash r b k b k ≡ false → (i : ℕ) → i < k →
-        (not (eqb (at p (suc i)) 0) && not (eqb (entryAt table (at p (suc i)) (suc i) b k) 0))
+        (not (eqb (at p (suc i)) 0) && entryAt table (at p (suc i)) (suc i) b k)
         ≡ (not (eqb (at p (suc i)) 0) && clash r b k (at p (suc i)) (suc i))
     same alone i below =
         ⊎-elim
         (λ (nobody : at p (suc i) ≡ 0).
-        ap (λ (x : Bool). not x && not (eqb (entryAt table (at p (suc i)) (suc i) b k) 0)) (eq-eqb (at p (suc i)) 0 nobody)
+        ap (λ (x : Bool). not x && entryAt table (at p (suc i)) (suc i) b k) (eq-eqb (at p (suc i)) 0 nobody)
         ∙ sym (ap (λ (x : Bool). not x && clash r b k (at p (suc i)) (suc i)) (eq-eqb (at p (suc i)) 0 nobody)))
         (λ (some : at p (suc i) ≡ 0 → ⊥).
         ap (λ (x : Bool). not (eqb (at p (suc i)) 0) && x)

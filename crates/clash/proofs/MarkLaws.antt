@@ -1,18 +1,21 @@
 -- What a store marks, how the marks of a loop add up, and why the marks of a constraint are the pairs that break it: on a page of two a
 -- constraint is broken by one of them at its own slot, or by the owner and the other in one order or the other. Assumes nothing.
-use Prim.Native.Nat.{ℕ, zero, suc, _+_, _*_, _-_, _<_, _≤_}
-use borrow.Author.Tests.{eq-eqb, eqb-true, le-leb, lt-leb, leb-true, lt-ltb, le-ltb, ltb-true}
-use mathlib.Core.Bool.{Bool, true, false, not, _&&_, _||_, and-true, or-false}
+use Prim.Native.Nat.{ℕ, zero, suc, _+_, _*_, _-_, _%_, _^_, _<_, _≤_}
+use borrow.Author.Tests.{eq-eqb, ne-eqb, eqb-true, le-leb, lt-leb, leb-true}
+use mathlib.Core.Bool.{Bool, true, false, _&&_, _||_, and-true, or-false}
 use mathlib.Core.List.{List}
 use mathlib.Core.Logic.{_⊎_, inl, inr, ⊎-elim}
 use mathlib.Core.Path.{_≡_, refl, sym, _∙_, ap, ap₂}
 use native.Mathlib.Nat.{not-suc-le-zero}
 use native.Mathlib.Omega.{arith}
-use lib.Dec.{eqb, leb, ltb}
-use lib.ListN.{length, getD, set, length-set}
+use lib.Bits.{bitOr}
+use lib.Dec.{eqb, leb}
+use lib.ListN.{length, getD, set}
 use lib.Seq.{getD-set-same, getD-set-other}
+use Rattle.basis.specs.Bits.{bitOf}
 use Rattle.basis.specs.Tests.{anyBelow}
-use Rattle.basis.proofs.TestLaws.{not-both, fails, same-tests, any-at, and-holds, and-parts, or-left, or-right, or-parts, or-fails}
+use Rattle.basis.proofs.BitLaws.{bit-or, bit-zero, bit-single}
+use Rattle.basis.proofs.TestLaws.{not-both, fails, same-tests, any-at, and-holds, and-parts, or-left, or-right, or-parts}
 use Rattle.sheet.specs.declared.Bidder.{Bidder}
 use Rattle.sheet.specs.declared.Slot.{Slot}
 use Rattle.sheet.specs.declared.Kind.{Kind}
@@ -25,7 +28,7 @@ use Rattle.auction.specs.Proper.{Proper, ProperRound}
 use Rattle.auction.proofs.PageLaws.{same-or-not, placed-at, placed-where}
 use Rattle.auction.proofs.BrokenLaws.{broken-parts, parts-broken}
 use Rattle.clash.specs.Clash.{pairPage, clash, entryAt}
-use Rattle.clash.specs.Marks.{Entry, Numbered, marked, sameAt, bothAre, eitherWay, anywhere, among, pairBreaks, marks}
+use Rattle.clash.specs.Marks.{Entry, Numbered, sameAt, bothAre, eitherWay, anywhere, among, pairBreaks, marks}
 use Rattle.clash.proofs.ClashLaws.{second-here, first-here, only-two, any-same}
 
 same-at : (b k j l : ℕ) → b ≡ j → k ≡ l → sameAt b k j l ≡ true
@@ -50,9 +53,9 @@ entry-twice b k b-some b-most k-some k-most =
 
 -- the number of bidder b at slot k in the table
 abbrev placeOf : ℕ → ℕ → ℕ
-placeOf b k = 8 * (b - 1) + (k - 1)
+placeOf b k = 8 * (k - 1) + (b - 1)
 
-place-same : (x s u b k : ℕ) → 0 < x → x ≤ 8 → 0 < s → s ≤ 8 → u ≡ 8 * (x - 1) + (s - 1) → 0 < b → b ≤ 8 → 0 < k → k ≤ 8 →
+place-same : (x s u b k : ℕ) → 0 < x → x ≤ 8 → 0 < s → s ≤ 8 → u ≡ placeOf x s → 0 < b → b ≤ 8 → 0 < k → k ≤ 8 →
     eqb (placeOf b k) u ≡ sameAt x s b k
 place-same x s u b k x-some x-most s-some s-most at-u b-some b-most k-some k-most =
     same-tests (eqb (placeOf b k) u) (sameAt x s b k)
@@ -63,44 +66,53 @@ place-same x s u b k x-some x-most s-some s-most at-u b-some b-most k-some k-mos
     let s-k : s ≡ k = same .1 in
     eq-eqb (placeOf b k) u (omega arith))
 
--- one store marks one entry
-pub store-at : (table : List ℕ) (u v : ℕ) → length table ≡ 4096 → u < 64 → v < 64 → (b k j l : ℕ) → Entry b k j l →
-    marked (set table (64 * u + v) 1) b k j l ≡ (marked table b k j l || (eqb (placeOf b k) u && eqb (placeOf j l) v))
-unfolding marked entryAt
-store-at table u v size u-most v-most zero k j l i = absurd (not-suc-le-zero (i .some-b))
-store-at table u v size u-most v-most (suc b) zero j l i = absurd (not-suc-le-zero (i .some-k))
-store-at table u v size u-most v-most (suc b) (suc k) zero l i = absurd (not-suc-le-zero (i .some-j))
-store-at table u v size u-most v-most (suc b) (suc k) (suc j) zero i = absurd (not-suc-le-zero (i .some-l))
-store-at table u v size u-most v-most (suc b) (suc k) (suc j) (suc l) i =
-    ⊎-elim
-    (λ (e : 64 * (8 * b + k) + (8 * j + l) ≡ 64 * u + v).
-    ap (λ (n : ℕ). not (eqb n 0))
-    (ap (λ (n : ℕ). getD (set table (64 * u + v) 1) n 0) e ∙ getD-set-same table (64 * u + v) 1 0 (omega arith))
-    ∙ sym
-    (or-right (not (eqb (getD table (64 * (8 * b + k) + (8 * j + l)) 0) 0))
-    (and-holds (eq-eqb (placeOf (suc b) (suc k)) u (omega arith)) (eq-eqb (placeOf (suc j) (suc l)) v (omega arith)))))
-    (λ (d : 64 * (8 * b + k) + (8 * j + l) ≡ 64 * u + v → ⊥).
-    ap (λ (n : ℕ). not (eqb n 0)) (getD-set-other table (64 * u + v) (64 * (8 * b + k) + (8 * j + l)) 1 0 d)
-    ∙ sym
-    (ap (λ (n : Bool). not (eqb (getD table (64 * (8 * b + k) + (8 * j + l)) 0) 0) || n)
-    (fails (eqb (placeOf (suc b) (suc k)) u && eqb (placeOf (suc j) (suc l)) v)
-    (λ f.
-    let both = and-parts (eqb (placeOf (suc b) (suc k)) u) (eqb (placeOf (suc j) (suc l)) v) f in
-    let one = eqb-true (placeOf (suc b) (suc k)) u (both .0) in
-    let two = eqb-true (placeOf (suc j) (suc l)) v (both .1) in
-    d (omega arith)))
-    ∙ or-false (not (eqb (getD table (64 * (8 * b + k) + (8 * j + l)) 0) 0))))
-    (same-or-not (64 * (8 * b + k) + (8 * j + l)) (64 * u + v))
+-- an entry is a bit of a word, by the numbers of the two
+pub entry-bit : (table : List ℕ) (b k j l : ℕ) → 0 < b → 0 < k → 0 < j → 0 < l →
+    entryAt table b k j l ≡ bitOf (getD table (placeOf b k) 0) (placeOf j l)
+unfolding entryAt
+entry-bit table zero k j l b-some k-some j-some l-some = absurd (not-suc-le-zero b-some)
+entry-bit table (suc b) zero j l b-some k-some j-some l-some = absurd (not-suc-le-zero k-some)
+entry-bit table (suc b) (suc k) zero l b-some k-some j-some l-some = absurd (not-suc-le-zero j-some)
+entry-bit table (suc b) (suc k) (suc j) zero b-some k-some j-some l-some = absurd (not-suc-le-zero l-some)
+entry-bit table (suc b) (suc k) (suc j) (suc l) b-some k-some j-some l-some =
+    ap₂ (λ (m n : ℕ). bitOf (getD table m 0) n)
+    (let e : 8 * k + b ≡ placeOf (suc b) (suc k) = omega arith in e)
+    (let e : 8 * l + j ≡ placeOf (suc j) (suc l) = omega arith in e)
 
-module _ (table : List ℕ) (x s y t u v : ℕ) (size : length table ≡ 4096) (x-some : 0 < x) (x-most : x ≤ 8) (s-some : 0 < s) (s-most : s ≤ 8)
-    (y-some : 0 < y) (y-most : y ≤ 8) (t-some : 0 < t) (t-most : t ≤ 8) (at-u : u ≡ 8 * (x - 1) + (s - 1)) (at-v : v ≡ 8 * (y - 1) + (t - 1)) where
+-- the word at u with bit v set
+abbrev withBit : List ℕ → ℕ → ℕ → ℕ
+withBit table u v = bitOr (getD table u 0) (1 * 2 ^ v % 2 ^ 64)
+
+-- one store sets one bit of one word
+store-sets : (table : List ℕ) (u v n i : ℕ) → length table ≡ 64 → u < 64 → i < 64 →
+    bitOf (getD (set table u (withBit table u v)) n 0) i ≡ (bitOf (getD table n 0) i || (eqb n u && eqb i v))
+store-sets table u v n i size u-most i-most =
+    ⊎-elim
+    (λ (e : n ≡ u).
+    ap (λ (m : ℕ). bitOf m i)
+    (ap (λ (m : ℕ). getD (set table u (withBit table u v)) m 0) e ∙ getD-set-same table u (withBit table u v) 0 (omega arith))
+    ∙ bit-or (getD table u 0) (1 * 2 ^ v % 2 ^ 64) i
+    ∙ ap₂ _||_ (ap (λ (m : ℕ). bitOf (getD table m 0) i) (sym e))
+    (bit-single v 64 i i-most ∙ ap (λ (t : Bool). t && eqb i v) (sym (eq-eqb n u e))))
+    (λ (d : n ≡ u → ⊥).
+    ap (λ (m : ℕ). bitOf m i) (getD-set-other table u n (withBit table u v) 0 d)
+    ∙ sym
+    (ap (λ (t : Bool). bitOf (getD table n 0) i || (t && eqb i v)) (ne-eqb n u d)
+    ∙ or-false (bitOf (getD table n 0) i)))
+    (same-or-not n u)
+
+-- and so marks one entry
+module _ (table : List ℕ) (x s y t u v : ℕ) (size : length table ≡ 64) (x-some : 0 < x) (x-most : x ≤ 8) (s-some : 0 < s) (s-most : s ≤ 8)
+    (y-some : 0 < y) (y-most : y ≤ 8) (t-some : 0 < t) (t-most : t ≤ 8) (at-u : u ≡ placeOf x s) (at-v : v ≡ placeOf y t) where
   pub store-marks : (b k j l : ℕ) → Entry b k j l →
-      marked (set table (64 * u + v) 1) b k j l ≡ (marked table b k j l || bothAre x s y t b k j l)
+      entryAt (set table u (withBit table u v)) b k j l ≡ (entryAt table b k j l || bothAre x s y t b k j l)
   store-marks b k j l i =
-      store-at table u v size (omega arith) (omega arith) b k j l i
-      ∙ ap₂ (λ (m n : Bool). marked table b k j l || (m && n))
+      entry-bit (set table u (withBit table u v)) b k j l (i .some-b) (i .some-k) (i .some-j) (i .some-l)
+      ∙ store-sets table u v (placeOf b k) (placeOf j l) size (omega arith) (omega arith)
+      ∙ ap₂ _||_ (sym (entry-bit table b k j l (i .some-b) (i .some-k) (i .some-j) (i .some-l)))
+      (ap₂ _&&_
       (place-same x s u b k x-some x-most s-some s-most at-u (i .some-b) (i .most-b) (i .some-k) (i .most-k))
-      (place-same y t v j l y-some y-most t-some t-most at-v (i .some-j) (i .most-j) (i .some-l) (i .most-l))
+      (place-same y t v j l y-some y-most t-some t-most at-v (i .some-j) (i .most-j) (i .some-l) (i .most-l)))
 
 -- a bidder or a slot that the table does not have marks nothing
 pub first-left-out : (n x s y t b k j l : ℕ) (m : Bool) → Numbered x s n → 64 ≤ n → Entry b k j l → m ≡ (m || bothAre x s y t b k j l)
@@ -328,13 +340,13 @@ module _ (p : Page) (b k j l : ℕ) (k-some : 0 < k) (k-most : k ≤ 16) (l-some
 unfoldable pub someMarks : Round → ℕ → ℕ → ℕ → ℕ → ℕ → Bool
 someMarks r n b k j l = anyBelow (λ i. marks (constraintAt r i .kind) (constraintAt r i .owner .0) b k j l) n
 
-pub no-marks : (r : Round) (table : List ℕ) (b k j l : ℕ) → ((i : ℕ) → getD table i 0 ≡ 0) → marked table b k j l ≡ someMarks r 0 b k j l
-unfolding someMarks anyBelow marked entryAt
+pub no-marks : (r : Round) (table : List ℕ) (b k j l : ℕ) → ((i : ℕ) → getD table i 0 ≡ 0) → entryAt table b k j l ≡ someMarks r 0 b k j l
+unfolding someMarks anyBelow entryAt
 no-marks r table zero k j l z = refl
 no-marks r table (suc b) zero j l z = refl
 no-marks r table (suc b) (suc k) zero l z = refl
 no-marks r table (suc b) (suc k) (suc j) zero z = refl
-no-marks r table (suc b) (suc k) (suc j) (suc l) z = ap (λ (n : ℕ). not (eqb n 0)) (z (64 * (8 * b + k) + (8 * j + l)))
+no-marks r table (suc b) (suc k) (suc j) (suc l) z = ap (λ (n : ℕ). bitOf n (8 * l + j)) (z (8 * k + b)) ∙ bit-zero (8 * l + j)
 
 pub marks-more : (r : Round) (n b k j l : ℕ) →
     (someMarks r n b k j l || marks (constraintAt r n .kind) (constraintAt r n .owner .0) b k j l) ≡ someMarks r (suc n) b k j l
@@ -446,13 +458,3 @@ module _ (r : Round) (proper : ProperRound r) where
       ⊎-elim (λ (f : (y ≡ b) × (x ≡ k)). inr f) (λ (f : (y ≡ j) × (x ≡ l)). inl f)
       (only-two b k j l (i .some-k) k-most (i .some-l) l-most x y some e))
       (constraintAt r n .owner) (constraintAt r n .kind) (proper-at n below))
-
--- an entry by its index in the table
-pub entry-index : (table : List ℕ) (b k j l n : ℕ) → 0 < b → 0 < k → 0 < j → n ≡ 64 * (8 * (b - 1) + (k - 1)) + (8 * (j - 1) + l) →
-    getD table n 0 ≡ entryAt table b k j (suc l)
-unfolding entryAt
-entry-index table zero k j l n b-some k-some j-some e = absurd (not-suc-le-zero b-some)
-entry-index table (suc b) zero j l n b-some k-some j-some e = absurd (not-suc-le-zero k-some)
-entry-index table (suc b) (suc k) zero l n b-some k-some j-some e = absurd (not-suc-le-zero j-some)
-entry-index table (suc b) (suc k) (suc j) l n b-some k-some j-some e =
-    ap (λ (i : ℕ). getD table i 0) (let f : n ≡ 64 * (8 * b + k) + (8 * j + l) = omega arith in f)

@@ -1,10 +1,11 @@
 -- Each constraint concerns at most two bidders, so a page breaks one exactly when two of its bidders, or one alone, do.
 use Prim.Native.Nat.{ℕ, zero, suc, _+_, _*_, _-_, _<_, _≤_}
-use mathlib.Core.Bool.{Bool, true, false, not, _&&_, _||_}
+use mathlib.Core.Bool.{Bool, false, not, _&&_, _||_}
 use mathlib.Core.List.{List}
 use mathlib.Core.Path.{_≡_}
-use lib.Dec.{eqb, leb, ltb}
+use lib.Dec.{eqb}
 use lib.ListN.{length, getD}
+use Rattle.basis.specs.Bits.{bitOf}
 use Rattle.basis.specs.Tests.{anyBelow}
 use Rattle.sheet.specs.declared.Page.{Page}
 use Rattle.sheet.specs.declared.Round.{Round}
@@ -24,39 +25,33 @@ unfoldable pub clashes : Round → Page → ℕ → ℕ → Bool
 clashes r p k b =
     clash r b k b k || anyBelow (λ i. not (eqb (at p (suc i)) 0) && clash r b k (at p (suc i)) (suc i)) k
 
--- the entry of a pair in the table: 8 slots a bidder, 64 entries for each bidder at a slot
-unfoldable pub entryAt : List ℕ → ℕ → ℕ → ℕ → ℕ → ℕ
-entryAt table (suc b) (suc k) (suc j) (suc l) = getD table (64 * (8 * b + k) + (8 * j + l)) 0
-entryAt table zero k j l = 0
-entryAt table (suc b) zero j l = 0
-entryAt table (suc b) (suc k) zero l = 0
-entryAt table (suc b) (suc k) (suc j) zero = 0
+-- the entry of a pair in the table: a word for each bidder at a slot, 8 bidders a slot, and in it a bit for each, in the same order
+unfoldable pub entryAt : List ℕ → ℕ → ℕ → ℕ → ℕ → Bool
+entryAt table (suc b) (suc k) (suc j) (suc l) = bitOf (getD table (8 * k + b) 0) (8 * l + j)
+entryAt table zero k j l = false
+entryAt table (suc b) zero j l = false
+entryAt table (suc b) (suc k) zero l = false
+entryAt table (suc b) (suc k) (suc j) zero = false
 
 -- the same by the table's entries: b's own, and those in the rows of who stands on the page
 unfoldable pub clashesIn : List ℕ → Page → ℕ → ℕ → Bool
 clashesIn table p k b =
-    not (eqb (entryAt table b k b k) 0)
-    || anyBelow (λ i. not (eqb (at p (suc i)) 0) && not (eqb (entryAt table (at p (suc i)) (suc i) b k) 0)) k
+    entryAt table b k b k
+    || anyBelow (λ i. not (eqb (at p (suc i)) 0) && entryAt table (at p (suc i)) (suc i) b k) k
 
 -- the table tells who breaks a constraint alone, and of different bidders at different slots, neither of whom does, which two clash
 pub record TableOf (r : Round) (table : List ℕ) : Type 0 where
-  pub size : length table ≡ 4096
-  pub alone : (b k : ℕ) → 0 < b → b ≤ 8 → 0 < k → k ≤ 8 → not (eqb (entryAt table b k b k) 0) ≡ clash r b k b k
+  pub size : length table ≡ 64
+  pub alone : (b k : ℕ) → 0 < b → b ≤ 8 → 0 < k → k ≤ 8 → entryAt table b k b k ≡ clash r b k b k
   pub pairs : (b k j l : ℕ) → 0 < b → b ≤ 8 → 0 < k → k ≤ 8 → 0 < j → j ≤ 8 → 0 < l → l ≤ 8 → (b ≡ j → ⊥) → (k ≡ l → ⊥) →
-      clash r b k b k ≡ false → clash r j l j l ≡ false → not (eqb (entryAt table j l b k) 0) ≡ clash r b k j l
+      clash r b k b k ≡ false → clash r j l j l ≡ false → entryAt table j l b k ≡ clash r b k j l
 
--- 64 marks, 8 slots a bidder, tell for each bidder and each slot after k whether the bidder is barred from it: it has a slot, or clashes
--- there, by the table, with itself or with anybody on the page
-pub record BarredBy (table : List ℕ) (p : Page) (k : ℕ) (marks : List ℕ) : Type 0 where
-  pub size : length marks ≡ 64
-  pub told : (b l : ℕ) → 0 < b → b ≤ 8 → k < l → l ≤ 8 →
-      not (eqb (getD marks (8 * (b - 1) + (l - 1)) 0) 0) ≡ (placed p b || clashesIn table p l b)
+-- the bits of a word, 8 bidders a slot, tell for each bidder and each slot after k whether the bidder is barred from it: it has a slot,
+-- or clashes there, by the table, with itself or with anybody on the page
+pub record BarredBy (table : List ℕ) (p : Page) (k : ℕ) (barred : ℕ) : Type 0 where
+  pub told : (b l : ℕ) → 0 < b → b ≤ 8 → k < l → l ≤ 8 → bitOf barred (8 * (l - 1) + (b - 1)) ≡ (placed p b || clashesIn table p l b)
 
--- these are the marks, with bidder b or nobody at the next slot, of any page of which those were the marks
-abbrev pub MarksAdded : (table marks : List ℕ) (k b : ℕ) (more : List ℕ) → Type 0
-MarksAdded table marks k b more =
-    (p : Page) → Sized p → at p (suc k) ≡ 0 → BarredBy table p k marks → BarredBy table (put p (suc k) b) (suc k) more
-
--- the marks of all slots of the bidder with this index, counted from 0
-abbrev pub ofBidder : ℕ → ℕ → Bool
-ofBidder index i = leb (8 * index) i && ltb i (8 * index + 8)
+-- this word tells it, with bidder b or nobody at the next slot, of any page of which that one did
+abbrev pub BarredAlso : (table : List ℕ) (barred k b more : ℕ) → Type 0
+BarredAlso table barred k b more =
+    (p : Page) → Sized p → at p (suc k) ≡ 0 → BarredBy table p k barred → BarredBy table (put p (suc k) b) (suc k) more

@@ -1,12 +1,10 @@
 -- Which entries of the table a constraint marks: who breaks it alone, and which two break it together.
 use Prim.Native.Nat.{ℕ, _+_, _*_, _-_, _<_, _≤_}
-use mathlib.Core.Bool.{Bool, not, _&&_, _||_}
-use mathlib.Core.List.{List}
+use mathlib.Core.Bool.{Bool, _&&_, _||_}
 use mathlib.Core.Path.{_≡_}
 use lib.Dec.{eqb}
 use Rattle.sheet.specs.declared.Kind.{Kind}
 use Rattle.sheet.specs.declared.Kind.the-variants.{OwnSlot, OtherSlot, Pair}
-use Rattle.clash.specs.Clash.{entryAt}
 
 -- bidders and slots of the table
 pub record Entry (b k j l : ℕ) : Type 0 where
@@ -21,12 +19,8 @@ pub record Entry (b k j l : ℕ) : Type 0 where
 
 -- a bidder at a slot by its number in the table, 64 for one that the table does not have
 pub record Numbered (b k n : ℕ) : Type 0 where
-  pub told : n < 64 → (b ≤ 8) × (k ≤ 8) × (n ≡ 8 * (b - 1) + (k - 1))
+  pub told : n < 64 → (b ≤ 8) × (k ≤ 8) × (n ≡ 8 * (k - 1) + (b - 1))
   pub left-out : 64 ≤ n → b ≤ 8 → k ≤ 8 → ⊥
-
--- the entry of a pair is marked
-unfoldable pub marked : List ℕ → ℕ → ℕ → ℕ → ℕ → Bool
-marked table b k j l = not (eqb (entryAt table b k j l) 0)
 
 -- bidder b at slot k is bidder j at slot l
 abbrev pub sameAt : ℕ → ℕ → ℕ → ℕ → Bool

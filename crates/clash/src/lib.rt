@@ -1,13 +1,14 @@
-// Which two bidders at which two slots break a constraint: a table of 64 × 64 bytes for rounds of up to 8 bidders and 8 slots.
-ghost use mathlib.Core.Bool.{Bool, not, _||_};
+// Which two bidders at which two slots break a constraint: a table of 64 × 64 bits for rounds of up to 8 bidders and 8 slots.
+ghost use mathlib.Core.Bool.{_&&_, _||_};
 ghost use mathlib.Core.Path.{_≡_};
-ghost use Prim.Native.Nat.{ℕ, suc, _+_, _<_, _≤_};
-ghost use lib.Dec.{eqb};
+ghost use Prim.Native.Nat.{ℕ, suc, _+_, _*_, _%_, _<_, _≤_};
+ghost use lib.Dec.{eqb, leb, ltb};
 ghost use lib.ListN.{length, getD};
+ghost use Rattle.basis.specs.Bits.{bitOf};
 ghost use Rattle.auction.specs.Page.{emptyPage};
 ghost use Rattle.auction.specs.Proper.{Proper, ProperRound};
-ghost use Rattle.clash.specs.Clash.{TableOf, BarredBy, MarksAdded, ofBidder};
-ghost use Rattle.clash.specs.Marks.{Entry, Numbered, marked, bothAre, eitherWay, anywhere, marks};
+ghost use Rattle.clash.specs.Clash.{entryAt, TableOf, BarredBy, BarredAlso};
+ghost use Rattle.clash.specs.Marks.{Entry, Numbered, bothAre, eitherWay, anywhere, marks};
 use sheet::Bidder;
 use sheet::Constraint;
 use sheet::Kind;
@@ -25,13 +26,13 @@ fn number(bidder: Bidder, slot: Slot) -> usize
     if slot.0 > 8 {
         return 64;
     }
-    8 * (bidder.0 as usize - 1) + (slot.0 as usize - 1)
+    8 * (slot.0 as usize - 1) + (bidder.0 as usize - 1)
 }
 
 // The entry of one bidder at its slot and another at its slot is marked, if the table has it.
-fn mark(table: &mut [u8], bidder: Bidder, slot: Slot, other: Bidder, place: Slot)
-    requires { ⌜ (length (now table) ≡ 4096) × (0 < bidder .0) × (0 < slot .0) × (0 < other .0) × (0 < place .0) ⌝ }
-    ensures { λ r. ⌜ ((b k j l : ℕ) → Entry b k j l → marked (now (table .exit)) b k j l ≡ (marked (now (table .entry)) b k j l || bothAre (bidder .0) (slot .0) (other .0) (place .0) b k j l)) ⌝ }
+fn mark(table: &mut [u64], bidder: Bidder, slot: Slot, other: Bidder, place: Slot)
+    requires { ⌜ (length (now table) ≡ 64) × (0 < bidder .0) × (0 < slot .0) × (0 < other .0) × (0 < place .0) ⌝ }
+    ensures { λ r. ⌜ ((b k j l : ℕ) → Entry b k j l → entryAt (now (table .exit)) b k j l ≡ (entryAt (now (table .entry)) b k j l || bothAre (bidder .0) (slot .0) (other .0) (place .0) b k j l)) ⌝ }
 {
     let x = number(bidder, slot);
     let y = number(other, place);
@@ -41,22 +42,22 @@ fn mark(table: &mut [u8], bidder: Bidder, slot: Slot, other: Bidder, place: Slot
     if y >= 64 {
         return;
     }
-    table[64 * x + y] = 1;
+    table[x] = table[x] | (1u64 << y);
 }
 
 // The same in both orders.
-fn mark_both(table: &mut [u8], bidder: Bidder, slot: Slot, other: Bidder, place: Slot)
-    requires { ⌜ (length (now table) ≡ 4096) × (0 < bidder .0) × (0 < slot .0) × (0 < other .0) × (0 < place .0) ⌝ }
-    ensures { λ r. ⌜ ((b k j l : ℕ) → Entry b k j l → marked (now (table .exit)) b k j l ≡ (marked (now (table .entry)) b k j l || eitherWay (bidder .0) (slot .0) (other .0) (place .0) b k j l)) ⌝ }
+fn mark_both(table: &mut [u64], bidder: Bidder, slot: Slot, other: Bidder, place: Slot)
+    requires { ⌜ (length (now table) ≡ 64) × (0 < bidder .0) × (0 < slot .0) × (0 < other .0) × (0 < place .0) ⌝ }
+    ensures { λ r. ⌜ ((b k j l : ℕ) → Entry b k j l → entryAt (now (table .exit)) b k j l ≡ (entryAt (now (table .entry)) b k j l || eitherWay (bidder .0) (slot .0) (other .0) (place .0) b k j l)) ⌝ }
 {
     mark(table, bidder, slot, other, place);
     mark(table, other, place, bidder, slot);
 }
 
 // One bidder at any slot, and another at its slot.
-fn mark_anywhere(table: &mut [u8], bidder: Bidder, other: Bidder, place: Slot)
-    requires { ⌜ (length (now table) ≡ 4096) × (0 < bidder .0) × (0 < other .0) × (0 < place .0) ⌝ }
-    ensures { λ r. ⌜ ((b k j l : ℕ) → Entry b k j l → marked (now (table .exit)) b k j l ≡ (marked (now (table .entry)) b k j l || anywhere (bidder .0) (other .0) (place .0) b k j l)) ⌝ }
+fn mark_anywhere(table: &mut [u64], bidder: Bidder, other: Bidder, place: Slot)
+    requires { ⌜ (length (now table) ≡ 64) × (0 < bidder .0) × (0 < other .0) × (0 < place .0) ⌝ }
+    ensures { λ r. ⌜ ((b k j l : ℕ) → Entry b k j l → entryAt (now (table .exit)) b k j l ≡ (entryAt (now (table .entry)) b k j l || anywhere (bidder .0) (other .0) (place .0) b k j l)) ⌝ }
 {
     let mut n: u8 = 0;
     while n < 8 {
@@ -66,9 +67,9 @@ fn mark_anywhere(table: &mut [u8], bidder: Bidder, other: Bidder, place: Slot)
 }
 
 // Who breaks one constraint alone, and every pair that breaks it.
-fn mark_constraint(table: &mut [u8], constraint: Constraint)
-    requires { ⌜ (length (now table) ≡ 4096) × Proper constraint ⌝ }
-    ensures { λ r. ⌜ ((b k j l : ℕ) → Entry b k j l → marked (now (table .exit)) b k j l ≡ (marked (now (table .entry)) b k j l || marks (constraint .kind) (constraint .owner .0) b k j l)) ⌝ }
+fn mark_constraint(table: &mut [u64], constraint: Constraint)
+    requires { ⌜ (length (now table) ≡ 64) × Proper constraint ⌝ }
+    ensures { λ r. ⌜ ((b k j l : ℕ) → Entry b k j l → entryAt (now (table .exit)) b k j l ≡ (entryAt (now (table .entry)) b k j l || marks (constraint .kind) (constraint .owner .0) b k j l)) ⌝ }
 {
     let owner = constraint.owner;
     let kind = constraint.kind;
@@ -85,9 +86,9 @@ fn mark_constraint(table: &mut [u8], constraint: Constraint)
     }
 }
 
-// The table of a round, in a lent slice of 4,096 zeros.
-pub fn fill_table(table: &mut [u8], round: Round)
-    requires { ⌜ (length (now table) ≡ 4096) × ((i : ℕ) → getD (now table) i 0 ≡ 0) ⌝ }
+// The table of a round, in a lent slice of 64 words of 0.
+pub fn fill_table(table: &mut [u64], round: Round)
+    requires { ⌜ (length (now table) ≡ 64) × ((i : ℕ) → getD (now table) i 0 ≡ 0) ⌝ }
     requires { ⌜ ProperRound round × (round .bidders ≤ 8) × (round .slots ≤ 8) ⌝ }
     ensures { λ r. ⌜ TableOf round (now (table .exit)) ⌝ }
 {
@@ -99,67 +100,47 @@ pub fn fill_table(table: &mut [u8], round: Round)
     }
 }
 
-// Not 0 where one of two marks is not.
-fn either(mark: u8, other: u8) -> u8
-    ensures { λ r. ⌜ not (eqb r 0) ≡ (not (eqb mark 0) || not (eqb other 0)) ⌝ }
-{
-    if mark != 0 {
-        return mark;
-    }
-    other
-}
-
-// The marks of an empty page: who breaks a constraint alone.
-pub fn first_marks(table: &[u8]) -> [u8; 64]
-    requires { ⌜ length (now table) ≡ 4096 ⌝ }
+// Who is barred on an empty page: who breaks a constraint alone.
+pub fn first_barred(table: &[u64]) -> u64
+    requires { ⌜ length (now table) ≡ 64 ⌝ }
     ensures { λ r. ⌜ BarredBy (now (table .entry)) emptyPage 0 r ⌝ }
 {
-    let mut marks = [0u8; 64];
+    let mut barred: u64 = 0;
     let mut x: usize = 0;
     while x < 64 {
-        marks[x] = table[64 * x + x];
+        barred = barred | (table[x] & (1u64 << x));
         x += 1;
     }
-    marks
+    barred
 }
 
-// The marks with the 64 entries of the table from `start` on added.
-fn add_row(table: &[u8], start: usize, marks: [u8; 64]) -> [u8; 64]
-    requires { ⌜ (length (now table) ≡ 4096) × (start + 64 ≤ 4096) × (length marks ≡ 64) ⌝ }
-    ensures { λ r. ⌜ (length r ≡ 64) × ((i : ℕ) → i < 64 → not (eqb (getD r i 0) 0) ≡ (not (eqb (getD marks i 0) 0) || not (eqb (getD (now (table .entry)) (start + i) 0) 0))) ⌝ }
+// Everybody at the slot with this index.
+fn at_slot(index: usize) -> u64
+    requires { ⌜ index < 8 ⌝ }
+    ensures { λ r. ⌜ ((i : ℕ) → i < 64 → bitOf r i ≡ (leb (8 * index) i && ltb i (8 * index + 8))) ⌝ }
 {
-    let mut more = marks;
-    let mut i: usize = 0;
-    while i < 64 {
-        more[i] = either(more[i], table[start + i]);
-        i += 1;
-    }
-    more
+    255u64 << (8 * index)
 }
 
-// The marks with all slots of one bidder marked, by its index.
-fn mark_bidder(marks: [u8; 64], index: usize) -> [u8; 64]
-    requires { ⌜ (length marks ≡ 64) × (index < 8) ⌝ }
-    ensures { λ r. ⌜ (length r ≡ 64) × ((i : ℕ) → i < 64 → not (eqb (getD r i 0) 0) ≡ (not (eqb (getD marks i 0) 0) || ofBidder index i)) ⌝ }
+// The bidder with this index at every slot.
+fn everywhere(index: usize) -> u64
+    requires { ⌜ index < 8 ⌝ }
+    ensures { λ r. ⌜ ((i : ℕ) → i < 64 → bitOf r i ≡ eqb (i % 8) index) ⌝ }
 {
-    let mut more = marks;
-    let mut l: usize = 0;
-    while l < 8 {
-        more[8 * index + l] = 1;
-        l += 1;
-    }
-    more
+    0x0101_0101_0101_0101u64 << index
 }
 
-// The marks with a bidder, or nobody, at the next slot: it has a slot now, and its row of the table is added.
-pub fn more_marks(table: &[u8], marks: [u8; 64], slot: Slot, bidder: Bidder) -> [u8; 64]
-    requires { ⌜ (length (now table) ≡ 4096) × (length marks ≡ 64) × ((0 < slot .0) × (slot .0 ≤ 8)) × (bidder .0 ≤ 8) ⌝ }
-    ensures { λ r. ⌜ ((k : ℕ) → suc k ≡ slot .0 → MarksAdded (now (table .entry)) marks k (bidder .0) r) ⌝ }
+// Who is barred with a bidder, or nobody, at the next slot too: the slot is settled, the bidder has it, and its word of the table tells
+// with whom it clashes.
+pub fn also_barred(table: &[u64], barred: u64, slot: Slot, bidder: Bidder) -> u64
+    requires { ⌜ (length (now table) ≡ 64) × ((0 < slot .0) × (slot .0 ≤ 8)) × (bidder .0 ≤ 8) ⌝ }
+    ensures { λ r. ⌜ ((k : ℕ) → suc k ≡ slot .0 → BarredAlso (now (table .entry)) barred k (bidder .0) r) ⌝ }
 {
+    let place = slot.0 as usize - 1;
+    let settled = barred | at_slot(place);
     if bidder.0 == 0 {
-        return marks;
+        return settled;
     }
     let index = bidder.0 as usize - 1;
-    let row = 8 * index + (slot.0 as usize - 1);
-    mark_bidder(add_row(table, 64 * row, marks), index)
+    settled | table[8 * place + index] | everywhere(index)
 }

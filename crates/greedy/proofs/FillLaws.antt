@@ -24,7 +24,7 @@ use Rattle.auction.specs.Greedy.{bidOf, eligible, winnerAt, pageUpTo, greedyPag
 use Rattle.auction.specs.Price.{price}
 use Rattle.auction.specs.Proper.{ProperRound}
 use Rattle.auction.proofs.PageLaws.{same-or-not, put-nobody}
-use Rattle.auction.proofs.GreedyLaws.{upTo-next, upTo-sized, upTo-later, slot-winner, winner-eligible, winner-bidder, empty-nobody}
+use Rattle.auction.proofs.GreedyLaws.{bid-listed, upTo-next, upTo-sized, upTo-later, slot-winner, winner-eligible, winner-bidder, empty-nobody}
 use Rattle.auction.proofs.PriceLaws.{price-asked, empty-costs-nothing}
 use Rattle.greedy.specs.Barred.{openAt, barredOwn, openAfter, Awarded}
 use Rattle.greedy.proofs.BarredLaws.{eligible-start, eligible-after, after-nobody, after-somebody}
@@ -60,11 +60,6 @@ filled-start r table c size f =
       page-is = refl;
       prices-are = sym (padded-none (λ i. price r (suc i)) 16 0);
     }
-
-pub bid-listed : (r : Round) (b : ℕ) → bidIn (r .bids) b ≡ bidOf r b
-unfolding bidIn bidOf
-bid-listed r zero = refl
-bid-listed r (suc i) = refl
 
 -- where nobody is eligible, nothing is asked
 asked-nobody : (e : ℕ → Bool) (bid : ℕ → ℕ) (w n : ℕ) → ((j : ℕ) → 0 < j → j ≤ n → e j ≡ false) → mostAsked e bid w n ≡ 0

@@ -1,14 +1,15 @@
 -- Why the search may leave a node whose bound is too small, and which choices at a slot lead somewhere. Assumes nothing.
 use Prim.Native.Nat.{ℕ, zero, suc, _+_, _*_, _-_, _<_, _≤_}
-use borrow.Author.Tests.{eqb-true, not-true, not-false}
+use borrow.Author.Tests.{not-true, not-false}
 use mathlib.Core.Bool.{Bool, true, false, not, _&&_, _||_, cond}
 use mathlib.Core.List.{List}
 use mathlib.Core.Logic.{_⊎_, inl, inr, ⊎-elim}
 use mathlib.Core.Path.{_≡_, refl, sym, _∙_, ap, ap₂, subst}
 use native.Mathlib.Nat.{not-suc-le-zero, eq-or-lt-of-le, le-of-suc-le-suc, mul-le-mul}
 use native.Mathlib.Omega.{arith}
-use lib.Dec.{eqb, ltb}
+use lib.Dec.{ltb}
 use lib.ListN.{length, getD}
+use Rattle.basis.specs.Bits.{bitOf}
 use Rattle.basis.proofs.TestLaws.{holds-or-fails, not-both, and-parts, and-fails, or-fails}
 use Rattle.sheet.specs.declared.Page.{Page}
 use Rattle.sheet.specs.declared.Round.{Round}
@@ -17,12 +18,13 @@ use Rattle.auction.specs.Page.{at, put, placed, Sized}
 use Rattle.auction.specs.Broken.{breaks}
 use Rattle.auction.specs.Greedy.{bidOf, effectOf}
 use Rattle.auction.specs.Proper.{ProperRound}
-use Rattle.auction.proofs.PageLaws.{same-or-not, at-put-same, at-put-other, at-within, put-nobody}
+use Rattle.auction.proofs.PageLaws.{below-or-not, put-nobody}
 use Rattle.bound.specs.Bound.{sumFrom, slotAfter, addAfter, Falling, NoRise, Assigns, BoundHolds, liveIn, listed}
 use Rattle.clash.specs.Clash.{clashes, clashesIn, BarredBy}
+use Rattle.optimal.specs.declared.Prospect.{Prospect}
 use Rattle.optimal.specs.Best.{Allowed, total}
 use Rattle.optimal.specs.Search.{Searched}
-use Rattle.optimal.specs.Node.{TablesOf, Node, Agrees, Tried, mayStand, openTo}
+use Rattle.optimal.specs.Node.{TablesOf, Node, Agrees, Tried, mayStand, openTo, Leads}
 use Rattle.bound.proofs.BoundLaws.{bound-holds, open-live}
 use Rattle.clash.proofs.ClashLaws.{breaks-added, table-clashes}
 use Rattle.optimal.proofs.SearchLaws.{searched-none}
@@ -36,6 +38,15 @@ unfolding sumFrom
 sum-same bid bid′ effect effect′ f k zero x y = refl
 sum-same bid bid′ effect effect′ f k (suc left) x y =
     ap₂ _+_ (sum-same bid bid′ effect effect′ f k left x y) (ap₂ _*_ (x (f (k + left))) (y (k + left)))
+
+-- more slots add no less
+sum-longer : (bid effect f : ℕ → ℕ) (k left more : ℕ) → sumFrom bid effect f k left ≤ sumFrom bid effect f k (more + left)
+unfolding sumFrom
+sum-longer bid effect f k left zero =
+    subst (λ (n : ℕ). sumFrom bid effect f k left ≤ sumFrom bid effect f k n) (let e : left ≡ 0 + left = omega arith in e) (omega arith)
+sum-longer bid effect f k left (suc more) =
+    subst (λ (n : ℕ). sumFrom bid effect f k left ≤ sumFrom bid effect f k n) (let e : suc (more + left) ≡ suc more + left = omega arith in e)
+    (let h = sum-longer bid effect f k left more in omega arith)
 
 -- effects do not rise from slot to slot
 effects-fall : (r : Round) → ProperRound r → (i j : ℕ) → i ≤ j → effectOf r (suc j) ≤ effectOf r (suc i)
@@ -106,41 +117,50 @@ module _ (r : Round) (clashes ranked bids effects : List ℕ) (bidders slots : �
       (λ i. (let h = w .page .bidders i in omega arith)) free (w .page .sized) (w .later (suc j) (omega arith)) (w .unbroken))
 
   -- who stands at a slot left of an allowed page is not barred from it
-  open-later : (marks : List ℕ) → BarredBy clashes p k marks → (q : Page) → Agrees p k q → Allowed r q → (j : ℕ) → k ≤ j → j < slots →
-      (at q (suc j) ≡ 0 → ⊥) → liveIn marks k slots (at q (suc j)) ≡ true
-  open-later marks barred q f ok j past inside s =
+  open-later : (barred : ℕ) → BarredBy clashes p k barred → (q : Page) → Agrees p k q → Allowed r q → (j : ℕ) → k ≤ j →
+      (at q (suc j) ≡ 0 → ⊥) → liveIn barred (at q (suc j)) ≡ true
+  open-later barred told′ q f ok j past s =
       let b = at q (suc j) in
+      let inside : j < slots
+      = ⊎-elim
+      (λ (l : j < slots). l)
+      (λ (l : slots ≤ j). absurd (s (ok .page .slots (suc j) (let n = v .slots-are in omega arith))))
+      (below-or-not j slots) in
       let low : b ≤ bidders = (let h = ok .page .bidders (suc j) in let n = v .bidders-are in omega arith) in
       let eight = v .few-bidders in
       let short = v .few-slots in
       let free : placed p b ≡ false = later-unplaced r p k had w q f ok j past s in
       let whole : breaks r (put p (suc j) b) ≡ false = broken-later r (v .proper) p k had w q f ok j b past (omega arith) refl in
       let apart : clashesIn clashes p (suc j) b ≡ false = sym (told b j (omega arith) low free past inside) ∙ whole in
-      open-live marks b k slots j past inside
-      (eqb-true (getD marks (8 * (b - 1) + j) 0) 0
-      (not-false (eqb (getD marks (8 * (b - 1) + j) 0) 0)
-      (ap (λ (n : ℕ). not (eqb (getD marks (8 * (b - 1) + n) 0) 0)) (let e : j ≡ suc j - 1 = omega arith in e)
-      ∙ barred .told b (suc j) (omega arith) (omega arith) (omega arith) (omega arith)
-      ∙ or-fails free apart)))
+      open-live barred b j (omega arith)
+      (ap (λ (n : ℕ). bitOf barred (8 * n + (b - 1))) (let e : j ≡ suc j - 1 = omega arith in e)
+      ∙ told′ .told b (suc j) (omega arith) (omega arith) (omega arith) (omega arith)
+      ∙ or-fails free apart)
 
   -- the bound is too small
-  pub bound-small : (need : ℕ) (page : Page) (marks : List ℕ) → BarredBy clashes p k marks →
-      had + addAfter (liveIn marks k slots) (listed ranked) (bidIn bids) (listed effects) k slots bidders < need →
+  bound-small : (need : ℕ) (page : Page) (barred : ℕ) → BarredBy clashes p k barred →
+      had + addAfter (liveIn barred) (listed ranked) (bidIn bids) (listed effects) k 16 bidders < need →
       Searched r (Agrees p k) need page need page
   unfolding BoundHolds listed
-  bound-small need page marks barred l =
+  bound-small need page barred told′ l =
       searched-none r (Agrees p k) need page
       (λ q f ok.
       let left = slots - k in
-      let end : k + left ≡ slots = (let a = w .room in let b = v .slots-are in omega arith) in
+      let rest = 16 - k in
+      let room = w .room in
+      let short = v .few-slots in
+      let same = v .slots-are in
+      let end : k + left ≡ slots = omega arith in
+      let whole-end : k + rest ≡ 16 = omega arith in
+      let more : 16 - slots + left ≡ rest = omega arith in
       let many = v .bidders-are in
-      let assigns = node-assigns r p k had left (λ i. getD ranked i 0) (liveIn marks k slots) w (end ∙ sym (v .slots-are))
+      let assigns = node-assigns r p k had rest (λ i. getD ranked i 0) (liveIn barred) w
       (λ b s m.
       let a = v .ranking .everybody b s (omega arith) in
       (a .0, (let h : a .0 < bidders = a .1 in omega arith), a .2))
-      q f ok (λ j h g s. open-later marks barred q f ok j h (omega arith) s) in
-      let assigns′ = subst (λ (n : ℕ). Assigns (liveIn marks k slots) (λ i. getD ranked i 0) n k (k + left) (λ j. at q (suc j))) many assigns in
-      let most = bound-holds (liveIn marks k slots) (listed ranked) (bidIn bids) (listed effects) bidders k left (bids-zero bids)
+      q f ok (λ j h g s. open-later barred told′ q f ok j h s) in
+      let assigns′ = subst (λ (n : ℕ). Assigns (liveIn barred) (λ i. getD ranked i 0) n k (k + rest) (λ j. at q (suc j))) many assigns in
+      let most = bound-holds (liveIn barred) (listed ranked) (bidIn bids) (listed effects) bidders k rest (bids-zero bids)
       (λ i h z. absurd (let a = v .ranking .some i h .0 in let e : getD ranked i 0 ≡ 0 = z in omega arith))
       (λ i j h g e. v .ranking .once i j h g e)
       (λ i j h g.
@@ -155,12 +175,14 @@ module _ (r : Round) (clashes ranked bids effects : List ℕ) (bidders slots : �
       omega arith)
       (λ j. at q (suc j)) assigns′ in
       let sum = sum-same (bidIn bids) (bidOf r) (listed effects) (λ j. effectOf r (suc j)) (λ j. at q (suc j)) k left (v .bids-are) (v .effects-are) in
-      let whole = node-total r p k had left w (end ∙ sym (v .slots-are)) q f in
-      let within = subst (λ (m : ℕ). sumFrom (bidIn bids) (listed effects) (λ j. at q (suc j)) k left ≤ addAfter (liveIn marks k slots) (listed ranked) (bidIn bids) (listed effects) k m bidders) end most in
+      let longer = subst (λ (n : ℕ). sumFrom (bidIn bids) (listed effects) (λ j. at q (suc j)) k left ≤ sumFrom (bidIn bids) (listed effects) (λ j. at q (suc j)) k n) more
+      (sum-longer (bidIn bids) (listed effects) (λ j. at q (suc j)) k left (16 - slots)) in
+      let total-is = node-total r p k had left w (end ∙ sym same) q f in
+      let within = subst (λ (m : ℕ). sumFrom (bidIn bids) (listed effects) (λ j. at q (suc j)) k rest ≤ addAfter (liveIn barred) (listed ranked) (bidIn bids) (listed effects) k m bidders) whole-end most in
       omega arith)
 
   -- a choice that may stand is a node
-  pub may-node : (b : ℕ) → k < slots → b ≤ bidders → mayStand clashes p (suc k) b ≡ true →
+  may-node : (b : ℕ) → k < slots → b ≤ bidders → mayStand clashes p (suc k) b ≡ true →
       Node r (put p (suc k) b) (suc k) (had + bidIn bids b * listed effects k)
   unfolding mayStand
   may-node b inside listed′ e =
@@ -178,7 +200,7 @@ module _ (r : Round) (clashes ranked bids effects : List ℕ) (bidders slots : �
           (told (suc b) k (omega arith) m free (omega arith) inside ∙ not-true (clashesIn clashes p (suc k) (suc b)) (parts .1))
 
   -- and one that may not leads to no allowed page
-  pub may-not : (b : ℕ) → k < slots → b ≤ bidders → mayStand clashes p (suc k) b ≡ false →
+  may-not : (b : ℕ) → k < slots → b ≤ bidders → mayStand clashes p (suc k) b ≡ false →
       (q : Page) → Agrees (put p (suc k) b) (suc k) q → Allowed r q → ⊥
   unfolding mayStand
   may-not zero inside m e q f ok = absurd (not-both refl e)
@@ -195,22 +217,44 @@ module _ (r : Round) (clashes ranked bids effects : List ℕ) (bidders slots : �
       (and-fails (not (placed p (suc b))) (not (clashesIn clashes p (suc k) (suc b))) e))
       (holds-or-fails (placed p (suc b)))
 
--- the marks tell who may stand
-not-twice : (e : Bool) → e ≡ not (not e)
-not-twice true = refl
-not-twice false = refl
-
+-- the bits tell who may stand
 neither : (a b : Bool) → not (a || b) ≡ (not a && not b)
 neither true b = refl
 neither false b = refl
 
-pub open-may : (table marks : List ℕ) (p : Page) (k b : ℕ) → BarredBy table p k marks → suc k ≤ 8 → b ≤ 8 →
-    openTo marks (suc k) b ≡ mayStand table p (suc k) b
+open-may : (table : List ℕ) (barred : ℕ) (p : Page) (k b : ℕ) → BarredBy table p k barred → suc k ≤ 8 → b ≤ 8 →
+    openTo barred (suc k) b ≡ mayStand table p (suc k) b
 unfolding openTo mayStand
-open-may table marks p k zero barred short few = refl
-open-may table marks p k (suc b) barred short few =
-    not-twice (eqb (getD marks (8 * b + (suc k - 1)) 0) 0)
-    ∙ ap not
-    (ap (λ (n : ℕ). not (eqb (getD marks (8 * n + (suc k - 1)) 0) 0)) (let e : b ≡ suc b - 1 = omega arith in e)
-    ∙ barred .told (suc b) (suc k) (omega arith) few (omega arith) short)
+open-may table barred p k zero told few-slots few = refl
+open-may table barred p k (suc b) told few-slots few =
+    ap not
+    (ap (λ (n : ℕ). bitOf barred (8 * (suc k - 1) + n)) (let e : b ≡ suc b - 1 = omega arith in e)
+    ∙ told .told (suc b) (suc k) (omega arith) few (omega arith) few-slots)
     ∙ neither (placed p (suc b)) (clashesIn table p (suc k) (suc b))
+
+-- What a choice leads to, from a page of which the bits tell who is barred.
+module _ (r : Round) (clashes ranked bids effects : List ℕ) (slots : ℕ) (v : TablesOf r clashes ranked bids effects (length ranked) slots)
+    (p : Page) (k had : ℕ) (w : Node r p k had) (barred : ℕ) (told : BarredBy clashes p k barred) (b : ℕ) (inside : k < slots) (low : b ≤ length ranked) where
+  may-told : openTo barred (suc k) b ≡ mayStand clashes p (suc k) b
+  may-told = open-may clashes barred p k b told (let s = v .few-slots in omega arith) (let n = v .few-bidders in omega arith)
+
+  -- one that may stand leads to a node, and the bits tell who is barred there
+  pub led-node : (next : Prospect) → openTo barred (suc k) b ≡ true → Leads clashes ranked bids effects k barred had b next →
+      Node r (put p (suc k) b) (suc k) (next .had) × BarredBy clashes (put p (suc k) b) (suc k) (next .barred)
+  led-node next may leads = (
+    subst (λ (n : ℕ). Node r (put p (suc k) b) (suc k) n) (sym (leads .had-is))
+        (may-node r clashes ranked bids effects (length ranked) slots v p k had w b inside low (sym may-told ∙ may)),
+    leads .barred-also p (w .page .sized) (w .later (suc k) (omega arith)) told,
+  )
+
+  -- one that cannot lead to what is needed leads to nothing,
+  pub led-small : (next : Prospect) (need : ℕ) (page : Page) → openTo barred (suc k) b ≡ true → Leads clashes ranked bids effects k barred had b next →
+      next .most < need → Searched r (Agrees (put p (suc k) b) (suc k)) need page need page
+  led-small next need page may leads small =
+      let node = led-node next may leads in
+      bound-small r clashes ranked bids effects (length ranked) slots v (put p (suc k) b) (suc k) (next .had) (node .0) need page (next .barred) (node .1)
+      (subst (λ (n : ℕ). n < need) (leads .most-is) small)
+
+  -- and so does one that may not stand
+  pub led-nowhere : openTo barred (suc k) b ≡ false → (q : Page) → Agrees (put p (suc k) b) (suc k) q → Allowed r q → ⊥
+  led-nowhere may = may-not r clashes ranked bids effects (length ranked) slots v p k had w b inside low (sym may-told ∙ may)

@@ -94,12 +94,12 @@ module _ (r : Round) where
       absurd (omega arith))
 
   -- an allowed page that agrees with a node gives the slots left bidders, each once, that pass a test that all of those pass
-  pub node-assigns : (p : Page) (k had left : ℕ) (ranked : ℕ → ℕ) (free : ℕ → Bool) → Node r p k had → k + left ≡ r .slots →
+  pub node-assigns : (p : Page) (k had left : ℕ) (ranked : ℕ → ℕ) (free : ℕ → Bool) → Node r p k had →
       ((b : ℕ) → 0 < b → b ≤ r .bidders → (i : ℕ) × (i < r .bidders) × (ranked i ≡ b)) →
       (q : Page) → Agrees p k q → Allowed r q →
       ((j : ℕ) → k ≤ j → j < k + left → (at q (suc j) ≡ 0 → ⊥) → free (at q (suc j)) ≡ true) →
       Assigns free ranked (r .bidders) k (k + left) (λ j. at q (suc j))
-  node-assigns p k had left ranked free v end everybody q f ok able =
+  node-assigns p k had left ranked free v everybody q f ok able =
       record {
         ranked = λ j l m.
             ⊎-elim

@@ -1,6 +1,5 @@
--- Where the search starts: the tables are the round's, the empty page is its first node, and the greedy page has what it looks for.
+-- Where the search starts: the tables are the round's, the empty page is its first node, and some page has what it looks for.
 -- Assumes nothing.
-use Rattle.greedy.proofs.FillLaws.{bid-listed}
 use Prim.Native.Nat.{ℕ, zero, suc, _+_, _*_, _<_, _≤_}
 use mathlib.Core.Bool.{Bool, false}
 use mathlib.Core.List.{List}
@@ -15,16 +14,16 @@ use Rattle.sheet.specs.declared.Round.{Round}
 use Rattle.choice.specs.Tables.{bidIn}
 use Rattle.auction.specs.Page.{at, put, emptyPage, Sized}
 use Rattle.auction.specs.Broken.{breaks}
-use Rattle.auction.specs.Greedy.{bidOf, effectOf, pageUpTo, greedyPage}
+use Rattle.auction.specs.Greedy.{bidOf, effectOf}
 use Rattle.auction.specs.Proper.{ProperRound}
 use Rattle.auction.proofs.PageLaws.{below-or-not, empty-sized, at-empty}
+use Rattle.auction.proofs.GreedyLaws.{bid-listed}
 use Rattle.auction.proofs.BrokenLaws.{none-breaks, empty-unbroken}
-use Rattle.auction.proofs.GreedyLaws.{upTo-sized, upTo-later, upTo-bidders, nobody-twice, greedy-unbroken}
 use Rattle.bound.specs.Bound.{listed, Ranked}
-use Rattle.clash.specs.Clash.{TableOf}
+use Rattle.clash.specs.Clash.{TableOf, BarredBy}
 use Rattle.optimal.specs.Best.{PageOf, Allowed, totalUpTo, total, Best}
 use Rattle.optimal.specs.Search.{Searched}
-use Rattle.optimal.specs.Node.{RankedBy, TablesOf, Node, Agrees, Lent, Attempt, totalIn}
+use Rattle.optimal.specs.Node.{RankedBy, TablesOf, Node, Agrees, Lent, Attempt, Raised}
 use Rattle.optimal.proofs.SearchLaws.{searched-best}
 
 at-zero : (p : Page) → at p 0 ≡ 0
@@ -34,30 +33,6 @@ at-zero p = refl
 effect-same : (r : Round) (k : ℕ) → listed (r .effects) k ≡ effectOf r (suc k)
 unfolding listed effectOf
 effect-same r k = refl
-
-total-same : (r : Round) (p : Page) (k : ℕ) → totalIn (r .bids) (r .effects) p k ≡ totalUpTo r p k
-unfolding totalIn totalUpTo
-total-same r p zero = refl
-total-same r p (suc k) = ap₂ _+_ (total-same r p k) (ap₂ _*_ (bid-listed r (at p (suc k))) (effect-same r k))
-
--- the greedy page is allowed
-pub greedy-allowed : (r : Round) → ProperRound r → Allowed r (greedyPage r)
-unfolding greedyPage
-greedy-allowed r c =
-    record {
-      page =
-          record {
-            sized = upTo-sized r (r .slots);
-            bidders = upTo-bidders r (r .slots);
-            slots = λ k l. upTo-later r (r .slots) k l;
-            once = λ j k s e. nobody-twice r (r .slots) j k (c .most-slots) s e;
-          };
-      unbroken = greedy-unbroken r c;
-    }
-
-pub greedy-low : (r : Round) → ProperRound r → (k : ℕ) → at (greedyPage r) k ≤ length (r .bids)
-unfolding greedyPage
-greedy-low r c k = let h = upTo-bidders r (r .slots) k in let e = c .sized-bids in let m = c .most-bidders in omega arith
 
 pub bids-low : (r : Round) → ProperRound r → (i : ℕ) → getD (r .bids) i 0 ≤ 1_000_000_000
 unfolding bidOf
@@ -75,23 +50,22 @@ module _ (r : Round) (c : ProperRound r) (few : r .bidders ≤ 8) (short : r .sl
   same-at : (i : ℕ) → i < r .bidders → getD (take (r .bidders) ranked) i 0 ≡ getD ranked i 0
   same-at i l = getD-take (r .bidders) ranked i 0 l
 
-  pub lent-of : Lent table (take (r .bidders) ranked) (r .bids) (r .effects) (r .bidders) (r .slots)
+  pub lent-of : Lent table (take (r .bidders) ranked) (r .bids) (r .effects)
   lent-of =
       record {
         table-size = t .size;
-        few-bidders = few;
-        few-slots = short;
-        ranked-size = front-size;
-        bids-size = (let e = c .sized-bids in omega arith);
-        effects-size = (let e = c .sized-effects in omega arith);
+        few-bidders = (let e = front-size in omega arith);
+        bids-size = (let e = c .sized-bids in let n = front-size in omega arith);
+        effects-size = c .sized-effects;
         ranked-range = λ i l.
-            subst (λ (x : ℕ). (0 < x) × (x ≤ r .bidders)) (sym (same-at i l)) (k .some i l);
+            subst (λ (x : ℕ). (0 < x) × (x ≤ length (take (r .bidders) ranked))) (sym (same-at i (let n = front-size in omega arith)))
+            (let some = k .some i (let n = front-size in omega arith) in (some .0, (let low : getD ranked i 0 ≤ r .bidders = some .1 in let n = front-size in omega arith)));
         bids-low = bids-low r c;
         effects-low = effects-low r c;
       }
 
-  tables-of : TablesOf r table (take (r .bidders) ranked) (r .bids) (r .effects) (r .bidders) (r .slots)
-  tables-of =
+  by-number : TablesOf r table (take (r .bidders) ranked) (r .bids) (r .effects) (r .bidders) (r .slots)
+  by-number =
       record {
         proper = c;
         bidders-are = refl;
@@ -112,6 +86,9 @@ module _ (r : Round) (c : ProperRound r) (few : r .bidders ≤ 8) (short : r .sl
             };
       }
 
+  pub tables-of : TablesOf r table (take (r .bidders) ranked) (r .bids) (r .effects) (length (take (r .bidders) ranked)) (r .slots)
+  tables-of = subst (λ (n : ℕ). TablesOf r table (take (r .bidders) ranked) (r .bids) (r .effects) n (r .slots)) (sym front-size) by-number
+
   first-node : Node r emptyPage 0 0
   unfolding totalUpTo
   first-node =
@@ -129,14 +106,24 @@ module _ (r : Round) (c : ProperRound r) (few : r .bidders ≤ 8) (short : r .sl
         had-is = refl;
       }
 
-  -- what the search gives, from the greedy page's total, is best
-  pub best-found : (need : ℕ) (page : Page) (need′ : ℕ) (page′ : Page) → need ≡ totalIn (r .bids) (r .effects) (greedyPage r) (r .slots) →
-      Attempt table (take (r .bidders) ranked) (r .bids) (r .effects) (r .bidders) (r .slots) 0 emptyPage 0 need page need′ page′ →
+  -- the search looks for a total that some page has
+  start-reached : (barred known : ℕ) → BarredBy table emptyPage 0 barred →
+      Raised table (take (r .bidders) ranked) (r .bids) (r .effects) (r .slots) 0 barred 0 0 known →
+      (q : Page) × Allowed r q × (known ≤ total r q)
+  start-reached barred known told f =
+      ⊎-elim
+      (λ (e : known ≡ 0). (emptyPage, record { page = first-node .page; unbroken = first-node .unbroken }, omega arith))
+      (λ (w : (q : Page) × Allowed r q × (total r q ≡ known)). (w .0, w .1, (let e = w .2 in omega arith)))
+      (f r emptyPage tables-of first-node told)
+
+  -- so what it gives is best
+  pub best-found : (barred need : ℕ) (page : Page) (need′ : ℕ) (page′ : Page) → BarredBy table emptyPage 0 barred →
+      Raised table (take (r .bidders) ranked) (r .bids) (r .effects) (r .slots) 0 barred 0 0 need →
+      Attempt table (take (r .bidders) ranked) (r .bids) (r .effects) (r .slots) 0 emptyPage 0 need page need′ page′ →
       Best r page′ × (need′ ≡ suc (total r page′))
-  unfolding total
-  best-found need page need′ page′ e f =
-      let own = total-same r (greedyPage r) (r .slots) in
-      searched-best r (Agrees emptyPage 0) need page need′ page′ (λ q ok j l. at-none q j l) (greedyPage r) (greedy-allowed r c) (omega arith)
+  best-found barred need page need′ page′ told g f =
+      let start = start-reached barred need told g in
+      searched-best r (Agrees emptyPage 0) need page need′ page′ (λ q ok j l. at-none q j l) (start .0) (start .1) (start .2)
       (f r tables-of first-node)
     where
       at-none : (q : Page) (j : ℕ) → j ≤ 0 → at q j ≡ at emptyPage j

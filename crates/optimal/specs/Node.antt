@@ -1,10 +1,11 @@
 -- A node of the search: a page whose first k slots are settled, and the pages that it can become.
 use Prim.Native.Nat.{ℕ, zero, suc, _+_, _*_, _-_, _<_, _≤_}
 use mathlib.Core.Bool.{Bool, true, false, not, _&&_}
-use lib.Dec.{eqb}
 use lib.ListN.{length, getD}
 use mathlib.Core.List.{List}
+use mathlib.Core.Logic.{_⊎_}
 use mathlib.Core.Path.{_≡_}
+use Rattle.basis.specs.Bits.{bitOf}
 use Rattle.sheet.specs.declared.Page.{Page}
 use Rattle.sheet.specs.declared.Round.{Round}
 use Rattle.choice.specs.Tables.{bidIn}
@@ -12,10 +13,11 @@ use Rattle.auction.specs.Page.{at, placed}
 use Rattle.auction.specs.Broken.{breaks}
 use Rattle.auction.specs.Greedy.{bidOf, effectOf}
 use Rattle.auction.specs.Proper.{ProperRound}
-use Rattle.bound.specs.Bound.{listed}
-use Rattle.clash.specs.Clash.{TableOf, clashesIn}
+use Rattle.bound.specs.Bound.{addAfter, liveIn, listed}
+use Rattle.clash.specs.Clash.{TableOf, clashesIn, BarredBy, BarredAlso}
+use Rattle.optimal.specs.declared.Prospect.{Prospect}
 use Rattle.optimal.specs.Search.{Searched}
-use Rattle.optimal.specs.Best.{PageOf, totalUpTo}
+use Rattle.optimal.specs.Best.{PageOf, Allowed, totalUpTo, total}
 
 -- the list names the bidders 1 to n, each once, in falling order of their bids
 pub record RankedBy (bid : ℕ → ℕ) (n : ℕ) (ranked : List ℕ) : Type 0 where
@@ -57,29 +59,35 @@ unfoldable pub mayStand : List ℕ → Page → ℕ → ℕ → Bool
 mayStand table p k zero = true
 mayStand table p k (suc b) = not (placed p (suc b)) && not (clashesIn table p k (suc b))
 
--- the same by the marks of who is barred, 8 slots a bidder
-unfoldable pub openTo : List ℕ → ℕ → ℕ → Bool
-openTo marks k zero = true
-openTo marks k (suc b) = eqb (getD marks (8 * b + (k - 1)) 0) 0
+-- the same by the bits of a word that tell who is barred, 8 bidders a slot
+unfoldable pub openTo : ℕ → ℕ → ℕ → Bool
+openTo barred k zero = true
+openTo barred k (suc b) = not (bitOf barred (8 * (k - 1) + b))
 
 -- sizes and ranges of what the search is lent
-pub record Lent (clashes ranked bids effects : List ℕ) (bidders slots : ℕ) : Type 0 where
-  pub table-size : length clashes ≡ 4096
-  pub few-bidders : bidders ≤ 8
-  pub few-slots : slots ≤ 8
-  pub ranked-size : length ranked ≡ bidders
-  pub bids-size : bidders ≤ length bids
-  pub effects-size : slots ≤ length effects
-  pub ranked-range : (i : ℕ) → i < bidders → (0 < getD ranked i 0) × (getD ranked i 0 ≤ bidders)
+pub record Lent (clashes ranked bids effects : List ℕ) : Type 0 where
+  pub table-size : length clashes ≡ 64
+  pub few-bidders : length ranked ≤ 8
+  pub bids-size : length ranked ≤ length bids
+  pub effects-size : length effects ≡ 16
+  pub ranked-range : (i : ℕ) → i < length ranked → (0 < getD ranked i 0) × (getD ranked i 0 ≤ length ranked)
   pub bids-low : (i : ℕ) → getD bids i 0 ≤ 1_000_000_000
   pub effects-low : (i : ℕ) → getD effects i 0 ≤ 1_000_000
 
--- what a search from a page with the slots before index k settled gives, for every round of which the lent tables are
-abbrev pub Attempt : (clashes ranked bids effects : List ℕ) (bidders slots k : ℕ) (p : Page) (had need : ℕ) (page : Page) (need′ : ℕ) (page′ : Page) → Type 0
-Attempt clashes ranked bids effects bidders slots k p had need page need′ page′ =
-    (r : Round) → TablesOf r clashes ranked bids effects bidders slots → Node r p k had → Searched r (Agrees p k) need page need′ page′
+-- what bidder b, or nobody, at the slot with index k leads to: who is barred then, what is had then, and the most that can be had
+pub record Leads (clashes ranked bids effects : List ℕ) (k barred had b : ℕ) (next : Prospect) : Type 0 where
+  pub barred-also : BarredAlso clashes barred k b (next .barred)
+  pub had-is : next .had ≡ had + bidIn bids b * listed effects k
+  pub most-is : next .most ≡ next .had + addAfter (liveIn (next .barred)) (listed ranked) (bidIn bids) (listed effects) (suc k) 16 (length ranked)
 
--- a page's total from lists of bids and effects, over the first k slots
-unfoldable pub totalIn : (bids effects : List ℕ) → Page → ℕ → ℕ
-totalIn bids effects p zero = 0
-totalIn bids effects p (suc k) = totalIn bids effects p k + bidIn bids (at p (suc k)) * listed effects k
+-- what a search from a page with the slots before index k settled gives, for every round of which the lent tables are
+abbrev pub Attempt : (clashes ranked bids effects : List ℕ) (slots k : ℕ) (p : Page) (had need : ℕ) (page : Page) (need′ : ℕ) (page′ : Page) → Type 0
+Attempt clashes ranked bids effects slots k p had need page need′ page′ =
+    (r : Round) → TablesOf r clashes ranked bids effects (length ranked) slots → Node r p k had → Searched r (Agrees p k) need page need′ page′
+
+-- a total from which a search may start: the one that was known, or one that an allowed page has, for every round of which the lent tables
+-- are and every page of it with the slots before index k settled
+abbrev pub Raised : (clashes ranked bids effects : List ℕ) (slots k barred had known known′ : ℕ) → Type 0
+Raised clashes ranked bids effects slots k barred had known known′ =
+    (r : Round) (p : Page) → TablesOf r clashes ranked bids effects (length ranked) slots → Node r p k had → BarredBy clashes p k barred →
+    (known′ ≡ known) ⊎ ((q : Page) × Allowed r q × (total r q ≡ known′))

@@ -13,7 +13,7 @@ ghost use Rattle.choice.specs.Tables.{bidIn};
 ghost use Rattle.auction.specs.Page.{at, Sized};
 ghost use Rattle.bound.specs.Bound.{listed};
 ghost use Rattle.clash.specs.Clash.{BarredBy};
-ghost use Rattle.optimal.specs.Node.{openTo, Lent, Attempt, totalIn};
+ghost use Rattle.optimal.specs.Node.{openTo, Lent, Leads, Attempt, Raised};
 use sheet::Bidder;
 use sheet::Page;
 use sheet::Round;
@@ -25,22 +25,29 @@ pub struct Answer {
     pub need: u64,
 }
 
+// What a choice at a slot leads to: a word of who is barred then, 8 bidders a slot, what is had then, and the most that can be had.
+pub struct Prospect {
+    pub barred: u64,
+    pub had: u64,
+    pub most: u64,
+}
+
 // The call's answer: a refusal's number, or 0 and the best page's total.
 pub struct Chosen {
     pub refusal: u32,
     pub total: u64,
 }
 
-// Whether a bidder may stand at the next slot, by the marks: nobody may, and a bidder that is not barred.
-fn may_stand(marks: &[u8], slot: Slot, bidder: Bidder) -> bool
-    requires { ⌜ (length (now marks) ≡ 64) × ((0 < slot .0) × (slot .0 ≤ 8)) × (bidder .0 ≤ 8) ⌝ }
-    ensures { λ r. ⌜ r ≡ openTo (now (marks .entry)) (slot .0) (bidder .0) ⌝ }
+// Whether a bidder may stand at the next slot: nobody may, and a bidder that is not barred.
+fn may_stand(barred: u64, slot: Slot, bidder: Bidder) -> bool
+    requires { ⌜ ((0 < slot .0) × (slot .0 ≤ 8)) × (bidder .0 ≤ 8) ⌝ }
+    ensures { λ r. ⌜ r ≡ openTo barred (slot .0) (bidder .0) ⌝ }
 {
     if bidder.0 == 0 {
         return true;
     }
-    let at = 8 * (bidder.0 as usize - 1) + (slot.0 as usize - 1);
-    marks[at] == 0
+    let at = 8 * (slot.0 as usize - 1) + (bidder.0 as usize - 1);
+    (barred >> at) % 2 == 0
 }
 
 // What a bidder, or nobody, adds at a slot.
@@ -56,25 +63,111 @@ fn adds(bids: &[u32], effects: &[u32], bidder: Bidder, index: usize) -> u64
     bids[i] as u64 * effects[index] as u64
 }
 
-// The best of the answer so far and of every page that the settled slots, those before index `from`, can become. The slot at `from` is
-// settled with nobody and then with each bidder, each time on the page as it was, and what remains is the same search with one slot fewer.
-fn search(
-    clashes: &[u8],
+// What a bidder, or nobody, at the slot with index `from` leads to.
+fn look_ahead(
+    clashes: &[u64],
     ranked: &[u8],
     bids: &[u32],
     effects: &[u32],
-    bidders: u8,
+    from: usize,
+    barred: u64,
+    had: u64,
+    bidder: Bidder,
+) -> Prospect
+    requires { ⌜ Lent (now clashes) (now ranked) (now bids) (now effects) ⌝ }
+    requires { ⌜ (from < 8) × (had ≤ from * 1000000000000000) × (bidder .0 ≤ length (now ranked)) ⌝ }
+    ensures { λ r. ⌜ Leads (now (clashes .entry)) (now (ranked .entry)) (now (bids .entry)) (now (effects .entry)) from barred had (bidder .0) r ⌝ }
+{
+    let slot = Slot((from + 1) as u8);
+    let more = clash::also_barred(clashes, barred, slot, bidder);
+    let with = had + adds(bids, effects, bidder, from);
+    let most = with + bound::most_added(more, ranked, bids, effects, from + 1);
+    Prospect {
+        barred: more,
+        had: with,
+        most,
+    }
+}
+
+// The ranked bidder at an index, and nobody after the last one.
+fn choice_at(ranked: &[u8], index: usize) -> Bidder
+    ensures { λ r. ⌜ r .0 ≡ getD (now (ranked .entry)) index 0 ⌝ }
+{
+    if index < ranked.len() {
+        return Bidder(ranked[index]);
+    }
+    Bidder(0)
+}
+
+// The larger of the total that is known and of the totals that the settled slots, those before index `from`, can lead to. The highest bids
+// are tried first, so that the first page is the greedy one. The search that follows looks for no page with a smaller total, and may
+// because some page has this one; only its speed rests on how large it is.
+fn raise(
+    clashes: &[u64],
+    ranked: &[u8],
+    bids: &[u32],
+    effects: &[u32],
+    slots: usize,
+    from: usize,
+    barred: u64,
+    had: u64,
+    known: u64,
+) -> u64
+    requires { ⌜ Lent (now clashes) (now ranked) (now bids) (now effects) × (slots ≤ 8) ⌝ }
+    requires { ⌜ (from ≤ slots) × (had ≤ from * 1000000000000000) ⌝ }
+    ensures { λ r. ⌜ Raised (now (clashes .entry)) (now (ranked .entry)) (now (bids .entry)) (now (effects .entry)) slots from barred had known r ⌝ }
+{
+    if from == slots {
+        if known < had {
+            return had;
+        }
+        return known;
+    }
+    let slot = Slot((from + 1) as u8);
+    let mut highest = known;
+    let mut i: usize = 0;
+    while i <= ranked.len() {
+        let bidder = choice_at(ranked, i);
+        if may_stand(barred, slot, bidder) {
+            let ahead = look_ahead(clashes, ranked, bids, effects, from, barred, had, bidder);
+            if highest < ahead.most {
+                highest = raise(
+                    clashes,
+                    ranked,
+                    bids,
+                    effects,
+                    slots,
+                    from + 1,
+                    ahead.barred,
+                    ahead.had,
+                    highest,
+                );
+            }
+        }
+        i += 1;
+    }
+    highest
+}
+
+// The best of the answer so far and of every page that the settled slots, those before index `from`, can become. The slot at `from` is
+// settled with nobody and then with each bidder, each time on the page as it was, and what remains is the same search with one slot fewer.
+// A choice that cannot lead to what is needed is left out.
+fn search(
+    clashes: &[u64],
+    ranked: &[u8],
+    bids: &[u32],
+    effects: &[u32],
     slots: usize,
     from: usize,
     page: Page,
-    marks: [u8; 64],
+    barred: u64,
     had: u64,
     answer: Answer,
 ) -> Answer
-    requires { ⌜ Lent (now clashes) (now ranked) (now bids) (now effects) bidders slots ⌝ }
-    requires { ⌜ (from ≤ slots) × ((k : ℕ) → at page k ≤ 8) × (had ≤ from * 1000000000000000) × Sized page ⌝ }
-    requires { ⌜ BarredBy (now clashes) page from marks × ((k : ℕ) → from < k → at page k ≡ 0) ⌝ }
-    ensures { λ r. ⌜ Attempt (now (clashes .entry)) (now (ranked .entry)) (now (bids .entry)) (now (effects .entry)) bidders slots from page had (answer .need) (answer .page) (r .need) (r .page) ⌝ }
+    requires { ⌜ Lent (now clashes) (now ranked) (now bids) (now effects) × (slots ≤ 8) ⌝ }
+    requires { ⌜ (from ≤ slots) × (had ≤ from * 1000000000000000) × Sized page ⌝ }
+    requires { ⌜ BarredBy (now clashes) page from barred × ((k : ℕ) → from < k → at page k ≡ 0) ⌝ }
+    ensures { λ r. ⌜ Attempt (now (clashes .entry)) (now (ranked .entry)) (now (bids .entry)) (now (effects .entry)) slots from page had (answer .need) (answer .page) (r .need) (r .page) ⌝ }
 {
     if from == slots {
         if answer.need <= had {
@@ -85,54 +178,34 @@ fn search(
         }
         return answer;
     }
-    let most = had + bound::most_added(&marks, ranked, bids, effects, from, slots);
-    if most < answer.need {
-        return answer;
-    }
     let slot = Slot((from + 1) as u8);
     let mut best = answer;
-    let mut b: u8 = 0;
-    while b <= bidders {
-        let bidder = Bidder(b);
-        if may_stand(&marks, slot, bidder) {
-            let next = auction::with_bidder(page, slot, bidder);
-            let more = clash::more_marks(clashes, marks, slot, bidder);
-            best = search(
-                clashes,
-                ranked,
-                bids,
-                effects,
-                bidders,
-                slots,
-                from + 1,
-                next,
-                more,
-                had + adds(bids, effects, bidder, from),
-                best,
-            );
+    let mut b: usize = 0;
+    while b <= ranked.len() {
+        let bidder = Bidder(b as u8);
+        if may_stand(barred, slot, bidder) {
+            let next = look_ahead(clashes, ranked, bids, effects, from, barred, had, bidder);
+            if best.need <= next.most {
+                best = search(
+                    clashes,
+                    ranked,
+                    bids,
+                    effects,
+                    slots,
+                    from + 1,
+                    auction::with_bidder(page, slot, bidder),
+                    next.barred,
+                    next.had,
+                    best,
+                );
+            }
         }
         b += 1;
     }
     best
 }
 
-// A page's total.
-fn total_of(bids: &[u32], effects: &[u32], slots: usize, page: Page) -> u64
-    requires { ⌜ (slots ≤ 8) × (slots ≤ length (now effects)) × ((k : ℕ) → at page k ≤ length (now bids)) ⌝ }
-    requires { ⌜ ((i : ℕ) → getD (now bids) i 0 ≤ 1000000000) × ((i : ℕ) → getD (now effects) i 0 ≤ 1000000) ⌝ }
-    ensures { λ r. ⌜ r ≡ totalIn (now (bids .entry)) (now (effects .entry)) page slots ⌝ }
-{
-    let mut sum: u64 = 0;
-    let mut k: usize = 0;
-    while k < slots {
-        let bidder = auction::bidder_at(page, Slot((k + 1) as u8));
-        sum += adds(bids, effects, bidder, k);
-        k += 1;
-    }
-    sum
-}
-
-// The best page of a small round, with one more than its total. The search looks for what the greedy page has, or more.
+// The best page of a small round, with one more than its total.
 fn best_page(round: Round) -> Answer
     requires { ⌜ ProperRound round × (round .bidders ≤ 8) × (round .slots ≤ 8) ⌝ }
     ensures { λ r. ⌜ Best round (r .page) × (r .need ≡ suc (total round (r .page))) ⌝ }
@@ -141,23 +214,31 @@ fn best_page(round: Round) -> Answer
     let effects = round.effects;
     let bidders = round.bidders;
     let slots = round.slots;
-    let outcome = greedy::played(round);
-    let need = total_of(&bids, &effects, slots, outcome.page);
     let ranked = bound::rank(&bids, bidders);
-    let mut table = [0u8; 4096];
+    let mut table = [0u64; 64];
     clash::fill_table(&mut table, round);
     let page = auction::empty_page();
-    let marks = clash::first_marks(&table);
+    let barred = clash::first_barred(&table);
+    let need = raise(
+        &table,
+        &ranked[..bidders],
+        &bids,
+        &effects,
+        slots,
+        0,
+        barred,
+        0,
+        0,
+    );
     search(
         &table,
         &ranked[..bidders],
         &bids,
         &effects,
-        bidders as u8,
         slots,
         0,
         page,
-        marks,
+        barred,
         0,
         Answer { page, need },
     )

@@ -1,14 +1,20 @@
--- `bound::most_added` meets its contract: `slot` is always the slot index after the ranked bidders passed, and `sum` what they
--- add, at most 10 ^ 15 each. Assumes nothing.
-use Prim.Native.Nat.{ℕ, zero, suc, _+_, _*_, _-_, _<_, _≤_}
-use mathlib.Core.Bool.{Bool, true, false, not}
+-- `bound::most_added` meets its contract: `slot` is always the slot index after the ranked bidders passed, at most one more for
+-- each, and `sum` what they add, at most 10 ^ 15 each. A bidder counts once where some slot is open to it, and else 0 times.
+-- Assumes nothing.
+use Prim.Native.Nat.{ℕ, zero, suc, _+_, _*_, _-_, _/_, _%_, _^_, _<_, _≤_}
+use mathlib.Core.Bool.{Bool, true, false, cond, not}
 use mathlib.Core.List.{List}
-use mathlib.Core.Logic.{_⊎_, inl, inr, ⊎-elim}
+use mathlib.Core.Logic.{inl, ⊎-elim}
 use mathlib.Core.Path.{_≡_, refl, sym, _∙_, ap, ap₂}
 use native.Mathlib.Nat.{mul-le-mul}
 use native.Mathlib.Numerals.{add-one}
 use native.Mathlib.Omega.{arith}
 use lib.ListN.{length, getD}
+use mir.Syntax.{w64}
+use mir.Val.{Fits}
+use Rattle.basis.specs.Bits.{bitOf}
+use Rattle.basis.proofs.BitLaws.{bit-digit}
+use Rattle.basis.proofs.TestLaws.{holds-or-fails}
 use Rattle.choice.specs.Tables.{bidIn}
 use Rattle.bound.specs.Bound.{slotAfter, addAfter, liveIn, listed}
 use Rattle.bound.proofs.BoundLaws.{slot-taken, add-taken, slot-kept, add-kept}
@@ -21,114 +27,184 @@ unfolding bidIn
 bid-at bids zero l = absurd (omega arith)
 bid-at bids (suc b) l = ap (λ (i : ℕ). getD bids i 0) (let e : b ≡ suc b - 1 = omega arith in e)
 
--- a bid times an effect is at most 10 ^ 15
+-- what a bidder adds is at most 10 ^ 15
 product-fits : (b e : ℕ) → b ≤ 1000000000 → e ≤ 1000000 → b * e ≤ 1000000000000000
 product-fits b e p q = mul-le-mul p q
 
+adds-fits : (t b e : ℕ) → t ≤ 1 → b ≤ 1000000000 → e ≤ 1000000 → t * (b * e) ≤ 1000000000000000
+adds-fits t b e l p q = mul-le-mul l (product-fits b e p q)
+
+-- a word holds such a number, and the sum of eight
+word-holds : (m x : ℕ) → m ≤ 1000000000000000 → x ≤ m → Fits w64 x
+word-holds m x l h = omega arith
+
+word-holds-sum : (sum i x : ℕ) → sum ≤ i * 1000000000000000 → i < 8 → x ≤ 1000000000000000 → Fits w64 (sum + x)
+word-holds-sum sum i x h l q = omega arith
+
+-- how often a bidder counts, by the bit that says that no slot is open to it
+times-live : (barred out b : ℕ) → 0 < b → bitOf out (b - 1) ≡ not (liveIn barred (suc (b - 1))) →
+    1 - out / 2 ^ (b - 1) % 2 ≡ cond (liveIn barred b) 1 0
+times-live barred out b some e =
+    let number : suc (b - 1) ≡ b = omega arith in
+    ap (λ (d : ℕ). 1 - d) (bit-digit out (b - 1))
+    ∙ ap (λ (t : Bool). 1 - cond t 1 0) e
+    ∙ by-test (liveIn barred (suc (b - 1)))
+    ∙ ap (λ (n : ℕ). cond (liveIn barred n) 1 0) number
+  where
+    by-test : (t : Bool) → 1 - cond (not t) 1 0 ≡ cond t 1 0
+    by-test true = refl
+    by-test false = refl
+
 -- `slot` is the next slot index after the first i ranked bidders, and `sum` what they add
-record Added (marks ranked bids effects : List ℕ) (from slots sum slot i : ℕ) : Type 0 where
-  next-slot : slot ≡ slotAfter (liveIn marks from slots) (listed ranked) from slots i
-  so-far : sum ≡ addAfter (liveIn marks from slots) (listed ranked) (bidIn bids) (listed effects) from slots i
+record Added (barred : ℕ) (ranked bids effects : List ℕ) (from sum slot i : ℕ) : Type 0 where
+  next-slot : slot ≡ slotAfter (liveIn barred) (listed ranked) from 16 i
+  so-far : sum ≡ addAfter (liveIn barred) (listed ranked) (bidIn bids) (listed effects) from 16 i
+  near : slot ≤ from + i
   fits : sum ≤ i * 1000000000000000
   room : i ≤ length ranked
 
-module _ (marks ranked bids effects : List ℕ) (from slots sum slot i : ℕ)
-    (h : Added marks ranked bids effects from slots sum slot i) (l : i < length ranked) where
-  -- a bidder that may get no slot, or finds none left, adds nothing
-  skipped-adds : (liveIn marks from slots (getD ranked i 0) ≡ false) ⊎ (slots ≤ slot) → Added marks ranked bids effects from slots sum slot (i + 1)
+-- what the numbers at hand are within: the bidder, the slot, how often the bidder counts, bids and effects
+record Within (ranked bids effects : List ℕ) (slot i times : ℕ) : Type 0 where
+  some : 0 < getD ranked i 0
+  known : getD ranked i 0 ≤ length bids
+  low : getD ranked i 0 ≤ 8
+  left : slot < 16
+  once : times ≤ 1
+  bid : (j : ℕ) → getD bids j 0 ≤ 1000000000
+  effect : (j : ℕ) → getD effects j 0 ≤ 1000000
+
+module _ (barred : ℕ) (ranked bids effects : List ℕ) (from sum slot i times : ℕ)
+    (h : Added barred ranked bids effects from sum slot i) (l : i < length ranked) (w : Within ranked bids effects slot i times)
+    (e : times ≡ cond (liveIn barred (getD ranked i 0)) 1 0) where
+  abbrev slotOf : ℕ → ℕ
+  slotOf = slotAfter (liveIn barred) (listed ranked) from 16
+
+  abbrev addOf : ℕ → ℕ
+  addOf = addAfter (liveIn barred) (listed ranked) (bidIn bids) (listed effects) from 16
+
+  abbrev Stepped : Type 0
+  Stepped =
+      (slot + times ≡ slotOf (suc i))
+      × (sum + times * (getD bids (getD ranked i 0 - 1) 0 * getD effects slot 0) ≡ addOf (suc i))
+
+  -- a live bidder gets the next slot and adds its bid times that slot's effect,
+  live-steps : liveIn barred (getD ranked i 0) ≡ true → Stepped
   unfolding listed
-  skipped-adds why = record {
-    next-slot = rw add-one (h .next-slot ∙ sym (slot-kept (liveIn marks from slots) (listed ranked) (bidIn bids) (listed effects) from slots i none));
-    so-far = rw add-one (h .so-far ∙ sym (add-kept (liveIn marks from slots) (listed ranked) (bidIn bids) (listed effects) from slots i none));
-    fits = omega arith;
-    room = omega arith;
-  }
-    where
-      none : (liveIn marks from slots (listed ranked i) ≡ false) ⊎ (slots ≤ slotAfter (liveIn marks from slots) (listed ranked) from slots i)
-      none =
-          ⊎-elim
-          (λ (e : liveIn marks from slots (getD ranked i 0) ≡ false). inl e)
-          (λ (b : slots ≤ slot). let q = h .next-slot in inr (omega arith))
-          why
+  live-steps live =
+      let one : times ≡ 1 = e ∙ ap (λ (t : Bool). cond t 1 0) live in
+      let next = h .next-slot in
+      let left : slotOf i < 16 = let r = w .left in omega arith in (
+        omega (arith, slot-taken (liveIn barred) (listed ranked) (bidIn bids) (listed effects) from 16 i live left),
+        ap₂ (λ (s t : ℕ). s + t * (getD bids (getD ranked i 0 - 1) 0 * getD effects slot 0)) (h .so-far) one
+            ∙ ap₂ (λ (b j : ℕ). addOf i + 1 * (b * getD effects j 0)) (sym (bid-at bids (getD ranked i 0) (w .some))) next
+            ∙ omega (arith, add-taken (liveIn barred) (listed ranked) (bidIn bids) (listed effects) from 16 i live left),
+      )
 
-  -- another one adds its bid times the effect of the next slot
-  free-adds : liveIn marks from slots (getD ranked i 0) ≡ true → slot < slots → 0 < getD ranked i 0 →
-      getD bids (getD ranked i 0 - 1) 0 * getD effects slot 0 ≤ 1000000000000000 →
-      Added marks ranked bids effects from slots (sum + getD bids (getD ranked i 0 - 1) 0 * getD effects slot 0) (slot + 1) (i + 1)
+  -- another one nothing
+  barred-steps : liveIn barred (getD ranked i 0) ≡ false → Stepped
   unfolding listed
-  free-adds e b some low = record {
-    next-slot = rw (add-one slot, add-one i) (ap suc (h .next-slot) ∙ sym (slot-taken (liveIn marks from slots) (listed ranked) (bidIn bids) (listed effects) from slots i live room));
-    so-far = rw (add-one i) (added ∙ sym (add-taken (liveIn marks from slots) (listed ranked) (bidIn bids) (listed effects) from slots i live room));
-    fits = omega arith;
-    room = omega arith;
-  }
-    where
-      live : liveIn marks from slots (listed ranked i) ≡ true
-      live = e
+  barred-steps dead =
+      let none : times ≡ 0 = e ∙ ap (λ (t : Bool). cond t 1 0) dead in
+      let next = h .next-slot in (
+        omega (arith, slot-kept (liveIn barred) (listed ranked) (bidIn bids) (listed effects) from 16 i (inl dead)),
+        ap₂ (λ (s t : ℕ). s + t * (getD bids (getD ranked i 0 - 1) 0 * getD effects slot 0)) (h .so-far) none
+            ∙ omega (arith, add-kept (liveIn barred) (listed ranked) (bidIn bids) (listed effects) from 16 i (inl dead)),
+      )
 
-      room : slotAfter (liveIn marks from slots) (listed ranked) from slots i < slots
-      room = let q = h .next-slot in omega arith
-
-      added : sum + getD bids (getD ranked i 0 - 1) 0 * getD effects slot 0
-          ≡ addAfter (liveIn marks from slots) (listed ranked) (bidIn bids) (listed effects) from slots i
-          + bidIn bids (listed ranked i) * listed effects (slotAfter (liveIn marks from slots) (listed ranked) from slots i)
-      added =
-          ap₂
-          _+_
-          (h .so-far)
-          (ap₂ _*_ (sym (bid-at bids (getD ranked i 0) some)) (ap (λ (j : ℕ). getD effects j 0) (h .next-slot)))
+  one-more : Added barred ranked bids effects from (sum + times * (getD bids (getD ranked i 0 - 1) 0 * getD effects slot 0)) (slot + times) (i + 1)
+  one-more =
+      let stepped : Stepped = ⊎-elim live-steps barred-steps (holds-or-fails (liveIn barred (getD ranked i 0))) in
+      record {
+        next-slot = rw add-one (stepped .0);
+        so-far = rw add-one (stepped .1);
+        near = omega arith;
+        fits = omega (arith, adds-fits times (getD bids (getD ranked i 0 - 1) 0) (getD effects slot 0) (w .once) (w .bid _) (w .effect _));
+        room = omega arith;
+      }
 
 abbrev Inv-loop : tie.InvT-loop
-Inv-loop marks ranked bids effects from slots sum₀ slot₀ i₀ sum slot i = Added marks ranked bids effects from slots sum slot i
+Inv-loop barred ranked bids effects from out sum₀ slot₀ i₀ sum slot i = Added barred ranked bids effects from sum slot i
 
 abbrev μ-loop : tie.MeasureT-loop
-μ-loop marks ranked bids effects from slots sum₀ slot₀ i₀ sum slot i = length ranked - i
+μ-loop barred ranked bids effects from out sum₀ slot₀ i₀ sum slot i = length ranked - i
+
+-- what the contract and the invariant say of the bidder at hand
+within : (c : tie.In-loop Inv-loop μ-loop) →
+    Within
+    (c .before .before .before .before .before .before .args .ranked .now)
+    (c .before .before .before .before .before .before .args .bids .now)
+    (c .before .before .before .before .before .before .args .effects .now)
+    (c .before .loop .slot)
+    (c .before .loop .i)
+    (1 - c .before .before .nowhere-open .result / 2 ^ (getD (c .before .before .before .before .before .before .args .ranked .now) (c .before .loop .i) 0 - 1) % 2)
+within c =
+    let p = c .before .before .before .before .before .before .pre in
+    let v = c .before .loop .inv in
+    let bidder = p .1 .0 (c .before .loop .i) (c .loop-test .taken) in
+    record {
+      some = bidder .0;
+      known = bidder .1;
+      low = bidder .2;
+      left = omega arith;
+      once = omega arith;
+      bid = p .1 .1 .0;
+      effect = p .1 .1 .1;
+    }
+
+nowhere-open-requires : tie.Need-nowhere-open-requires Inv-loop μ-loop
+nowhere-open-requires c κs = tt
 
 loop-holds : tie.Need-loop-holds Inv-loop μ-loop
 unfolding slotAfter addAfter
-loop-holds c = record { next-slot = refl; so-far = refl; fits = omega arith; room = omega arith }
+loop-holds c = record { next-slot = refl; so-far = refl; near = omega arith; fits = omega arith; room = omega arith }
 
-shared-slice-read-number : tie.Need-shared-slice-read-number Inv-loop μ-loop
-shared-slice-read-number c = omega arith
+shared-slice-read-index : tie.Need-shared-slice-read-index Inv-loop μ-loop
+shared-slice-read-index c = omega arith
 
-is-live-requires : tie.Need-is-live-requires Inv-loop μ-loop
-is-live-requires c κs =
-    let p = c .before .before .before .before .before .before .before .before .pre in
-    let n = p .1 .0 (c .before .before .before .loop .i) (c .before .before .loop-test .taken) in
-    (p .0 .4, n .0, n .2, p .0 .2, p .0 .1)
+cast-index : tie.Need-cast-index Inv-loop μ-loop
+cast-index c = let w = within (c .before) in omega arith
 
-cast-bid : tie.Need-cast-bid Inv-loop μ-loop
-cast-bid c = omega (arith, c .before .before .before .before .before .before .before .before .before .before .pre .1 .0 (c .before .before .before .before .before .loop .i) (c .before .before .before .before .loop-test .taken))
+sub-index : tie.Need-sub-index Inv-loop μ-loop
+sub-index c = let w = within (c .before) in omega arith
 
-sub-bid : tie.Need-sub-bid Inv-loop μ-loop
-sub-bid c = omega (arith, c .before .before .before .before .before .before .before .before .before .before .pre .1 .0 (c .before .before .before .before .before .loop .i) (c .before .before .before .before .loop-test .taken))
+shr-times : tie.Need-shr-times Inv-loop μ-loop
+shr-times c = let w = within (c .before) in omega arith
+
+sub-times : tie.Need-sub-times Inv-loop μ-loop
+sub-times c = omega arith
 
 mul-bid : tie.Need-mul-bid Inv-loop μ-loop
-mul-bid c = omega (arith, c .before .before .before .before .before .before .before .before .before .before .pre .1 .0 (c .before .before .before .before .before .loop .i) (c .before .before .before .before .loop-test .taken))
+mul-bid c = let w = within (c .before) in omega arith
 
 shared-slice-read-bid : tie.Need-shared-slice-read-bid Inv-loop μ-loop
-shared-slice-read-bid c = omega (arith, c .before .before .before .before .before .before .before .before .before .before .before .pre .1 .0 (c .before .before .before .before .before .before .loop .i) (c .before .before .before .before .before .loop-test .taken))
+shared-slice-read-bid c = let w = within (c .before .before) in omega arith
 
-cast-bid-2 : tie.Need-cast-bid-2 Inv-loop μ-loop
-cast-bid-2 c = omega (arith, (c .before .before .before .before .before .before .before .before .before .before .before .pre .1 .1 .0 (getD (c .before .before .before .before .before .before .before .before .before .before .before .args .ranked .now) (c .before .before .before .before .before .before .loop .i) 0 - 1)))
+cast-bid : tie.Need-cast-bid Inv-loop μ-loop
+cast-bid c = word-holds 1000000000 _ (omega arith) (within (c .before .before) .bid _)
 
 mul-effect : tie.Need-mul-effect Inv-loop μ-loop
-mul-effect c = omega arith
+mul-effect c = let w = within (c .before .before) in omega arith
 
 shared-slice-read-effect : tie.Need-shared-slice-read-effect Inv-loop μ-loop
-shared-slice-read-effect c = omega arith
+shared-slice-read-effect c = let w = within (c .before .before .before) in omega arith
 
 cast-effect : tie.Need-cast-effect Inv-loop μ-loop
-cast-effect c = omega (arith, (c .before .before .before .before .before .before .before .before .before .before .before .before .pre .1 .1 .1 (c .before .before .before .before .before .before .before .loop .slot)))
+cast-effect c = word-holds 1000000 _ (omega arith) (within (c .before .before .before) .effect _)
 
 mul-sum : tie.Need-mul-sum Inv-loop μ-loop
-mul-sum c = omega (arith, product-fits _ _ (c .before .before .before .before .before .before .before .before .before .before .before .before .pre .1 .1 .0 (getD (c .before .before .before .before .before .before .before .before .before .before .before .before .args .ranked .now) (c .before .before .before .before .before .before .before .loop .i) 0 - 1)) (c .before .before .before .before .before .before .before .before .before .before .before .before .pre .1 .1 .1 (c .before .before .before .before .before .before .before .loop .slot)))
+mul-sum c = let w = within (c .before .before .before) in word-holds 1000000000000000 _ (omega arith) (product-fits _ _ (w .bid _) (w .effect _))
+
+mul-sum-2 : tie.Need-mul-sum-2 Inv-loop μ-loop
+mul-sum-2 c = let w = within (c .before .before .before) in word-holds 1000000000000000 _ (omega arith) (adds-fits _ _ _ (w .once) (w .bid _) (w .effect _))
 
 add-sum : tie.Need-add-sum Inv-loop μ-loop
-add-sum c = omega (arith, product-fits _ _ (c .before .before .before .before .before .before .before .before .before .before .before .before .pre .1 .1 .0 (getD (c .before .before .before .before .before .before .before .before .before .before .before .before .args .ranked .now) (c .before .before .before .before .before .before .before .loop .i) 0 - 1)) (c .before .before .before .before .before .before .before .before .before .before .before .before .pre .1 .1 .1 (c .before .before .before .before .before .before .before .loop .slot)))
+add-sum c =
+    let w = within (c .before .before .before) in
+    let v = c .before .before .before .before .loop .inv in
+    word-holds-sum _ _ _ (v .fits) (omega arith) (adds-fits _ _ _ (w .once) (w .bid _) (w .effect _))
 
 add-slot : tie.Need-add-slot Inv-loop μ-loop
-add-slot c = omega arith
+add-slot c = let w = within (c .before .before .before) in omega arith
 
 add-i : tie.Need-add-i Inv-loop μ-loop
 add-i c = omega arith
@@ -138,22 +214,12 @@ loop-less c = omega arith
 
 loop-again : tie.Need-loop-again Inv-loop μ-loop
 loop-again c =
-    let l = c .before .loop-test .taken in
-    let h = c .before .before .loop .inv in
-    ⊎-elim
-    (λ w.
-    rw (w .6, w .7)
-    (free-adds _ _ _ _ _ _ _ _ _ h l
-    (sym (w .2 .ensures) ∙ w .3 .taken)
-    (w .0 .taken)
-    (c .before .before .before .before .before .before .before .pre .1 .0 _ l .0)
-    (product-fits _ _ (c .before .before .before .before .before .before .before .pre .1 .1 .0 _) (c .before .before .before .before .before .before .before .pre .1 .1 .1 _))))
-    (λ u.
-    ⊎-elim
-    (λ w. rw (w .4, w .5) (skipped-adds _ _ _ _ _ _ _ _ _ h l (inl (sym (w .2 .ensures) ∙ w .3 .left))))
-    (λ w. rw (w .1, w .2) (skipped-adds _ _ _ _ _ _ _ _ _ h l (inr (w .0 .left))))
-    u)
-    (c .if1 .came)
+    let w = within (c .before .before .before) in
+    one-more _ _ _ _ _ _ _ _ _
+    (c .before .before .before .before .loop .inv)
+    (c .before .before .before .loop-test .taken)
+    w
+    (times-live _ _ _ (w .some) (c .before .before .before .before .before .nowhere-open .ensures _ (omega arith)))
 
 returns : tie.Need-returns Inv-loop μ-loop
 returns c =
@@ -167,18 +233,21 @@ most-added-spec =
     (tie.spec
     Inv-loop
     μ-loop
+    nowhere-open-requires
     loop-holds
-    shared-slice-read-number
-    is-live-requires
-    cast-bid
-    sub-bid
+    shared-slice-read-index
+    cast-index
+    sub-index
+    shr-times
+    sub-times
     mul-bid
     shared-slice-read-bid
-    cast-bid-2
+    cast-bid
     mul-effect
     shared-slice-read-effect
     cast-effect
     mul-sum
+    mul-sum-2
     add-sum
     add-slot
     add-i

@@ -10,8 +10,8 @@ use lib.ListN.{length}
 use Rattle.sheet.specs.declared.Round.{Round}
 use Rattle.auction.specs.Broken.{constraintAt}
 use Rattle.auction.specs.Proper.{ProperRound}
-use Rattle.clash.specs.Clash.{clash, TableOf}
-use Rattle.clash.specs.Marks.{Entry, marked, marks}
+use Rattle.clash.specs.Clash.{entryAt, TableOf}
+use Rattle.clash.specs.Marks.{Entry, marks}
 use Rattle.clash.proofs.MarkLaws.{someMarks, no-marks, marks-more, entry-twice, pairs-clash, alone-clash}
 use Rattle.clash.proofs.fill_table.Statement.{statement}
 use Rattle.clash.proofs.fill_table.Tie as tie
@@ -19,12 +19,11 @@ use Rattle.clash.proofs.fill_table.Tie as tie
 -- the first n constraints have marked what they mark, and nothing else is marked
 record Going (r : Round) (table : List ℕ) (n : ℕ) : Type 0 where
   some : n ≤ r .used
-  size : length table ≡ 4096
-  added : (b k j l : ℕ) → Entry b k j l → marked table b k j l ≡ someMarks r n b k j l
+  size : length table ≡ 64
+  added : (b k j l : ℕ) → Entry b k j l → entryAt table b k j l ≡ someMarks r n b k j l
 
 -- once all have, it is the round's table
 filled : (r : Round) → ProperRound r → (table : List ℕ) (n : ℕ) → r .used ≤ n → Going r table n → TableOf r table
-unfolding marked
 filled r p table n past v =
     record {
       size = v .size;
@@ -36,7 +35,7 @@ filled r p table n past v =
           ∙ pairs-clash r p b k j l (entry b k j l b-some b-most k-some k-most j-some j-most l-some l-most) apart first second;
     }
   where
-    all-marks : (b k j l : ℕ) → Entry b k j l → marked table b k j l ≡ someMarks r (r .used) b k j l
+    all-marks : (b k j l : ℕ) → Entry b k j l → entryAt table b k j l ≡ someMarks r (r .used) b k j l
     all-marks b k j l i = v .added b k j l i ∙ ap (λ (m : ℕ). someMarks r m b k j l) (le-antisymm (v .some) past)
 
     entry : (b k j l : ℕ) → 0 < b → b ≤ 8 → 0 < k → k ≤ 8 → 0 < j → j ≤ 8 → 0 < l → l ≤ 8 → Entry b k j l

@@ -6,7 +6,8 @@ use mathlib.Core.List.{List}
 use mathlib.Core.Path.{_≡_, sym, _∙_}
 use native.Mathlib.Omega.{arith}
 use lib.ListN.{length}
-use Rattle.clash.specs.Marks.{Entry, marked}
+use Rattle.clash.specs.Clash.{entryAt}
+use Rattle.clash.specs.Marks.{Entry}
 use Rattle.clash.proofs.MarkLaws.{someSlots, no-slots, slot-more, every-slot}
 use Rattle.clash.proofs.mark_anywhere.Statement.{statement}
 use Rattle.clash.proofs.mark_anywhere.Tie as tie
@@ -14,8 +15,8 @@ use Rattle.clash.proofs.mark_anywhere.Tie as tie
 -- bidder x at slots 1 to n is marked with y at t, and nothing else has changed
 record Going (table₀ : List ℕ) (x y t : ℕ) (table : List ℕ) (n : ℕ) : Type 0 where
   few : n ≤ 8
-  size : length table ≡ 4096
-  added : (b k j l : ℕ) → Entry b k j l → marked table b k j l ≡ (marked table₀ b k j l || someSlots x y t n b k j l)
+  size : length table ≡ 64
+  added : (b k j l : ℕ) → Entry b k j l → entryAt table b k j l ≡ (entryAt table₀ b k j l || someSlots x y t n b k j l)
 
 abbrev Inv-loop : tie.InvT-loop
 Inv-loop table₀ bidder other place n₀ table n = Going table₀ (bidder .0) (other .0) (place .0) table n
@@ -28,7 +29,7 @@ loop-holds c =
     record {
       few = omega arith;
       size = c .before .pre .0;
-      added = λ b k j l i. no-slots (marked (c .before .args .table .now) b k j l) (c .before .args .bidder .0) (c .before .args .other .0) (c .before .args .place .0) b k j l i;
+      added = λ b k j l i. no-slots (entryAt (c .before .args .table .now) b k j l) (c .before .args .bidder .0) (c .before .args .other .0) (c .before .args .place .0) b k j l i;
     }
 
 add-t10 : tie.Need-add-t10 Inv-loop μ-loop
@@ -57,7 +58,7 @@ loop-again c =
       few = omega arith;
       size = c .before .before .mark-both .kept .0 ∙ v .size;
       added = λ b k j l i.
-          slot-more (marked (c .before .before .before .before .before .before .before .args .table .now) b k j l) _ _ x y t n b k j l
+          slot-more (entryAt (c .before .before .before .before .before .before .before .args .table .now) b k j l) _ _ x y t n b k j l
           (c .before .before .mark-both .ensures b k j l i) (v .added b k j l i);
     }
 
@@ -69,7 +70,7 @@ returns c =
     let v = c .before .loop .inv in
     λ b k j l i.
     v .added b k j l i
-    ∙ every-slot (marked (c .before .before .before .args .table .now) b k j l) (c .before .before .before .args .bidder .0) (c .before .before .before .args .other .0) (c .before .before .before .args .place .0) (c .before .loop .n) b k j l i (omega arith)
+    ∙ every-slot (entryAt (c .before .before .before .args .table .now) b k j l) (c .before .before .before .args .bidder .0) (c .before .before .before .args .other .0) (c .before .before .before .args .place .0) (c .before .loop .n) b k j l i (omega arith)
 
 pub mark-anywhere-spec : {M : Type 1} → statement M
 mark-anywhere-spec =

@@ -1,7 +1,8 @@
 -- `clash::mark_both` meets its contract: the second store adds the other order. Assumes nothing.
 use mathlib.Core.Bool.{Bool, _||_}
 use mathlib.Core.Path.{_∙_, ap}
-use Rattle.clash.specs.Marks.{marked, bothAre}
+use Rattle.clash.specs.Clash.{entryAt}
+use Rattle.clash.specs.Marks.{bothAre}
 use Rattle.clash.proofs.MarkLaws.{marked-also}
 use borrow.Author.Needs.{needs}
 use Rattle.clash.proofs.mark_both.Statement.{statement}
@@ -21,7 +22,7 @@ returns c =
     λ b k j l i.
     c .before .before .mark2 .ensures b k j l i
     ∙ ap (λ (t : Bool). t || bothAre (c .before .before .before .before .before .before .before .before .before .args .other .0) (c .before .before .before .before .before .before .before .before .before .args .place .0) (c .before .before .before .before .before .before .before .before .before .args .bidder .0) (c .before .before .before .before .before .before .before .before .before .args .slot .0) b k j l) (c .before .before .before .before .before .before .mark .ensures b k j l i)
-    ∙ marked-also (marked (c .before .before .before .before .before .before .before .before .before .args .table .now) b k j l) (bothAre (c .before .before .before .before .before .before .before .before .before .args .bidder .0) (c .before .before .before .before .before .before .before .before .before .args .slot .0) (c .before .before .before .before .before .before .before .before .before .args .other .0) (c .before .before .before .before .before .before .before .before .before .args .place .0) b k j l)
+    ∙ marked-also (entryAt (c .before .before .before .before .before .before .before .before .before .args .table .now) b k j l) (bothAre (c .before .before .before .before .before .before .before .before .before .args .bidder .0) (c .before .before .before .before .before .before .before .before .before .args .slot .0) (c .before .before .before .before .before .before .before .before .before .args .other .0) (c .before .before .before .before .before .before .before .before .before .args .place .0) b k j l)
     (bothAre (c .before .before .before .before .before .before .before .before .before .args .other .0) (c .before .before .before .before .before .before .before .before .before .args .place .0) (c .before .before .before .before .before .before .before .before .before .args .bidder .0) (c .before .before .before .before .before .before .before .before .before .args .slot .0) b k j l)
 
 pub mark-both-spec : {M : Type 1} → statement M

@@ -4,7 +4,8 @@ use mathlib.Core.Path.{sym, _∙_, ap, subst}
 use native.Mathlib.Omega.{arith}
 use Rattle.sheet.specs.declared.Kind.{Kind}
 use Rattle.auction.specs.Proper.{ProperKind}
-use Rattle.clash.specs.Marks.{marked, marks}
+use Rattle.clash.specs.Clash.{entryAt}
+use Rattle.clash.specs.Marks.{marks}
 use borrow.Author.Needs.{needs}
 use Rattle.clash.proofs.mark_constraint.Statement.{statement}
 use Rattle.clash.proofs.mark_constraint.Tie as tie
@@ -52,7 +53,7 @@ returns c =
     λ b k j l i.
     c .before .before .mark .ensures b k j l i
     ∙ ap
-    (λ (kind : Kind). marked (c .before .before .before .before .before .before .before .before .before .args .table .now) b k j l || marks kind (c .before .before .before .before .before .before .before .before .before .args .constraint .owner .0) b k j l)
+    (λ (kind : Kind). entryAt (c .before .before .before .before .before .before .before .before .before .args .table .now) b k j l || marks kind (c .before .before .before .before .before .before .before .before .before .args .constraint .owner .0) b k j l)
     (sym (c .before .before .before .before .before .kind .given .1))
 
 same-length-2 : tie.Need-same-length-2
@@ -64,7 +65,7 @@ returns-2 c =
     λ b k j l i.
     c .before .before .mark-anywhere .ensures b k j l i
     ∙ ap
-    (λ (kind : Kind). marked (c .before .before .before .before .before .before .before .before .before .args .table .now) b k j l || marks kind (c .before .before .before .before .before .before .before .before .before .args .constraint .owner .0) b k j l)
+    (λ (kind : Kind). entryAt (c .before .before .before .before .before .before .before .before .before .args .table .now) b k j l || marks kind (c .before .before .before .before .before .before .before .before .before .args .constraint .owner .0) b k j l)
     (sym (c .before .before .before .before .before .kind2 .given .1))
 
 same-length-3 : tie.Need-same-length-3
@@ -76,7 +77,7 @@ returns-3 c =
     λ b k j l i.
     c .before .before .mark-both .ensures b k j l i
     ∙ ap
-    (λ (kind : Kind). marked (c .before .before .before .before .before .before .before .before .before .args .table .now) b k j l || marks kind (c .before .before .before .before .before .before .before .before .before .args .constraint .owner .0) b k j l)
+    (λ (kind : Kind). entryAt (c .before .before .before .before .before .before .before .before .before .args .table .now) b k j l || marks kind (c .before .before .before .before .before .before .before .before .before .args .constraint .owner .0) b k j l)
     (sym (c .before .before .before .before .before .kind3 .given .1))
 
 pub mark-constraint-spec : {M : Type 1} → statement M
