@@ -1,2 +1,3 @@
 pub mod WinnerLaws
 pub mod AsksLaws
+pub mod LeadLaws

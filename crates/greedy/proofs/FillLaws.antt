@@ -2,7 +2,7 @@
 -- row gives the slot's winner and, by the law of the price, what the winner pays. Assumes nothing.
 use Prim.Native.Nat.{ℕ, zero, suc, _+_, _*_, _<_, _≤_}
 use borrow.Author.Tests.{eq-eqb}
-use mathlib.Core.Bool.{Bool, true, false, not, _&&_, true-and}
+use mathlib.Core.Bool.{Bool, true, not, _&&_, true-and}
 use mathlib.Core.List.{List}
 use mathlib.Core.Logic.{_⊎_, inl, inr, ⊎-elim}
 use mathlib.Core.Path.{_≡_, refl, sym, _∙_, ap, ap₂, subst}
@@ -15,10 +15,9 @@ use Rattle.basis.proofs.RowLaws.{padded-none, padded-next}
 use Rattle.sheet.specs.declared.Page.{Page}
 use Rattle.sheet.specs.declared.Round.{Round}
 use Rattle.choice.specs.Winner.{winner}
-use Rattle.choice.specs.Asks.{mostAsked}
 use Rattle.choice.specs.Tables.{bidIn}
 use Rattle.choice.proofs.WinnerLaws.{winner-same}
-use Rattle.choice.proofs.AsksLaws.{asked-same, asked-barred}
+use Rattle.choice.proofs.AsksLaws.{asked-same, asked-nobody}
 use Rattle.auction.specs.Page.{at, put, emptyPage, placed, Sized}
 use Rattle.auction.specs.Greedy.{bidOf, eligible, winnerAt, pageUpTo, greedyPage}
 use Rattle.auction.specs.Price.{price}
@@ -60,13 +59,6 @@ filled-start r table c size f =
       page-is = refl;
       prices-are = sym (padded-none (λ i. price r (suc i)) 16 0);
     }
-
--- where nobody is eligible, nothing is asked
-asked-nobody : (e : ℕ → Bool) (bid : ℕ → ℕ) (w n : ℕ) → ((j : ℕ) → 0 < j → j ≤ n → e j ≡ false) → mostAsked e bid w n ≡ 0
-unfolding mostAsked
-asked-nobody e bid w zero h = refl
-asked-nobody e bid w (suc i) h =
-    asked-barred e bid w i (h (suc i) (omega arith) (omega arith)) ∙ asked-nobody e bid w i (λ j s m. h j s (omega arith))
 
 module _ (r : Round) (c : ProperRound r) (k : ℕ) (inside : k < r .slots) (table : List ℕ) (page : Page) (prices : List ℕ)
     (f : Filled r k table page prices) (w paid : ℕ) (awarded : Awarded (openAt table (suc k)) (bidIn (r .bids)) (r .bidders) w paid) where

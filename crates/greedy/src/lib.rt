@@ -234,9 +234,12 @@ fn award_slot(table: &[u8], bids: &[u32], bidders: usize, slot: Slot) -> Award
 {
     let start = 64 * (slot.0 as usize - 1);
     let open = &table[start..start + 64];
-    let winner = choice::winner_of(open, bids, bidders);
-    let price = choice::most_asked(open, bids, bidders, winner);
-    Award { winner, price }
+    let placing = choice::placing_of(open, bids, bidders);
+    let winner = placing.winner;
+    Award {
+        winner,
+        price: placing.asked,
+    }
 }
 
 // The page of the greedy rule with the price of each slot.

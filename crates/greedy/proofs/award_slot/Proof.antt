@@ -42,11 +42,8 @@ part-open-start c = search needs
 part-open-end : tie.Need-part-open-end
 part-open-end c = search needs
 
-winner-of-requires : tie.Need-winner-of-requires
-winner-of-requires c κs = search needs
-
-most-asked-requires : tie.Need-most-asked-requires
-most-asked-requires c κs = search needs
+placing-of-requires : tie.Need-placing-of-requires
+placing-of-requires c κs = search needs
 
 returns : tie.Need-returns
 returns c =
@@ -54,12 +51,12 @@ returns c =
     let p = c .before .before .before .before .before .before .pre in
     record {
       won-by =
-          c .before .winner-of .ensures
+          c .before .placing-of .ensures .0
           ∙ winner-same _ (openAt (a .table .now) (a .slot .0)) (bidIn (a .bids .now)) (bidIn (a .bids .now)) (a .bidders)
           (λ j some most. row-same (a .table .now) (a .slot .0) (a .bidders) j (p .1 .0 .0) (p .0 .1) some most) (λ j some most. refl);
       paid-as =
-          c .most-asked .ensures
-          ∙ asked-same _ (openAt (a .table .now) (a .slot .0)) (bidIn (a .bids .now)) (bidIn (a .bids .now)) (a .bidders) (c .before .winner-of .result .0)
+          c .before .placing-of .ensures .1
+          ∙ asked-same _ (openAt (a .table .now) (a .slot .0)) (bidIn (a .bids .now)) (bidIn (a .bids .now)) (a .bidders) (c .before .placing-of .result .winner .0)
           (λ j d some most. row-same (a .table .now) (a .slot .0) (a .bidders) j (p .1 .0 .0) (p .0 .1) some most) (λ j d some most. refl);
     }
 
@@ -74,6 +71,5 @@ award-slot-spec =
     sub-open
     part-open-start
     part-open-end
-    winner-of-requires
-    most-asked-requires
+    placing-of-requires
     returns)
