@@ -1,3 +1,5 @@
 pub mod WinnerLaws
 pub mod AsksLaws
 pub mod LeadLaws
+pub mod PlacingLaws
+pub mod RankingLaws

@@ -1,3 +1,4 @@
 pub mod Winner
 pub mod Asks
 pub mod Tables
+pub mod Ranking

@@ -18,6 +18,7 @@ ghost use Rattle.auction.specs.Proper.{Proper, ProperRound};
 ghost use Rattle.greedy.specs.Outcome.{outcomeOf};
 ghost use Rattle.greedy.specs.Barred.{openAt, entryIs, barsOwn, barredOwn, barredAfter, openAfter, Awarded};
 ghost use Rattle.greedy.specs.Chains.{standing, bars, ownerKey, otherKey, Falling, Chained, barredAlong};
+ghost use Rattle.choice.specs.Ranking.{InOrder};
 ghost use Rattle.choice.specs.Tables.{bidIn};
 use sheet::Bidder;
 use sheet::Constraint;
@@ -226,15 +227,15 @@ fn settle(
 }
 
 // The winner of a slot and what it pays, read off the slot's row of the table.
-fn award_slot(table: &[u8], bids: &[u32], bidders: usize, slot: Slot) -> Award
+fn award_slot(ranked: &[u8], table: &[u8], bids: &[u32], bidders: usize, slot: Slot) -> Award
     requires { ⌜ (length (now table) ≡ 1024) × (bidders ≤ 64) × (bidders ≤ length (now bids)) ⌝ }
     requires { ⌜ (0 < slot .0) × (slot .0 ≤ 16) ⌝ }
-    requires { ⌜ ((i : ℕ) → i < bidders → getD (now bids) i 0 ≤ 1000000000) ⌝ }
+    requires { ⌜ InOrder (bidIn (now bids)) bidders (now ranked) × ((i : ℕ) → i < bidders → getD (now bids) i 0 ≤ 1000000000) ⌝ }
     ensures { λ r. ⌜ Awarded (openAt (now (table .entry)) (slot .0)) (bidIn (now (bids .entry))) bidders (r .winner .0) (r .price) ⌝ }
 {
     let start = 64 * (slot.0 as usize - 1);
     let open = &table[start..start + 64];
-    let placing = choice::placing_of(open, bids, bidders);
+    let placing = choice::placing_of(ranked, open, bids, bidders);
     let winner = placing.winner;
     Award {
         winner,
@@ -254,12 +255,13 @@ pub fn played(round: Round) -> Outcome
     enter_all(&mut table, &mut last, &mut earlier, &mut barring, round);
     let bids = round.bids;
     let bidders = round.bidders;
+    let ranked = choice::ranking_of(&bids, bidders);
     let mut page = auction::empty_page();
     let mut prices = [0u32; 16];
     let mut k: usize = 0;
     while k < round.slots {
         let slot = Slot((k + 1) as u8);
-        let awarded = award_slot(&table, &bids, bidders, slot);
+        let awarded = award_slot(&ranked, &table, &bids, bidders, slot);
         let winner = awarded.winner;
         page = auction::with_bidder(page, slot, winner);
         prices[k] = awarded.price;

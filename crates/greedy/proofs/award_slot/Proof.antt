@@ -43,12 +43,14 @@ part-open-end : tie.Need-part-open-end
 part-open-end c = search needs
 
 placing-of-requires : tie.Need-placing-of-requires
-placing-of-requires c κs = search needs
+placing-of-requires c κs =
+    let p = c .before .before .before .before .before .pre in
+    ((p .0 .1, (search needs, p .0 .2)), p .1 .1)
 
 returns : tie.Need-returns
 returns c =
-    let a = c .before .before .before .before .before .before .args in
-    let p = c .before .before .before .before .before .before .pre in
+    let a = c .before .before .before .before .before .before .before .args in
+    let p = c .before .before .before .before .before .before .before .pre in
     record {
       won-by =
           c .before .placing-of .ensures .0

@@ -24,10 +24,10 @@ won-bidder r table x w paid few a =
     let e = a .won-by in let m = winner-most (openAt table x) (bidIn (r .bids)) (r .bidders) in omega arith
 
 abbrev Inv-loop : tie.InvT-loop
-Inv-loop round table₀ last earlier barring bids bidders page₀ prices₀ k₀ table page prices k = Filled round k table page prices
+Inv-loop round table₀ last earlier barring bids bidders ranked page₀ prices₀ k₀ table page prices k = Filled round k table page prices
 
 abbrev μ-loop : tie.MeasureT-loop
-μ-loop round table₀ last earlier barring bids bidders page₀ prices₀ k₀ table page prices k = round .slots - k
+μ-loop round table₀ last earlier barring bids bidders ranked page₀ prices₀ k₀ table page prices k = round .slots - k
 
 slice-aggregate-enter-all : tie.Need-slice-aggregate-enter-all Inv-loop μ-loop
 slice-aggregate-enter-all c = refl
@@ -44,107 +44,120 @@ slice-aggregate-enter-all-4 c = refl
 enter-all-requires : tie.Need-enter-all-requires Inv-loop μ-loop
 enter-all-requires c κs = ((refl, c .before .before .before .before .pre), (falling-none, chained-none (c .before .before .before .before .args .round)))
 
+slice-aggregate-ranking-of : tie.Need-slice-aggregate-ranking-of Inv-loop μ-loop
+slice-aggregate-ranking-of c = sym (c .before .before .before .before .before .before .before .before .before .before .before .pre .sized-bids)
+
+ranking-of-requires : tie.Need-ranking-of-requires Inv-loop μ-loop
+ranking-of-requires c κs =
+    let p = c .before .before .before .before .before .before .before .before .before .before .before .pre in
+    let listed = p .sized-bids in
+    let many = p .most-bidders in
+    (many, omega arith)
+
 empty-page-requires : tie.Need-empty-page-requires Inv-loop μ-loop
 empty-page-requires c κs = tt
 
 loop-holds : tie.Need-loop-holds Inv-loop μ-loop
-loop-holds c = rw (c .empty-page .ensures) (filled-start (c .before .before .before .before .before .before .before .before .before .before .before .args .round) _ (c .before .before .before .before .before .before .before .before .before .before .before .pre) (c .before .before .before .before .before .before .enter-all .kept .0) (c .before .before .before .before .before .before .enter-all .ensures .0))
+loop-holds c = rw (c .empty-page .ensures) (filled-start (c .before .before .before .before .before .before .before .before .before .before .before .before .before .args .round) _ (c .before .before .before .before .before .before .before .before .before .before .before .before .before .pre) (c .before .before .before .before .before .before .before .before .enter-all .kept .0) (c .before .before .before .before .before .before .before .before .enter-all .ensures .0))
 
-add-t24 : tie.Need-add-t24 Inv-loop μ-loop
-add-t24 c =
-    let few = c .before .before .before .before .before .before .before .before .before .before .before .before .before .before .pre .most-slots in
+add-t28 : tie.Need-add-t28 Inv-loop μ-loop
+add-t28 c =
+    let few = c .before .before .before .before .before .before .before .before .before .before .before .before .before .before .before .before .pre .most-slots in
     let v = c .before .before .loop .inv .some in
     omega arith
 
-cast-t25 : tie.Need-cast-t25 Inv-loop μ-loop
-cast-t25 c =
-    let few = c .before .before .before .before .before .before .before .before .before .before .before .before .before .before .pre .most-slots in
+cast-t29 : tie.Need-cast-t29 Inv-loop μ-loop
+cast-t29 c =
+    let few = c .before .before .before .before .before .before .before .before .before .before .before .before .before .before .before .before .pre .most-slots in
     let v = c .before .before .loop .inv .some in
     omega arith
 
 slice-aggregate-award-slot : tie.Need-slice-aggregate-award-slot Inv-loop μ-loop
-slice-aggregate-award-slot c = sym (c .before .before .before .loop .inv .size)
+slice-aggregate-award-slot c = sym (c .before .before .before .before .before .ranking-of .ensures .size)
 
 slice-aggregate-award-slot-2 : tie.Need-slice-aggregate-award-slot-2 Inv-loop μ-loop
-slice-aggregate-award-slot-2 c = sym (c .before .before .before .before .before .before .before .before .before .before .before .before .before .before .before .before .pre .sized-bids)
+slice-aggregate-award-slot-2 c = sym (c .before .before .before .before .loop .inv .size)
+
+slice-aggregate-award-slot-3 : tie.Need-slice-aggregate-award-slot-3 Inv-loop μ-loop
+slice-aggregate-award-slot-3 c = sym (c .before .before .before .before .before .before .before .before .before .before .before .before .before .before .before .before .before .before .before .pre .sized-bids)
 
 award-slot-requires : tie.Need-award-slot-requires Inv-loop μ-loop
 unfolding bidOf
 award-slot-requires c κs =
-    let v = c .before .before .before .before .loop .inv in
-    let p = c .before .before .before .before .before .before .before .before .before .before .before .before .before .before .before .before .pre in
+    let v = c .before .before .before .before .before .loop .inv in
+    let p = c .before .before .before .before .before .before .before .before .before .before .before .before .before .before .before .before .before .before .before .pre in
     let few = p .most-slots in
     let listed = p .sized-bids in
     let many = p .most-bidders in
-    ((v .size, many, omega arith), ((omega arith, omega arith), λ i below. p .most-bid (suc i)))
+    ((v .size, many, omega arith), ((omega arith, omega arith), (c .before .before .before .before .before .before .before .ranking-of .ensures, (λ i below. p .most-bid (suc i)))))
 
 with-bidder-requires : tie.Need-with-bidder-requires Inv-loop μ-loop
 with-bidder-requires c κs =
-    let few = c .before .before .before .before .before .before .before .before .before .before .before .before .before .before .before .before .before .before .pre .most-slots in
-    let v = c .before .before .before .before .before .before .loop .inv .some in
+    let few = c .before .before .before .before .before .before .before .before .before .before .before .before .before .before .before .before .before .before .before .before .before .pre .most-slots in
+    let v = c .before .before .before .before .before .before .before .loop .inv .some in
     omega arith
 
 mul-prices : tie.Need-mul-prices Inv-loop μ-loop
 mul-prices c =
-    let few = c .before .before .before .before .before .before .before .before .before .before .before .before .before .before .before .before .before .before .before .pre .most-slots in
-    let v = c .before .before .before .before .before .before .before .loop .inv .some in
+    let few = c .before .before .before .before .before .before .before .before .before .before .before .before .before .before .before .before .before .before .before .before .before .before .pre .most-slots in
+    let v = c .before .before .before .before .before .before .before .before .loop .inv .some in
     omega arith
 
 array-write-prices : tie.Need-array-write-prices Inv-loop μ-loop
 array-write-prices c =
-    let few = c .before .before .before .before .before .before .before .before .before .before .before .before .before .before .before .before .before .before .before .pre .most-slots in
-    let v = c .before .before .before .before .before .before .before .loop .inv .some in
+    let few = c .before .before .before .before .before .before .before .before .before .before .before .before .before .before .before .before .before .before .before .before .before .before .pre .most-slots in
+    let v = c .before .before .before .before .before .before .before .before .loop .inv .some in
     omega arith
 
 slice-aggregate-settle : tie.Need-slice-aggregate-settle Inv-loop μ-loop
-slice-aggregate-settle c = sym (c .before .before .before .before .before .before .before .before .loop .inv .size)
+slice-aggregate-settle c = sym (c .before .before .before .before .before .before .before .before .before .loop .inv .size)
 
 slice-aggregate-settle-2 : tie.Need-slice-aggregate-settle-2 Inv-loop μ-loop
-slice-aggregate-settle-2 c = sym (c .before .before .before .before .before .before .before .before .before .before .before .before .before .before .before .before .enter-all .ensures .1 .0 .sized-last)
+slice-aggregate-settle-2 c = sym (c .before .before .before .before .before .before .before .before .before .before .before .before .before .before .before .before .before .before .before .enter-all .ensures .1 .0 .sized-last)
 
 slice-aggregate-settle-3 : tie.Need-slice-aggregate-settle-3 Inv-loop μ-loop
-slice-aggregate-settle-3 c = sym (c .before .before .before .before .before .before .before .before .before .before .before .before .before .before .before .before .before .enter-all .ensures .1 .0 .sized-earlier)
+slice-aggregate-settle-3 c = sym (c .before .before .before .before .before .before .before .before .before .before .before .before .before .before .before .before .before .before .before .before .enter-all .ensures .1 .0 .sized-earlier)
 
 slice-aggregate-settle-4 : tie.Need-slice-aggregate-settle-4 Inv-loop μ-loop
-slice-aggregate-settle-4 c = sym (c .before .before .before .before .before .before .before .before .before .before .before .before .before .before .before .before .before .before .enter-all .ensures .1 .0 .sized-barring)
+slice-aggregate-settle-4 c = sym (c .before .before .before .before .before .before .before .before .before .before .before .before .before .before .before .before .before .before .before .before .before .enter-all .ensures .1 .0 .sized-barring)
 
 settle-requires : tie.Need-settle-requires Inv-loop μ-loop
 settle-requires c κs =
-    let v = c .before .before .before .before .before .before .before .before .before .before .before .loop .inv in
-    let p = c .before .before .before .before .before .before .before .before .before .before .before .before .before .before .before .before .before .before .before .before .before .before .before .pre in
+    let v = c .before .before .before .before .before .before .before .before .before .before .before .before .loop .inv in
+    let p = c .before .before .before .before .before .before .before .before .before .before .before .before .before .before .before .before .before .before .before .before .before .before .before .before .before .before .pre in
     let few = p .most-slots in
     let used = p .most-used in
-    let won = won-bidder (c .before .before .before .before .before .before .before .before .before .before .before .before .before .before .before .before .before .before .before .before .before .before .before .args .round) (c .before .before .before .before .before .before .before .before .before .before .before .loop .table) (c .before .before .before .before .before .before .before .before .before .before .before .loop .k + 1) _ _ (p .most-bidders) (c .before .before .before .before .before .before .award-slot .ensures) in
-    ((v .size, falling-more (2 * c .before .before .before .before .before .before .before .before .before .before .before .before .before .before .before .before .before .before .before .before .before .before .before .args .round .used) 2048 _ _ _ (omega arith) (c .before .before .before .before .before .before .before .before .before .before .before .before .before .before .before .before .before .before .enter-all .ensures .1 .0)), (won, (omega arith, omega arith)))
+    let won = won-bidder (c .before .before .before .before .before .before .before .before .before .before .before .before .before .before .before .before .before .before .before .before .before .before .before .before .before .before .args .round) (c .before .before .before .before .before .before .before .before .before .before .before .before .loop .table) (c .before .before .before .before .before .before .before .before .before .before .before .before .loop .k + 1) _ _ (p .most-bidders) (c .before .before .before .before .before .before .award-slot .ensures) in
+    ((v .size, falling-more (2 * c .before .before .before .before .before .before .before .before .before .before .before .before .before .before .before .before .before .before .before .before .before .before .before .before .before .before .args .round .used) 2048 _ _ _ (omega arith) (c .before .before .before .before .before .before .before .before .before .before .before .before .before .before .before .before .before .before .before .before .before .enter-all .ensures .1 .0)), (won, (omega arith, omega arith)))
 
 add-k : tie.Need-add-k Inv-loop μ-loop
 add-k c =
-    let few = c .before .before .before .before .before .before .before .before .before .before .before .before .before .before .before .before .before .before .before .before .before .before .before .before .before .pre .most-slots in
-    let v = c .before .before .before .before .before .before .before .before .before .before .before .before .before .loop .inv .some in
+    let few = c .before .before .before .before .before .before .before .before .before .before .before .before .before .before .before .before .before .before .before .before .before .before .before .before .before .before .before .before .pre .most-slots in
+    let v = c .before .before .before .before .before .before .before .before .before .before .before .before .before .before .loop .inv .some in
     omega arith
 
 loop-less : tie.Need-loop-less Inv-loop μ-loop
 loop-less c =
-    let few = c .before .before .before .before .before .before .before .before .before .before .before .before .before .before .before .before .before .before .before .before .before .before .before .before .before .pre .most-slots in
-    let v = c .before .before .before .before .before .before .before .before .before .before .before .before .before .loop .inv .some in
+    let few = c .before .before .before .before .before .before .before .before .before .before .before .before .before .before .before .before .before .before .before .before .before .before .before .before .before .before .before .before .pre .most-slots in
+    let v = c .before .before .before .before .before .before .before .before .before .before .before .before .before .before .loop .inv .some in
     omega arith
 
 loop-again : tie.Need-loop-again Inv-loop μ-loop
 loop-again c =
-    let v = c .before .before .before .before .before .before .before .before .before .before .before .before .before .loop .inv in
-    let p = c .before .before .before .before .before .before .before .before .before .before .before .before .before .before .before .before .before .before .before .before .before .before .before .before .before .pre in
-    let r = c .before .before .before .before .before .before .before .before .before .before .before .before .before .before .before .before .before .before .before .before .before .before .before .before .before .args .round in
-    let k = c .before .before .before .before .before .before .before .before .before .before .before .before .before .loop .k in
-    let settled = c .before .settle .ensures r p (c .before .before .before .before .before .before .before .before .before .before .before .before .before .before .before .before .before .before .before .before .enter-all .ensures .1 .1) in
+    let v = c .before .before .before .before .before .before .before .before .before .before .before .before .before .before .loop .inv in
+    let p = c .before .before .before .before .before .before .before .before .before .before .before .before .before .before .before .before .before .before .before .before .before .before .before .before .before .before .before .before .pre in
+    let r = c .before .before .before .before .before .before .before .before .before .before .before .before .before .before .before .before .before .before .before .before .before .before .before .before .before .before .before .before .args .round in
+    let k = c .before .before .before .before .before .before .before .before .before .before .before .before .before .before .loop .k in
+    let settled = c .before .settle .ensures r p (c .before .before .before .before .before .before .before .before .before .before .before .before .before .before .before .before .before .before .before .before .before .before .before .enter-all .ensures .1 .1) in
     rw (c .before .before .before .before .before .before .with-bidder .ensures, add-one k)
-    (filled-next r p k (c .before .before .before .before .before .before .before .before .before .before .before .if1 .taken) _ _ _ v _ _ (rw (add-one k) at (c .before .before .before .before .before .before .before .before .award-slot .ensures)) _ (c .before .settle .kept .0 ∙ v .size)
+    (filled-next r p k (c .before .before .before .before .before .before .before .before .before .before .before .before .if1 .taken) _ _ _ v _ _ (rw (add-one k) at (c .before .before .before .before .before .before .before .before .award-slot .ensures)) _ (c .before .settle .kept .0 ∙ v .size)
     (rw (add-one k) at settled))
 
 returns : tie.Need-returns Inv-loop μ-loop
 unfolding outcomeOf greedyPage
 returns c =
     let v = c .before .before .loop .inv in
-    let r = c .before .before .before .before .before .before .before .before .before .before .before .before .before .before .args .round in
+    let r = c .before .before .before .before .before .before .before .before .before .before .before .before .before .before .before .before .args .round in
     let end = le-antisymm (v .some) (c .if1 .left) in
     λ i. record {
       page = (v .page-is ∙ ap (pageUpTo r) end) i;
@@ -162,12 +175,15 @@ played-spec =
     slice-aggregate-enter-all-3
     slice-aggregate-enter-all-4
     enter-all-requires
+    slice-aggregate-ranking-of
+    ranking-of-requires
     empty-page-requires
     loop-holds
-    add-t24
-    cast-t25
+    add-t28
+    cast-t29
     slice-aggregate-award-slot
     slice-aggregate-award-slot-2
+    slice-aggregate-award-slot-3
     award-slot-requires
     with-bidder-requires
     mul-prices
