@@ -1,20 +1,15 @@
 -- `optimal::adds` meets its contract: a bid times an effect is at most 10 to the 15th. Assumes nothing.
-use Prim.Native.Nat.{ℕ, zero, suc, _*_, _-_, _≤_}
-use mathlib.Core.List.{List}
-use mathlib.Core.Path.{_≡_, refl, sym, _∙_, ap}
+use Prim.Native.Nat.{ℕ, _*_, _-_, _≤_}
+use mathlib.Core.Path.{sym, _∙_, ap}
 use native.Mathlib.Nat.{zero-mul, mul-le-mul}
 use native.Mathlib.Omega.{arith}
 use lib.ListN.{getD}
 use Rattle.choice.specs.Tables.{bidIn}
+use Rattle.choice.proofs.PlacingLaws.{bid-index}
 use Rattle.bound.specs.Bound.{listed}
 use borrow.Author.Needs.{needs}
 use Rattle.optimal.proofs.adds.Statement.{statement}
 use Rattle.optimal.proofs.adds.Tie as tie
-
-bid-index : (bids : List ℕ) (b : ℕ) → (b ≡ 0 → ⊥) → getD bids (b - 1) 0 ≡ bidIn bids b
-unfolding bidIn
-bid-index bids zero h = absurd (h refl)
-bid-index bids (suc b) h = ap (λ (i : ℕ). getD bids i 0) (let e : suc b - 1 ≡ b = omega arith in e)
 
 product-fits : (x y : ℕ) → x ≤ 1000000000 → y ≤ 1000000 → x * y ≤ 1000000000 * 1000000
 product-fits x y h g = mul-le-mul h g
@@ -56,7 +51,7 @@ mul-result-3 c =
 
 returns-2 : tie.Need-returns-2
 unfolding listed
-returns-2 c = ap (λ (x : ℕ). x * getD (c .before .before .before .before .before .args .effects .now) (c .before .before .before .before .before .args .index) 0) (bid-index (c .before .before .before .before .before .args .bids .now) (c .before .before .before .before .before .args .bidder .0) (c .before .before .before .if1 .left))
+returns-2 c = ap (λ (x : ℕ). x * getD (c .before .before .before .before .before .args .effects .now) (c .before .before .before .before .before .args .index) 0) (sym (bid-index (c .before .before .before .before .before .args .bids .now) (c .before .before .before .before .before .args .bidder .0) (let some = c .before .before .before .if1 .left in omega arith)))
 
 pub adds-spec : {M : Type 1} → statement M
 adds-spec =
