@@ -11,7 +11,7 @@ mod work;
 
 use std::process::ExitCode;
 use timing::Spread;
-use work::{Call, Engine, Row};
+use work::{Call, Row};
 
 fn main() -> ExitCode {
     let words: Vec<String> = std::env::args().skip(1).collect();
@@ -51,7 +51,7 @@ fn show_times() {
         println!("{} {library:>29} | {rust:>28} | {ratio:>14.2} | {noise:>16.2} |", title(row.part, &row));
     }
     for row in rows::rows().iter().filter(|row| row.call == Call::Best && !row.part.starts_with("grows")) {
-        let (library, rust) = (timing::slowest(row, Engine::Library), timing::slowest(row, Engine::Rust));
+        let [library, rust] = timing::slowest(row);
         let ratio = library / rust;
         println!("{} {library:>29.0} | {rust:>28.0} | {ratio:>14.2} | {:>16} |", title("slowest of 2k", row), "");
     }

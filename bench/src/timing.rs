@@ -5,6 +5,8 @@ use crate::work::{answer, inputs, Engine, Input, Row};
 use std::time::{Duration, Instant};
 
 const REPETITIONS: usize = 21;
+/// How often each of the sheets is timed of which the slowest is shown.
+const GOES: usize = 9;
 /// A turn lasts about this long, or one call if that is longer.
 const TURN: Duration = Duration::from_micros(150);
 
@@ -87,12 +89,18 @@ fn calibrate(row: &Row, inputs: &[Input]) -> f64 {
     (0..3).map(|_| turn(Engine::Library, row, inputs)).fold(f64::INFINITY, f64::min)
 }
 
-/// The longest that one sheet of a row takes, of many sheets: each sheet's quickest of five goes, so that it is the sheet that is slow
-/// and not the machine. In nanoseconds.
-pub fn slowest(row: &Row, engine: Engine) -> f64 {
-    let quickest = |input: &Input| {
-        let goes = (0..5).map(|_| turn(engine, row, std::slice::from_ref(input)));
-        goes.fold(f64::INFINITY, f64::min)
-    };
-    inputs(row, 2000).iter().map(quickest).fold(0.0, f64::max)
+/// The longest that one sheet of a row takes with the library and with the Rust engine, of many sheets, in nanoseconds. A sheet's time is
+/// its quickest of several goes. The goes lie far apart, each a pass over all sheets, so that it is the sheet that is slow and not the machine.
+pub fn slowest(row: &Row) -> [f64; 2] {
+    let inputs = inputs(row, 2000);
+    let engines = [Engine::Library, Engine::Rust];
+    let mut quickest = engines.map(|_| vec![f64::INFINITY; inputs.len()]);
+    for _ in 0..GOES {
+        for (engine, of_sheets) in engines.iter().zip(&mut quickest) {
+            for (input, best) in inputs.iter().zip(of_sheets) {
+                *best = best.min(turn(*engine, row, std::slice::from_ref(input)));
+            }
+        }
+    }
+    quickest.map(|of_sheets| of_sheets.into_iter().fold(0.0, f64::max))
 }

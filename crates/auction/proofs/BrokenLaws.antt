@@ -56,12 +56,12 @@ unplaced-unbroken p q h = fails (broken p q) (λ e. not-both (broken-parts p q e
 
 -- "A pair naming the same place twice is accepted and never broken."
 pub same-slot-unbroken : (p : Page) (owner : Bidder) (k : Slot) (j : Bidder) (l : Slot) → k .0 ≡ l .0 → (j .0 ≡ owner .0 → ⊥) →
-    broken p (record { owner = owner; kind = Pair k j l }) ≡ false
+    broken p (record { owner = owner; kind = Pair j l k }) ≡ false
 unfolding ownHolds otherHolds
 same-slot-unbroken p owner k j l same other =
-    fails (broken p (record { owner = owner; kind = Pair k j l }))
+    fails (broken p (record { owner = owner; kind = Pair j l k }))
     (λ e.
-    let parts = broken-parts p (record { owner = owner; kind = Pair k j l }) e in
+    let parts = broken-parts p (record { owner = owner; kind = Pair j l k }) e in
     other (sym (eqb-true (at p (l .0)) (j .0) (parts .1)) ∙ ap (at p) (sym same) ∙ eqb-true (at p (k .0)) (owner .0) (parts .0)))
 
 -- an equation between a slot and a bidder stays as the page fills
@@ -74,13 +74,13 @@ own-stays : (p p′ : Page) (o : ℕ) (kind : Kind) → Keeps p p′ → (o ≡ 
 unfolding ownHolds
 own-stays p p′ o (OwnSlot k) f s e = stays p p′ (k .0) o f s e
 own-stays p p′ o (OtherSlot j l) f s e = refl
-own-stays p p′ o (Pair k j l) f s e = stays p p′ (k .0) o f s e
+own-stays p p′ o (Pair j l k) f s e = stays p p′ (k .0) o f s e
 
 pub other-stays : (p p′ : Page) (o : ℕ) (kind : Kind) → Keeps p p′ → ProperKind o kind → otherHolds p kind ≡ true → otherHolds p′ kind ≡ true
 unfolding otherHolds
 other-stays p p′ o (OwnSlot k) f s e = refl
 other-stays p p′ o (OtherSlot j l) f s e = stays p p′ (l .0) (j .0) f (s .0) e
-other-stays p p′ o (Pair k j l) f s e = stays p p′ (l .0) (j .0) f (s .0) e
+other-stays p p′ o (Pair j l k) f s e = stays p p′ (l .0) (j .0) f (s .0) e
 
 -- what is broken stays broken as the page fills
 pub broken-stays : (p p′ : Page) (q : Constraint) → Keeps p p′ → Proper q → broken p q ≡ true → broken p′ q ≡ true
@@ -173,13 +173,13 @@ module _ (p : Page) (owner : Bidder) where
   other-elsewhere j l e = fails (broken p (with-kind (OtherSlot j l))) (λ t. not-both (broken-parts p (with-kind (OtherSlot j l)) t .1) e)
 
   pub pair-broken : (k : Slot) (j : Bidder) (l : Slot) → 0 < k .0 → k .0 ≤ 16 → eqb (at p (k .0)) (owner .0) ≡ true →
-      eqb (at p (l .0)) (j .0) ≡ broken p (with-kind (Pair k j l))
+      eqb (at p (l .0)) (j .0) ≡ broken p (with-kind (Pair j l k))
   unfolding ownHolds otherHolds
   pair-broken k j l s m e =
-      same-tests (eqb (at p (l .0)) (j .0)) (broken p (with-kind (Pair k j l)))
-      (λ t. parts-broken p (with-kind (Pair k j l)) e t (here-placed (k .0) s m e))
-      (λ t. broken-parts p (with-kind (Pair k j l)) t .1)
+      same-tests (eqb (at p (l .0)) (j .0)) (broken p (with-kind (Pair j l k)))
+      (λ t. parts-broken p (with-kind (Pair j l k)) e t (here-placed (k .0) s m e))
+      (λ t. broken-parts p (with-kind (Pair j l k)) t .1)
 
-  pub pair-elsewhere : (k : Slot) (j : Bidder) (l : Slot) → eqb (at p (k .0)) (owner .0) ≡ false → broken p (with-kind (Pair k j l)) ≡ false
+  pub pair-elsewhere : (k : Slot) (j : Bidder) (l : Slot) → eqb (at p (k .0)) (owner .0) ≡ false → broken p (with-kind (Pair j l k)) ≡ false
   unfolding ownHolds
-  pair-elsewhere k j l e = fails (broken p (with-kind (Pair k j l))) (λ t. not-both (broken-parts p (with-kind (Pair k j l)) t .0) e)
+  pair-elsewhere k j l e = fails (broken p (with-kind (Pair j l k))) (λ t. not-both (broken-parts p (with-kind (Pair j l k)) t .0) e)

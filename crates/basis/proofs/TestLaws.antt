@@ -139,3 +139,27 @@ module _ (f : ℕ → Bool) where
       ∙ ap (λ (t : Bool). cond t k (cond (f n) n (suc n))) (lt-ltb k n lt'))
       (eq-or-lt-of-le (le-of-suc-le-suc lt)))
       (eq-or-lt-of-le l)
+
+-- tests that agree below a count
+module _ (f g : ℕ → Bool) (n : ℕ) where
+  pub any-same : ((i : ℕ) → i < n → f i ≡ g i) → anyBelow f n ≡ anyBelow g n
+  any-same h =
+      same-tests (anyBelow f n) (anyBelow g n)
+      (λ e. let w = any-where f n e in any-at g n (w .0) (w .1) (sym (h (w .0) (w .1)) ∙ w .2))
+      (λ e. let w = any-where g n e in any-at f n (w .0) (w .1) (h (w .0) (w .1) ∙ w .2))
+
+  -- one of two tests
+  pub any-or : anyBelow (λ i. f i || g i) n ≡ (anyBelow f n || anyBelow g n)
+  any-or =
+      same-tests (anyBelow (λ i. f i || g i) n) (anyBelow f n || anyBelow g n)
+      (λ e.
+      let w = any-where (λ i. f i || g i) n e in
+      ⊎-elim
+      (λ (t : f (w .0) ≡ true). or-left (anyBelow g n) (any-at f n (w .0) (w .1) t))
+      (λ (t : g (w .0) ≡ true). or-right (anyBelow f n) (any-at g n (w .0) (w .1) t))
+      (or-parts (f (w .0)) (g (w .0)) (w .2)))
+      (λ e.
+      ⊎-elim
+      (λ (t : anyBelow f n ≡ true). let w = any-where f n t in any-at (λ i. f i || g i) n (w .0) (w .1) (or-left (g (w .0)) (w .2)))
+      (λ (t : anyBelow g n ≡ true). let w = any-where g n t in any-at (λ i. f i || g i) n (w .0) (w .1) (or-right (f (w .0)) (w .2)))
+      (or-parts (anyBelow f n) (anyBelow g n) e))

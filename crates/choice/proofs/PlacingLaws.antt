@@ -8,24 +8,17 @@ use mathlib.Core.Logic.{⊎-elim}
 use mathlib.Core.Path.{_≡_, sym, _∙_, ap, subst}
 use native.Mathlib.Nat.{eq-or-lt-of-le}
 use native.Mathlib.Omega.{arith}
-use lib.Dec.{eqb, ltb}
+use lib.Dec.{ltb}
 use lib.ListN.{getD}
 use Rattle.basis.proofs.TestLaws.{holds-or-fails, not-both}
 use Rattle.choice.specs.Winner.{before, winner}
 use Rattle.choice.specs.Asks.{asks, mostAsked}
-use Rattle.choice.specs.Tables.{openIn, bidIn}
+use Rattle.choice.specs.Tables.{bidIn}
 use Rattle.choice.specs.Ranking.{InOrder, NextAt}
 use Rattle.choice.proofs.WinnerLaws.{before-cases, before-self, wins-winner}
 use Rattle.choice.proofs.AsksLaws.{asks-lower, asks-higher, asked-covers, asked-within}
 
--- a bidder's mark and bid stand at the index before its number
-pub open-index : (barred : List ℕ) (b : ℕ) → 0 < b → openIn barred b ≡ eqb (getD barred (b - 1) 0) 0
-unfolding openIn
-open-index barred zero s = absurd (omega arith)
-open-index barred (suc i) s =
-    let q : i ≡ suc i - 1 = omega arith in
-    ap (λ (k : ℕ). eqb (getD barred k 0) 0) q
-
+-- a bidder's bid stands at the index before its number
 pub bid-index : (bids : List ℕ) (b : ℕ) → 0 < b → bidIn bids b ≡ getD bids (b - 1) 0
 unfolding bidIn
 bid-index bids zero s = absurd (omega arith)
@@ -109,7 +102,7 @@ module _ (able : ℕ → Bool) (bid : ℕ → ℕ) (n : ℕ) (ranked : List ℕ)
               subst (λ (u : ℕ). before bid (getD ranked f 0) u ≡ true) (p .2) (order-at f (p .0) (p .3) (p .1));
         })
 
-    module _ (l : f < n) (s : ℕ) (second : NextAt able ranked n (f + 1) s) where
+    module _ (l : f < n) (s : ℕ) (second : NextAt able ranked n (suc f) s) where
       -- a rival of the winner stands at the next eligible index, or after that
       rival-stands : (b : ℕ) → 0 < b → b ≤ n → able b ≡ true → (b ≡ getD ranked f 0 → ⊥) →
           (i : ℕ) × (i < n) × (getD ranked i 0 ≡ b) × (s ≤ i)

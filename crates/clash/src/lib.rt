@@ -80,7 +80,7 @@ fn mark_constraint(table: &mut [u64], constraint: Constraint)
         Kind::OtherSlot(other, place) => {
             mark_anywhere(table, owner, other, place);
         }
-        Kind::Pair(slot, other, place) => {
+        Kind::Pair(other, place, slot) => {
             mark_both(table, owner, slot, other, place);
         }
     }

@@ -41,7 +41,7 @@ fn key_of(kind: Kind) -> u32
     match kind {
         Kind::OwnSlot(own) => key_for(own.0, 0, 0),
         Kind::OtherSlot(other, slot) => key_for(0, other.0, slot.0),
-        Kind::Pair(own, other, slot) => key_for(own.0, other.0, slot.0),
+        Kind::Pair(other, slot, own) => key_for(own.0, other.0, slot.0),
     }
 }
 

@@ -1,5 +1,5 @@
--- Why the table says who is eligible. At the start only own-slot constraints can be broken by one bidder alone. Once w stands at k,
--- a constraint is broken with b at a later slot l exactly when it was broken with b at l before, or it is one between w and b that
+-- Who is eligible, slot after slot. At the start only own-slot constraints can be broken by one bidder alone. Once w stands at k, a
+-- constraint is broken with b at a later slot l exactly when it was broken with b at l before, or it is one between w and b that
 -- `barsAfter` names: what w breaks alone is ruled out, since w was eligible. Assumes nothing.
 use Prim.Native.Nat.{ℕ, zero, suc, _<_, _≤_}
 use borrow.Author.Tests.{eq-eqb, ne-eqb, eqb-true, eqb-false, not-true}
@@ -23,6 +23,7 @@ use Rattle.basis.proofs.TestLaws.{
   any-where,
   none-any,
   any-none,
+  any-or,
 }
 use Rattle.sheet.specs.declared.Bidder.{Bidder}
 use Rattle.sheet.specs.declared.Slot.{Slot}
@@ -51,7 +52,7 @@ use Rattle.auction.proofs.PageLaws.{
   empty-placed,
 }
 use Rattle.auction.proofs.BrokenLaws.{broken-parts, parts-broken, broken-stays, eligible-unplaced, eligible-unbroken, unbroken-eligible}
-use Rattle.greedy.specs.Barred.{entryIs, barsOwn, barsAfter, barredOwn, barredAfter, openAfter}
+use Rattle.greedy.specs.Barred.{entryIs, barsOwn, barsOwner, barsOther, barsAfter, barredOwn, barredOwner, barredOther, barredAfter, openNext}
 
 -- Where a fact of a page comes from: the bidder b put last, the bidder w put before it, or the page as it was.
 data Source (B W P : Type 0) : Type 0 where
@@ -171,7 +172,7 @@ module _ (p : Page) (k w l b : ℕ) (s : Sized p) (k-some : 0 < k) (k-most : k �
       Source ((x .0 ≡ l) × (j .0 ≡ b)) ((x .0 ≡ k) × (j .0 ≡ w)) (at p (x .0) ≡ j .0) →
       Source (owner .0 ≡ b) (owner .0 ≡ w) (placed p (owner .0) ≡ true) →
       Split (record { owner = owner; kind = OtherSlot j x })
-  unfolding ownHolds otherHolds barsAfter
+  unfolding ownHolds otherHolds barsOther barsOwner
   split-other owner j x o-some proper (last e) (last o) = absurd (proper .1 (e .1 ∙ sym o))
   split-other owner j x o-some proper (last e) (earlier o) =
       old (or-left _ (and-holds (eq-eqb (owner .0) w o) (entry-is (x .0) (j .0) l b (sym (e .0)) (sym (e .1)))))
@@ -191,11 +192,11 @@ module _ (p : Page) (k w l b : ℕ) (s : Sized p) (k-some : 0 < k) (k-most : k �
   split-other owner j x o-some proper (old e) (old o) =
       last (parts-broken one (record { owner = owner; kind = OtherSlot j x }) refl (here-b (x .0) (j .0) (inr (e, proper .0))) (placed-b (owner .0) (inr (o, o-some))))
 
-  split-pair : (owner : Bidder) (t : Slot) (j : Bidder) (x : Slot) → (owner .0 ≡ 0 → ⊥) → ProperKind (owner .0) (Pair t j x) →
+  split-pair : (owner : Bidder) (t : Slot) (j : Bidder) (x : Slot) → (owner .0 ≡ 0 → ⊥) → ProperKind (owner .0) (Pair j x t) →
       Source ((x .0 ≡ l) × (j .0 ≡ b)) ((x .0 ≡ k) × (j .0 ≡ w)) (at p (x .0) ≡ j .0) →
       Source ((t .0 ≡ l) × (owner .0 ≡ b)) ((t .0 ≡ k) × (owner .0 ≡ w)) (at p (t .0) ≡ owner .0) →
-      Split (record { owner = owner; kind = Pair t j x })
-  unfolding ownHolds otherHolds barsAfter
+      Split (record { owner = owner; kind = Pair j x t })
+  unfolding ownHolds otherHolds barsOther barsOwner
   split-pair owner t j x o-some proper (last e) (last o) = absurd (proper .1 (e .1 ∙ sym (o .1)))
   split-pair owner t j x o-some proper (last e) (earlier o) =
       old
@@ -203,7 +204,7 @@ module _ (p : Page) (k w l b : ℕ) (s : Sized p) (k-some : 0 < k) (k-most : k �
       (and-holds (and-holds (eq-eqb (owner .0) w (o .1)) (eq-eqb (t .0) k (o .0))) (entry-is (x .0) (j .0) l b (sym (e .0)) (sym (e .1)))))
   split-pair owner t j x o-some proper (last e) (old o) =
       last
-      (parts-broken one (record { owner = owner; kind = Pair t j x }) (here-b (t .0) (owner .0) (inr (o, o-some))) (here-b (x .0) (j .0) (inl e))
+      (parts-broken one (record { owner = owner; kind = Pair j x t }) (here-b (t .0) (owner .0) (inr (o, o-some))) (here-b (x .0) (j .0) (inl e))
       (owner-b (t .0) (owner .0) o-some (inr o) (proper .5) (proper .6)))
   split-pair owner t j x o-some proper (earlier e) (last o) =
       old
@@ -212,19 +213,19 @@ module _ (p : Page) (k w l b : ℕ) (s : Sized p) (k-some : 0 < k) (k-most : k �
   split-pair owner t j x o-some proper (earlier e) (earlier o) = absurd (proper .1 (e .1 ∙ sym (o .1)))
   split-pair owner t j x o-some proper (earlier e) (old o) =
       earlier
-      (parts-broken first (record { owner = owner; kind = Pair t j x }) (here-w (t .0) (owner .0) (inr (o, o-some))) (here-w (x .0) (j .0) (inl e))
+      (parts-broken first (record { owner = owner; kind = Pair j x t }) (here-w (t .0) (owner .0) (inr (o, o-some))) (here-w (x .0) (j .0) (inl e))
       (owner-w (t .0) (owner .0) o-some (inr o) (proper .5) (proper .6)))
   split-pair owner t j x o-some proper (old e) (last o) =
       last
-      (parts-broken one (record { owner = owner; kind = Pair t j x }) (here-b (t .0) (owner .0) (inl o)) (here-b (x .0) (j .0) (inr (e, proper .0)))
+      (parts-broken one (record { owner = owner; kind = Pair j x t }) (here-b (t .0) (owner .0) (inl o)) (here-b (x .0) (j .0) (inr (e, proper .0)))
       (placed-b (owner .0) (inl (o .1))))
   split-pair owner t j x o-some proper (old e) (earlier o) =
       earlier
-      (parts-broken first (record { owner = owner; kind = Pair t j x }) (here-w (t .0) (owner .0) (inl o)) (here-w (x .0) (j .0) (inr (e, proper .0)))
+      (parts-broken first (record { owner = owner; kind = Pair j x t }) (here-w (t .0) (owner .0) (inl o)) (here-w (x .0) (j .0) (inr (e, proper .0)))
       (placed-w (owner .0) (inl (o .1))))
   split-pair owner t j x o-some proper (old e) (old o) =
       last
-      (parts-broken one (record { owner = owner; kind = Pair t j x }) (here-b (t .0) (owner .0) (inr (o, o-some))) (here-b (x .0) (j .0) (inr (e, proper .0)))
+      (parts-broken one (record { owner = owner; kind = Pair j x t }) (here-b (t .0) (owner .0) (inr (o, o-some))) (here-b (x .0) (j .0) (inr (e, proper .0)))
       (owner-b (t .0) (owner .0) o-some (inr o) (proper .5) (proper .6)))
 
   -- what is broken with both on the page is broken with one of them, or is barred between them
@@ -240,8 +241,8 @@ module _ (p : Page) (k w l b : ℕ) (s : Sized p) (k-some : 0 < k) (k-most : k �
       split-other owner j x (proper .owned) (proper .named)
       (at-source (x .0) (j .0) (proper .named .0) (eqb-true (at two (x .0)) (j .0) (parts .1)))
       (placed-source (owner .0) (parts .2))
-  split owner (Pair t j x) proper e =
-      let parts = broken-parts two (record { owner = owner; kind = Pair t j x }) e in
+  split owner (Pair j x t) proper e =
+      let parts = broken-parts two (record { owner = owner; kind = Pair j x t }) e in
       split-pair owner t j x (proper .owned) (proper .named)
       (at-source (x .0) (j .0) (proper .named .0) (eqb-true (at two (x .0)) (j .0) (parts .1)))
       (at-source (t .0) (owner .0) (proper .owned) (eqb-true (at two (t .0)) (owner .0) (parts .0)))
@@ -263,7 +264,7 @@ module _ (p : Page) (k w l b : ℕ) (s : Sized p) (k-some : 0 < k) (k-most : k �
 
   -- what is barred between them is broken
   barred-broken : (owner : Bidder) (kind : Kind) → barsAfter w k kind (owner .0) l b ≡ true → broken two (record { owner = owner; kind = kind }) ≡ true
-  unfolding ownHolds otherHolds barsAfter
+  unfolding ownHolds otherHolds barsOther barsOwner
   barred-broken owner (OwnSlot t) e = absurd (not-both e refl)
   barred-broken owner (OtherSlot j x) e =
       ⊎-elim
@@ -279,13 +280,13 @@ module _ (p : Page) (k w l b : ℕ) (s : Sized p) (k-some : 0 < k) (k-most : k �
       (two-at-k (x .0) (j .0) (eqb-true (x .0) k (other .1)) (eqb-true (j .0) w (other .0)))
       (two-placed-b (owner .0) (eqb-true b (owner .0) (both .1))))
       (or-parts (eqb (owner .0) w && entryIs (x .0) (j .0) l b) ((eqb (j .0) w && eqb (x .0) k) && eqb b (owner .0)) e)
-  barred-broken owner (Pair t j x) e =
+  barred-broken owner (Pair j x t) e =
       ⊎-elim
       (λ (f : ((eqb (owner .0) w && eqb (t .0) k) && entryIs (x .0) (j .0) l b) ≡ true).
       let both = and-parts (eqb (owner .0) w && eqb (t .0) k) (entryIs (x .0) (j .0) l b) f in
       let own = and-parts (eqb (owner .0) w) (eqb (t .0) k) (both .0) in
       let entry = entry-parts (x .0) (j .0) (both .1) in
-      parts-broken two (record { owner = owner; kind = Pair t j x })
+      parts-broken two (record { owner = owner; kind = Pair j x t })
       (two-at-k (t .0) (owner .0) (eqb-true (t .0) k (own .1)) (eqb-true (owner .0) w (own .0)))
       (two-at-l (x .0) (j .0) (entry .0) (entry .1))
       (two-placed-w (owner .0) (eqb-true (owner .0) w (own .0))))
@@ -293,7 +294,7 @@ module _ (p : Page) (k w l b : ℕ) (s : Sized p) (k-some : 0 < k) (k-most : k �
       let both = and-parts (eqb (j .0) w && eqb (x .0) k) (entryIs (t .0) (owner .0) l b) f in
       let other = and-parts (eqb (j .0) w) (eqb (x .0) k) (both .0) in
       let entry = entry-parts (t .0) (owner .0) (both .1) in
-      parts-broken two (record { owner = owner; kind = Pair t j x })
+      parts-broken two (record { owner = owner; kind = Pair j x t })
       (two-at-l (t .0) (owner .0) (entry .0) (entry .1))
       (two-at-k (x .0) (j .0) (eqb-true (x .0) k (other .1)) (eqb-true (j .0) w (other .0)))
       (two-placed-b (owner .0) (entry .1)))
@@ -371,8 +372,8 @@ module _ (l b : ℕ) (l-some : 0 < l) (l-most : l ≤ 16) (b-some : b ≡ 0 → 
       absurd
       (proper .named .1
       (sym (only-at (x .0) (j .0) (proper .named .0) (parts .1) .1) ∙ only-placed (owner .0) (proper .owned) (parts .2)))
-  only-broken owner (Pair t j x) proper e =
-      let parts = broken-parts only (record { owner = owner; kind = Pair t j x }) e in
+  only-broken owner (Pair j x t) proper e =
+      let parts = broken-parts only (record { owner = owner; kind = Pair j x t }) e in
       absurd
       (proper .named .1
       (sym (only-at (x .0) (j .0) (proper .named .0) (parts .1) .1) ∙ only-placed (owner .0) (proper .owned) (parts .2)))
@@ -388,7 +389,7 @@ module _ (l b : ℕ) (l-some : 0 < l) (l-most : l ≤ 16) (b-some : b ≡ 0 → 
       (eq-eqb (at only (t .0)) (owner .0) (ap (at only) (sym slot) ∙ here ∙ number)) refl
       (placed-at only (owner .0) l l-some l-most (here ∙ number))
   own-broken owner (OtherSlot j x) e = absurd (not-both e refl)
-  own-broken owner (Pair t j x) e = absurd (not-both e refl)
+  own-broken owner (Pair j x t) e = absurd (not-both e refl)
 
   pub eligible-start : (r : Round) → ProperRound r → eligible r emptyPage l b ≡ not (barredOwn r (r .used) l b)
   unfolding barredOwn
@@ -413,13 +414,20 @@ module _ (l b : ℕ) (l-some : 0 < l) (l-most : l ≤ 16) (b-some : b ≡ 0 → 
       bars : ℕ → Bool
       bars i = barsOwn (constraintAt r i .kind) (constraintAt r i .owner .0) l b
 
--- a settled slot, by who won it
-pub after-nobody : (r : Round) (w k : ℕ) (was : Bool) (l b : ℕ) → w ≡ 0 → openAfter r w k was l b ≡ was
-unfolding openAfter
-after-nobody r w k was l b e = rw e
+-- what is barred once w stands at k, by who is barred
+pub by-sides : (r : Round) (w k n l b : ℕ) → barredAfter r w k n l b ≡ (barredOther r w k n l b || barredOwner r w k n l b)
+unfolding barredAfter barredOther barredOwner
+by-sides r w k n l b =
+    any-or (λ i. barsOther w k (constraintAt r i .kind) (constraintAt r i .owner .0) l b)
+    (λ i. barsOwner w k (constraintAt r i .kind) (constraintAt r i .owner .0) l b) n
 
-pub after-somebody : (r : Round) (w k : ℕ) (was : Bool) (l b : ℕ) → (w ≡ 0 → ⊥) →
-    openAfter r w k was l b ≡ ((was && not (eqb b w)) && not (barredAfter r w k (r .used) l b))
-unfolding openAfter
-after-somebody r zero k was l b s = absurd (s refl)
-after-somebody r (suc w) k was l b s = refl
+-- an entry of the table once a slot is settled, by who won it
+pub open-nobody : (r : Round) (w k : ℕ) (was : Bool) (l b : ℕ) → w ≡ 0 → openNext r w k was l b ≡ was
+unfolding openNext
+open-nobody r w k was l b e = rw e
+
+pub open-somebody : (r : Round) (w k : ℕ) (was : Bool) (l b : ℕ) → (w ≡ 0 → ⊥) →
+    openNext r w k was l b ≡ ((was && not (eqb b w)) && not (barredOwner r w k (r .used) l b))
+unfolding openNext
+open-somebody r zero k was l b s = absurd (s refl)
+open-somebody r (suc w) k was l b s = refl

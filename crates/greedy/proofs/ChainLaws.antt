@@ -1,28 +1,43 @@
--- Why a winner that walks its two chains bars as much as one that reads every constraint. A chain leaves out no link of its key, since
--- nothing of the key lies between a link and the one before it. And a constraint bars an entry once w stands at k exactly when it has
--- a link that bars the entry and whose key says that w stands at k, or at any slot. Assumes nothing.
+-- Why one chain is enough for a candidate, and one for a winner. A chain leaves out no link of its key, since nothing of the key lies
+-- between a link and the one before it. And the links whose key says that w stands at k are the constraints that name w there. Assumes
+-- nothing.
 use Rattle.basis.proofs.RowLaws.{zeros}
-use Prim.Native.Nat.{ℕ, zero, suc, _+_, _*_, _-_, _/_, _%_, _<_, _≤_}
+use Prim.Native.Nat.{ℕ, zero, suc, _+_, _*_, _<_, _≤_}
 use borrow.Author.Tests.{eq-eqb, ne-eqb, eqb-true}
-use mathlib.Core.Bool.{Bool, true, false, cond, not, _&&_, _||_, and-true, or-false, or-comm}
+use mathlib.Core.Bool.{Bool, true, false, cond, not, _&&_, _||_, and-comm, and-false, or-false, or-comm}
 use mathlib.Core.List.{List}
 use mathlib.Core.Logic.{_⊎_, inl, inr, ⊎-elim}
 use mathlib.Core.Path.{_≡_, refl, sym, _∙_, ap, ap₂, subst}
 use native.Mathlib.Nat.{eq-or-lt-of-le, le-of-suc-le-suc}
 use native.Mathlib.Omega.{arith}
 use lib.Dec.{eqb}
-use lib.ListN.{length, getD, set, replicate, getD-replicate, length-set}
+use lib.ListN.{length, getD, set, replicate, length-set}
 use lib.Seq.{getD-set-same, getD-set-other}
 use Rattle.basis.specs.Tests.{anyBelow}
-use Rattle.basis.proofs.TestLaws.{not-both, same-tests, and-holds, and-parts, or-left, or-right, or-parts, any-at, any-where}
+use Rattle.basis.proofs.TestLaws.{same-tests, and-holds, and-parts, or-left, or-right, or-parts, any-same, any-or, none-any}
 use Rattle.sheet.specs.declared.Kind.{Kind}
 use Rattle.sheet.specs.declared.Kind.the-variants.{OwnSlot, OtherSlot, Pair}
 use Rattle.sheet.specs.declared.Round.{Round}
 use Rattle.auction.specs.Broken.{constraintAt}
 use Rattle.auction.specs.Proper.{ProperKind, Proper, ProperRound}
 use Rattle.auction.proofs.PageLaws.{same-or-not}
-use Rattle.greedy.specs.Barred.{openAt, entryIs, barsAfter, barredAfter}
-use Rattle.greedy.specs.Chains.{standing, bars, ownerOf, otherOf, ownerKey, otherKey, linkKey, linkBars, lastOf, Falling, Chained, barsAlong, barredAlong}
+use Rattle.greedy.specs.Barred.{openAt, entryIs, barsOwner, barsOther, barredOwner, barredOther}
+use Rattle.greedy.specs.Chains.{
+  standing,
+  bars,
+  ownerOf,
+  otherOf,
+  linkKey,
+  linkOwner,
+  lastOf,
+  Falling,
+  Chained,
+  someOwner,
+  barredAlong,
+  isHeld,
+  heldNext,
+  named,
+}
 use Rattle.greedy.proofs.TableLaws.{barred-also}
 
 -- The last of the first n that passes.
@@ -66,92 +81,92 @@ after-set P s i a j inside here elsewhere =
     (same-or-not j i)
 
 -- No link yet.
-pub falling-none : Falling 0 (replicate 1089 0) (replicate 2048 0) (replicate 2048 0)
+pub falling-none : Falling 0 (replicate 1089 0) (replicate 1024 0) (replicate 1024 0)
 falling-none =
     record {
       sized-last = refl;
       sized-earlier = refl;
-      sized-barring = refl;
+      sized-owners = refl;
       last-within = λ x. let e = zeros 1089 x in omega arith;
-      earlier-within = λ i. let e = zeros 2048 i in omega arith;
-      barring-within = λ i. let e = zeros 2048 i in omega arith;
+      earlier-within = λ i. let e = zeros 1024 i in omega arith;
+      owners-within = λ i. let e = zeros 1024 i in omega arith;
     }
 
-pub chained-none : (r : Round) → Chained r 0 (replicate 1089 0) (replicate 2048 0) (replicate 2048 0)
+pub chained-none : (r : Round) → Chained r 0 (replicate 1089 0) (replicate 1024 0) (replicate 1024 0)
 unfolding lastOf
 chained-none r =
     record {
       last-is = λ x some most. zeros 1089 x;
       earlier-is = λ i below some. absurd (omega arith);
-      barring-is = λ i below some. absurd (omega arith);
+      owners-are = λ i below some. absurd (omega arith);
     }
 
 -- chains that fall from n fall from more
-pub falling-more : (n m : ℕ) (last earlier barring : List ℕ) → n ≤ m → Falling n last earlier barring → Falling m last earlier barring
-falling-more n m last earlier barring le h =
+pub falling-more : (n m : ℕ) (last earlier owners : List ℕ) → n ≤ m → Falling n last earlier owners → Falling m last earlier owners
+falling-more n m last earlier owners le h =
     record {
       sized-last = h .sized-last;
       sized-earlier = h .sized-earlier;
-      sized-barring = h .sized-barring;
+      sized-owners = h .sized-owners;
       last-within = λ x. let w = h .last-within x in omega arith;
       earlier-within = h .earlier-within;
-      barring-within = h .barring-within;
+      owners-within = h .owners-within;
     }
 
--- One link more, with the key x, that bars y.
-module _ (n x y : ℕ) (last earlier barring : List ℕ) (falls : Falling n last earlier barring) (x-most : x ≤ 1088) (y-most : y ≤ 1088) (room : n < 2048) where
+-- One link more, with the key x and an owner of the key y.
+module _ (n x y : ℕ) (last earlier owners : List ℕ) (falls : Falling n last earlier owners) (x-most : x ≤ 1088) (y-most : y ≤ 1088) (room : n < 1024) where
   in-last : x < length last
   in-last = let s = falls .sized-last in omega arith
 
   in-earlier : n < length earlier
   in-earlier = let s = falls .sized-earlier in omega arith
 
-  in-barring : n < length barring
-  in-barring = let s = falls .sized-barring in omega arith
+  in-owners : n < length owners
+  in-owners = let s = falls .sized-owners in omega arith
 
-  falling-next : Falling (suc n) (set last x (suc n)) (set earlier n (getD last x 0)) (set barring n y)
+  pub falling-next : Falling (suc n) (set last x (suc n)) (set earlier n (getD last x 0)) (set owners n y)
   falling-next =
       record {
         sized-last = length-set last x (suc n) ∙ falls .sized-last;
         sized-earlier = length-set earlier n (getD last x 0) ∙ falls .sized-earlier;
-        sized-barring = length-set barring n y ∙ falls .sized-barring;
+        sized-owners = length-set owners n y ∙ falls .sized-owners;
         last-within = λ z. after-set (λ v. v ≤ suc n) last x (suc n) z in-last (λ e. omega arith) (λ d. let w = falls .last-within z in omega arith);
         earlier-within = λ i.
             after-set (λ v. v ≤ i) earlier n (getD last x 0) i in-earlier (λ e. let w = falls .last-within x in omega arith) (λ d. falls .earlier-within i);
-        barring-within = λ i. after-set (λ v. v ≤ 1088) barring n y i in-barring (λ e. y-most) (λ d. falls .barring-within i);
+        owners-within = λ i. after-set (λ v. v ≤ 1088) owners n y i in-owners (λ e. y-most) (λ d. falls .owners-within i);
       }
 
-  chained-next : (r : Round) → linkKey r n ≡ x → linkBars r n ≡ y → Chained r n last earlier barring →
-      Chained r (suc n) (set last x (suc n)) (set earlier n (getD last x 0)) (set barring n y)
+  pub chained-next : (r : Round) → x ≡ linkKey r n → y ≡ linkOwner r n → Chained r n last earlier owners →
+      Chained r (suc n) (set last x (suc n)) (set earlier n (getD last x 0)) (set owners n y)
   unfolding lastOf
-  chained-next r key bars′ h =
+  chained-next r key owner h =
       record {
         last-is = λ z some most.
             after-set (λ v. v ≡ lastOf (λ i. eqb (linkKey r i) z) (suc n)) last x (suc n) z in-last
-            (λ e. sym (ap (λ (t : Bool). cond t (suc n) (lastOf (λ i. eqb (linkKey r i) z) n)) (eq-eqb (linkKey r n) z (key ∙ sym e))))
+            (λ e. sym (ap (λ (t : Bool). cond t (suc n) (lastOf (λ i. eqb (linkKey r i) z) n)) (eq-eqb (linkKey r n) z (sym key ∙ sym e))))
             (λ d.
             h .last-is z some most
-            ∙ sym (ap (λ (t : Bool). cond t (suc n) (lastOf (λ i. eqb (linkKey r i) z) n)) (ne-eqb (linkKey r n) z (λ e. d (sym e ∙ key)))));
+            ∙ sym (ap (λ (t : Bool). cond t (suc n) (lastOf (λ i. eqb (linkKey r i) z) n)) (ne-eqb (linkKey r n) z (λ e. d (sym e ∙ sym key)))));
         earlier-is = λ i below some.
             after-set (λ v. v ≡ lastOf (λ j. eqb (linkKey r j) (linkKey r i)) i) earlier n (getD last x 0) i in-earlier
             (λ e.
-            let here : linkKey r i ≡ x = ap (linkKey r) e ∙ key in
+            let here : linkKey r i ≡ x = ap (linkKey r) e ∙ sym key in
             h .last-is x (omega arith) x-most ∙ ap₂ (λ (z m : ℕ). lastOf (λ j. eqb (linkKey r j) z) m) (sym here) (sym e))
             (λ d. h .earlier-is i (omega arith) some);
-        barring-is = λ i below some.
-            after-set (λ v. v ≡ linkBars r i) barring n y i in-barring (λ e. sym (ap (linkBars r) e ∙ bars′)) (λ d. h .barring-is i (omega arith) some);
+        owners-are = λ i below some.
+            after-set (λ v. v ≡ linkOwner r i) owners n y i in-owners (λ e. owner ∙ sym (ap (linkOwner r) e)) (λ d. h .owners-are i (omega arith) some);
       }
 
--- a link of key 0 is left out
-chained-skip : (r : Round) (n : ℕ) (last earlier barring : List ℕ) → linkKey r n ≡ 0 → Chained r n last earlier barring → Chained r (suc n) last earlier barring
+-- a constraint of key 0 is left out
+pub chained-skip : (r : Round) (n : ℕ) (last earlier owners : List ℕ) → linkKey r n ≡ 0 → Chained r n last earlier owners → Chained r (suc n) last earlier owners
 unfolding lastOf
-chained-skip r n last earlier barring key h =
+chained-skip r n last earlier owners key h =
     record {
       last-is = λ z some most.
           h .last-is z some most
           ∙ sym (ap (λ (t : Bool). cond t (suc n) (lastOf (λ i. eqb (linkKey r i) z) n)) (ne-eqb (linkKey r n) z (λ e. absurd (omega arith))));
       earlier-is = λ i below some. h .earlier-is i (older i below some) some;
-      barring-is = λ i below some. h .barring-is i (older i below some) some;
+      owners-are = λ i below some. h .owners-are i (older i below some) some;
     }
   where
     older : (i : ℕ) → i < suc n → 0 < linkKey r i → i < n
@@ -161,139 +176,71 @@ chained-skip r n last earlier barring key h =
         (λ (lt : i < n). lt)
         (eq-or-lt-of-le (le-of-suc-le-suc below))
 
--- The two links of constraint i.
-module _ (r : Round) (i : ℕ) where
-  even-half : 2 * i / 2 ≡ i
-  even-half = omega arith
-
-  even-rest : 2 * i % 2 ≡ 0
-  even-rest = omega arith
-
-  odd-half : suc (2 * i) / 2 ≡ i
-  odd-half = omega arith
-
-  odd-rest : suc (2 * i) % 2 ≡ 1
-  odd-rest = omega arith
-
-  owner-link : linkKey r (2 * i) ≡ ownerKey (constraintAt r i)
-  unfolding linkKey
-  owner-link = ap₂ (λ (m j : ℕ). cond (eqb m 0) (ownerKey (constraintAt r j)) (otherKey (constraintAt r j))) even-rest even-half
-
-  other-link : linkKey r (suc (2 * i)) ≡ otherKey (constraintAt r i)
-  unfolding linkKey
-  other-link = ap₂ (λ (m j : ℕ). cond (eqb m 0) (ownerKey (constraintAt r j)) (otherKey (constraintAt r j))) odd-rest odd-half
-
-  owner-bars : linkBars r (2 * i) ≡ otherKey (constraintAt r i)
-  unfolding linkBars
-  owner-bars = ap₂ (λ (m j : ℕ). cond (eqb m 0) (otherKey (constraintAt r j)) (ownerKey (constraintAt r j))) even-rest even-half
-
-  other-bars : linkBars r (suc (2 * i)) ≡ ownerKey (constraintAt r i)
-  unfolding linkBars
-  other-bars = ap₂ (λ (m j : ℕ). cond (eqb m 0) (otherKey (constraintAt r j)) (ownerKey (constraintAt r j))) odd-rest odd-half
-
-two-more : (i : ℕ) → 2 * suc i ≡ suc (suc (2 * i))
-two-more i = omega arith
-
--- Constraint i is linked, as the engine stores it.
-module _ (i x y : ℕ) (last earlier barring last′ earlier′ barring′ : List ℕ)
-    (falls : Falling (2 * i) last earlier barring) (x-most : x ≤ 1088) (y-most : y ≤ 1088) (room : i < 1024)
-    (l′ : last′ ≡ set last x (suc (2 * i))) (e′ : earlier′ ≡ set earlier (2 * i) (getD last x 0)) (b′ : barring′ ≡ set barring (2 * i) y) where
-  pub falls-once : Falling (2 * i + 1) last′ earlier′ barring′
-  falls-once =
-      let next : 2 * i + 1 ≡ suc (2 * i) = omega arith in
-      rw (l′, e′, b′, next) (falling-next (2 * i) x y last earlier barring falls x-most y-most (omega arith))
-
-  module _ (last″ earlier″ barring″ : List ℕ) (l″ : last″ ≡ set last′ y (suc (2 * i + 1))) (e″ : earlier″ ≡ set earlier′ (2 * i + 1) (getD last′ y 0)) (b″ : barring″ ≡ set barring′ (2 * i + 1) x) where
-    pub falls-twice : Falling (2 * suc i) last″ earlier″ barring″
-    falls-twice =
-        let two : 2 * suc i ≡ suc (2 * i + 1) = omega arith in
-        rw (l″, e″, b″, two) (falling-next (2 * i + 1) y x last′ earlier′ barring′ falls-once y-most x-most (omega arith))
-
-    pub chained-both : (r : Round) → x ≡ ownerKey (constraintAt r i) → y ≡ otherKey (constraintAt r i) → Chained r (2 * i) last earlier barring →
-        Chained r (2 * suc i) last″ earlier″ barring″
-    chained-both r x-is y-is h =
-        let next : 2 * i + 1 ≡ suc (2 * i) = omega arith in
-        let two : 2 * suc i ≡ suc (2 * i + 1) = omega arith in
-        let once : Chained r (2 * i + 1) last′ earlier′ barring′
-        = rw (l′, e′, b′, next)
-        (chained-next (2 * i) x y last earlier barring falls x-most y-most (omega arith) r (owner-link r i ∙ sym x-is) (owner-bars r i ∙ sym y-is) h) in
-        rw (l″, e″, b″, two)
-        (chained-next (2 * i + 1) y x last′ earlier′ barring′ falls-once y-most x-most (omega arith) r
-        (ap (linkKey r) next ∙ other-link r i ∙ sym y-is) (ap (linkBars r) next ∙ other-bars r i ∙ sym x-is) once)
-
--- An own-slot constraint is left out.
-pub chained-own : (r : Round) (i : ℕ) (last earlier barring : List ℕ) → ownerKey (constraintAt r i) ≡ 0 → otherKey (constraintAt r i) ≡ 0 →
-    Chained r (2 * i) last earlier barring → Chained r (2 * suc i) last earlier barring
-chained-own r i last earlier barring e f h =
-    subst (λ (n : ℕ). Chained r n last earlier barring) (sym (two-more i))
-    (chained-skip r (suc (2 * i)) last earlier barring (other-link r i ∙ f) (chained-skip r (2 * i) last earlier barring (owner-link r i ∙ e) h))
-
--- On the way along the chain of x: what is still to be barred hangs on the links up to the next one.
-pub record Walking (r : Round) (x : ℕ) (table₀ table : List ℕ) (next : ℕ) : Type 0 where
-  pub some : next ≤ 2 * r .used
+-- On the way along the chain of x: the next link, if any, has that key.
+pub record Walking (r : Round) (x next : ℕ) : Type 0 where
+  pub some : next ≤ r .used
   pub keyed : (i : ℕ) → next ≡ suc i → linkKey r i ≡ x
-  pub left : (l b : ℕ) → l ≤ 16 → b ≤ 64 →
-      (openAt table₀ l b && not (barredAlong r x (2 * r .used) l b)) ≡ (openAt table l b && not (barredAlong r x next l b))
 
-module _ (r : Round) (x : ℕ) (last earlier barring : List ℕ) (x-some : 0 < x) (h : Chained r (2 * r .used) last earlier barring) where
+module _ (r : Round) (x : ℕ) (last earlier owners : List ℕ) (x-some : 0 < x) (h : Chained r (r .used) last earlier owners) where
   abbrev has-key : ℕ → Bool
   has-key i = eqb (linkKey r i) x
 
   -- the links of x among the first n are those up to the last of them
-  along-last : (n l b : ℕ) → barredAlong r x n l b ≡ barredAlong r x (lastOf has-key n) l b
-  unfolding barredAlong barsAlong
-  along-last n l b = any-last has-key (λ i. bars (linkBars r i) l b) n
+  along-last : (test : ℕ → Bool) (n : ℕ) → someOwner r x test n ≡ someOwner r x test (lastOf has-key n)
+  unfolding someOwner
+  along-last test n = any-last has-key (λ i. test (linkOwner r i)) n
 
-  pub walk-start : (table : List ℕ) → x ≤ 1088 → Walking r x table table (getD last x 0)
-  walk-start table most =
+  pub walk-start : x ≤ 1088 → Walking r x (getD last x 0)
+  walk-start most =
       let e = h .last-is x x-some most in
       record {
-        some = let w = last-below has-key (2 * r .used) in omega arith;
-        keyed = λ i q. eqb-true (linkKey r i) x (last-passes has-key (2 * r .used) i (sym e ∙ q));
-        left = λ l b l-most b-most.
-            ap (λ (t : Bool). openAt table l b && not t)
-            (along-last (2 * r .used) l b ∙ ap (λ (n : ℕ). barredAlong r x n l b) (sym e));
+        some = let w = last-below has-key (r .used) in omega arith;
+        keyed = λ i q. eqb-true (linkKey r i) x (last-passes has-key (r .used) i (sym e ∙ q));
       }
 
-  pub walk-next : (table₀ table table′ : List ℕ) (next i : ℕ) → next ≡ suc i → Walking r x table₀ table next →
-      ((l b : ℕ) → l ≤ 16 → b ≤ 64 → openAt table′ l b ≡ (openAt table l b && not (bars (getD barring i 0) l b))) →
-      Walking r x table₀ table′ (getD earlier i 0)
-  unfolding barredAlong barsAlong anyBelow
-  walk-next table₀ table table′ next i at was now-open =
-      let v = subst (Walking r x table₀ table) at was in
-      let some = v .some in
-      let here = v .keyed i refl in
-      let e : getD earlier i 0 ≡ lastOf has-key i
-      = h .earlier-is i (omega arith) (omega arith) ∙ ap (λ (y : ℕ). lastOf (λ j. eqb (linkKey r j) y) i) here in
-      record {
-        some = let w = last-below has-key i in omega arith;
-        keyed = λ j q. eqb-true (linkKey r j) x (last-passes has-key i j (sym e ∙ q));
-        left = λ l b l-most b-most.
-            v .left l b l-most b-most
-            ∙ ap (λ (t : Bool). openAt table l b && not (barredAlong r x i l b || (t && bars (linkBars r i) l b))) (eq-eqb (linkKey r i) x here)
-            ∙ ap (λ (y : ℕ). openAt table l b && not (barredAlong r x i l b || bars y l b)) (sym (h .barring-is i (omega arith) (omega arith)))
-            ∙ ap (λ (t : Bool). openAt table l b && not t) (or-comm (barredAlong r x i l b) (bars (getD barring i 0) l b))
-            ∙ sym (barred-also (openAt table l b) (bars (getD barring i 0) l b) (barredAlong r x i l b))
-            ∙ ap₂ (λ (t u : Bool). t && not u) (sym (now-open l b l-most b-most))
-            (along-last i l b ∙ ap (λ (n : ℕ). barredAlong r x n l b) (sym e));
-      }
+  -- what all the links of x say is what those from the last one on say
+  pub all-from-last : x ≤ 1088 → (test : ℕ → Bool) → someOwner r x test (r .used) ≡ someOwner r x test (getD last x 0)
+  all-from-last most test = along-last test (r .used) ∙ ap (someOwner r x test) (sym (h .last-is x x-some most))
 
--- at the end of the chain nothing is left to bar
-pub walk-end : (r : Round) (x : ℕ) (table₀ table : List ℕ) (next : ℕ) → Walking r x table₀ table next → next ≡ 0 →
-    (l b : ℕ) → l ≤ 16 → b ≤ 64 → openAt table l b ≡ (openAt table₀ l b && not (barredAlong r x (2 * r .used) l b))
-unfolding barredAlong anyBelow
-walk-end r x table₀ table next v e l b l-most b-most =
-    sym
-    (v .left l b l-most b-most
-    ∙ ap (λ (n : ℕ). openAt table l b && not (barredAlong r x n l b)) e
-    ∙ and-true (openAt table l b))
+  module _ (next i : ℕ) (at : next ≡ suc i) (v : Walking r x next) where
+    within : i < r .used
+    within = let s = v .some in omega arith
 
--- What a key bars.
+    here : linkKey r i ≡ x
+    here = v .keyed i at
+
+    before : getD earlier i 0 ≡ lastOf has-key i
+    before =
+        let k = here in
+        h .earlier-is i within (omega arith) ∙ ap (λ (y : ℕ). lastOf (λ j. eqb (linkKey r j) y) i) here
+
+    pub walk-next : Walking r x (getD earlier i 0)
+    walk-next =
+        record {
+          some = let w = last-below has-key i in let e = before in let s = within in omega arith;
+          keyed = λ j q. eqb-true (linkKey r j) x (last-passes has-key i j (sym before ∙ q));
+        }
+
+    last-one : (test : ℕ → Bool) → someOwner r x test (suc i) ≡ (someOwner r x test i || test (linkOwner r i))
+    unfolding someOwner anyBelow
+    last-one test = ap (λ (t : Bool). someOwner r x test i || (t && test (linkOwner r i))) (eq-eqb (linkKey r i) x here)
+
+    -- one link, and those before it
+    pub one-then-rest : (test : ℕ → Bool) → someOwner r x test next ≡ (test (getD owners i 0) || someOwner r x test (getD earlier i 0))
+    one-then-rest test =
+        ap (someOwner r x test) at
+        ∙ last-one test
+        ∙ or-comm (someOwner r x test i) (test (linkOwner r i))
+        ∙ ap₂ (λ (y : ℕ) (t : Bool). test y || t) (sym (h .owners-are i within (let k = here in omega arith)))
+        (along-last test i ∙ ap (someOwner r x test) (sym before))
+
+-- at the end of the chain nothing is left
+pub none-left : (r : Round) (x next : ℕ) (test : ℕ → Bool) → next ≡ 0 → someOwner r x test next ≡ false
+unfolding someOwner anyBelow
+none-left r x next test e = ap (someOwner r x test) e
+
+-- Which entry a key is, for a bidder and a slot.
 module _ (l b : ℕ) (b-some : 0 < b) (b-most : b ≤ 64) (l-most : l ≤ 16) where
-  -- nobody
-  pub bars-nobody : (y : ℕ) → y ≡ 0 → bars y l b ≡ false
-  bars-nobody y e = ap₂ _||_ (ne-eqb y b (λ q. absurd (omega arith))) (ne-eqb y (standing b l) (λ q. absurd (omega arith)))
-
   -- a bidder at any slot
   pub bars-anywhere : (y : ℕ) → 0 < y → y ≤ 64 → bars y l b ≡ eqb b y
   bars-anywhere y some most =
@@ -306,23 +253,30 @@ module _ (l b : ℕ) (b-some : 0 < b) (b-most : b ≤ 64) (l-most : l ≤ 16) wh
       (λ e. or-left (eqb y (standing b l)) (eq-eqb y b (sym (eqb-true b y e))))
 
   -- a bidder at one slot
-  pub bars-there : (y x : ℕ) → 0 < y → y ≤ 64 → 0 < x → x ≤ 16 → bars (standing y x) l b ≡ entryIs x y l b
-  bars-there y x y-some y-most x-some x-most =
-      same-tests (bars (standing y x) l b) (entryIs x y l b)
+  there-is : (y x : ℕ) → 0 < y → y ≤ 64 → eqb (standing y x) (standing b l) ≡ entryIs x y l b
+  there-is y x y-some y-most =
+      same-tests (eqb (standing y x) (standing b l)) (entryIs x y l b)
       (λ e.
-      ⊎-elim
-      (λ (t : eqb (standing y x) b ≡ true). let q = eqb-true (standing y x) b t in absurd (omega arith))
-      (λ (t : eqb (standing y x) (standing b l) ≡ true).
-      let q = eqb-true (standing y x) (standing b l) t in
+      let q = eqb-true (standing y x) (standing b l) e in
       and-holds (eq-eqb l x (omega arith)) (eq-eqb b y (omega arith)))
-      (or-parts (eqb (standing y x) b) (eqb (standing y x) (standing b l)) e))
       (λ e.
       let both = and-parts (eqb l x) (eqb b y) e in
-      or-right (eqb (standing y x) b)
-      (eq-eqb (standing y x) (standing b l) (ap₂ standing (sym (eqb-true b y (both .1))) (sym (eqb-true l x (both .0))))))
+      eq-eqb (standing y x) (standing b l) (ap₂ standing (sym (eqb-true b y (both .1))) (sym (eqb-true l x (both .0)))))
 
--- What a constraint bars once w stands at k, by its two sides: the one that w meets bars the other.
-module _ (w k l b : ℕ) (w-some : 0 < w) (w-most : w ≤ 64) (k-some : 0 < k) (k-most : k ≤ 16) (b-some : 0 < b) (b-most : b ≤ 64) (l-most : l ≤ 16) where
+  pub bars-there : (y x : ℕ) → 0 < y → y ≤ 64 → 0 < x → bars (standing y x) l b ≡ entryIs x y l b
+  bars-there y x y-some y-most x-some =
+      ap (λ (t : Bool). t || eqb (standing y x) (standing b l)) (ne-eqb (standing y x) b (λ e. absurd (omega arith)))
+      ∙ there-is y x y-some y-most
+
+  -- nobody
+  pub bars-nobody : (y : ℕ) → y ≡ 0 → bars y l b ≡ false
+  bars-nobody y e = ap₂ _||_ (ne-eqb y b (λ q. absurd (omega arith))) (ne-eqb y (standing b l) (λ q. absurd (omega arith)))
+
+  nobody-there : eqb 0 (standing b l) ≡ false
+  nobody-there = ne-eqb 0 (standing b l) (λ e. absurd (omega arith))
+
+-- What the constraints bar once w stands at k, by the chain of w at k and by the chain of b at l.
+module _ (w k l b : ℕ) (w-some : 0 < w) (w-most : w ≤ 64) (k-most : k ≤ 16) (b-some : 0 < b) (b-most : b ≤ 64) (l-most : l ≤ 16) where
   turned : (x y : ℕ) → entryIs x y k w ≡ (eqb y w && eqb x k)
   turned x y =
       same-tests (entryIs x y k w) (eqb y w && eqb x k)
@@ -337,93 +291,98 @@ module _ (w k l b : ℕ) (w-some : 0 < w) (w-most : w ≤ 64) (k-some : 0 < k) (
   turned-bidder y =
       same-tests (eqb w y) (eqb y w) (λ e. eq-eqb y w (sym (eqb-true w y e))) (λ e. eq-eqb w y (sym (eqb-true y w e)))
 
-  -- w at k meets the first key, and the second bars the entry
-  abbrev meets : ℕ → ℕ → Bool
-  meets x y = bars x k w && bars y l b
+  and-either : (t x y : Bool) → (t && (x || y)) ≡ ((t && x) || (t && y))
+  and-either true x y = refl
+  and-either false x y = refl
 
-  either-side : (owner : ℕ) (kind : Kind) → (owner ≡ 0 → ⊥) → owner ≤ 64 → ProperKind owner kind →
-      (meets (ownerOf kind owner) (otherOf kind) || meets (otherOf kind) (ownerOf kind owner)) ≡ barsAfter w k kind owner l b
-  unfolding barsAfter ownerOf otherOf
-  either-side owner (OwnSlot t) some most proper =
-      ap (λ (u : Bool). (u && bars 0 l b) || (u && bars 0 l b)) (ap₂ _||_ (ne-eqb 0 w (λ e. absurd (omega arith))) (ne-eqb 0 (standing w k) (λ e. absurd (omega arith))))
-  either-side owner (OtherSlot j x) some most proper =
+  -- a constraint whose other is w at k
+  owner-side : (owner : ℕ) (kind : Kind) → (owner ≡ 0 → ⊥) → owner ≤ 64 → ProperKind owner kind →
+      (eqb (otherOf kind) (standing w k) && bars (ownerOf kind owner) l b) ≡ barsOwner w k kind owner l b
+  unfolding barsOwner ownerOf otherOf
+  owner-side owner (OwnSlot t) some most proper = ap (λ (u : Bool). u && bars 0 l b) (nobody-there k w w-some w-most k-most)
+  owner-side owner (OtherSlot j x) some most proper =
       let j-some = proper .0 in
-      let there = bars-there l b b-some b-most l-most (j .0) (x .0) (omega arith) (proper .2) (proper .3) (proper .4) in
-      let there-met = bars-there k w w-some w-most k-most (j .0) (x .0) (omega arith) (proper .2) (proper .3) (proper .4) ∙ turned (x .0) (j .0) in
-      let anywhere = bars-anywhere l b b-some b-most l-most owner (omega arith) most in
-      let anywhere-met = bars-anywhere k w w-some w-most k-most owner (omega arith) most ∙ turned-bidder owner in
-      ap₂ _||_ (ap₂ _&&_ anywhere-met there) (ap₂ _&&_ there-met anywhere)
-  either-side owner (Pair t j x) some most proper =
+      ap₂ _&&_ (there-is k w w-some w-most k-most (j .0) (x .0) (omega arith) (proper .2) ∙ turned (x .0) (j .0))
+      (bars-anywhere l b b-some b-most l-most owner (omega arith) most)
+  owner-side owner (Pair j x t) some most proper =
       let j-some = proper .0 in
-      let there = bars-there l b b-some b-most l-most (j .0) (x .0) (omega arith) (proper .2) (proper .3) (proper .4) in
-      let there-met = bars-there k w w-some w-most k-most (j .0) (x .0) (omega arith) (proper .2) (proper .3) (proper .4) ∙ turned (x .0) (j .0) in
-      let here = bars-there l b b-some b-most l-most owner (t .0) (omega arith) most (proper .5) (proper .6) in
-      let here-met = bars-there k w w-some w-most k-most owner (t .0) (omega arith) most (proper .5) (proper .6) ∙ turned (t .0) owner in
-      ap₂ _||_ (ap₂ _&&_ here-met there) (ap₂ _&&_ there-met here)
+      ap₂ _&&_ (there-is k w w-some w-most k-most (j .0) (x .0) (omega arith) (proper .2) ∙ turned (x .0) (j .0))
+      (bars-there l b b-some b-most l-most owner (t .0) (omega arith) most (proper .5))
+
+  -- a constraint whose other is b at l, and whose owner is w where it says
+  other-side : (owner : ℕ) (kind : Kind) → (owner ≡ 0 → ⊥) → owner ≤ 64 → ProperKind owner kind →
+      (eqb (otherOf kind) (standing b l) && bars (ownerOf kind owner) k w) ≡ barsOther w k kind owner l b
+  unfolding barsOther ownerOf otherOf
+  other-side owner (OwnSlot t) some most proper = ap (λ (u : Bool). u && bars 0 k w) (nobody-there l b b-some b-most l-most)
+  other-side owner (OtherSlot j x) some most proper =
+      let j-some = proper .0 in
+      ap₂ _&&_ (there-is l b b-some b-most l-most (j .0) (x .0) (omega arith) (proper .2))
+      (bars-anywhere k w w-some w-most k-most owner (omega arith) most ∙ turned-bidder owner)
+      ∙ and-comm (entryIs (x .0) (j .0) l b) (eqb owner w)
+  other-side owner (Pair j x t) some most proper =
+      let j-some = proper .0 in
+      ap₂ _&&_ (there-is l b b-some b-most l-most (j .0) (x .0) (omega arith) (proper .2))
+      (bars-there k w w-some w-most k-most owner (t .0) (omega arith) most (proper .5) ∙ turned (t .0) owner)
+      ∙ and-comm (entryIs (x .0) (j .0) l b) (eqb owner w && eqb (t .0) k)
 
   module _ (r : Round) (c : ProperRound r) where
-    abbrev barred-by : ℕ → Bool
-    barred-by i = barsAfter w k (constraintAt r i .kind) (constraintAt r i .owner .0) l b
-
-    sides : (i : ℕ) → i < r .used →
-        (meets (ownerKey (constraintAt r i)) (otherKey (constraintAt r i)) || meets (otherKey (constraintAt r i)) (ownerKey (constraintAt r i))) ≡ barred-by i
-    sides i below =
+    -- the chain of w at k bars what all the constraints that name w there bar to their owners
+    pub owners-barred : barredAlong r (standing w k) (r .used) l b ≡ barredOwner r w k (r .used) l b
+    unfolding someOwner barredOwner
+    owners-barred =
+        any-same (λ i. eqb (linkKey r i) (standing w k) && bars (linkOwner r i) l b)
+        (λ i. barsOwner w k (constraintAt r i .kind) (constraintAt r i .owner .0) l b) (r .used)
+        (λ i below.
         let proper = c .proper (constraintAt r i) (i, below, refl) in
-        either-side (constraintAt r i .owner .0) (constraintAt r i .kind) (proper .owned) (proper .listed) (proper .named)
+        owner-side (constraintAt r i .owner .0) (constraintAt r i .kind) (proper .owned) (proper .listed) (proper .named))
 
-    along : (x n : ℕ) → n < 2 * r .used → eqb (linkKey r n) x ≡ true → bars (linkBars r n) l b ≡ true → barredAlong r x (2 * r .used) l b ≡ true
-    unfolding barredAlong barsAlong
-    along x n below e f = any-at (barsAlong r x l b) (2 * r .used) n below (and-holds e f)
+    -- in the chain of b at l are all the constraints of w that name b there
+    others-barred : someOwner r (standing b l) (λ y. bars y k w) (r .used) ≡ barredOther r w k (r .used) l b
+    unfolding someOwner barredOther
+    others-barred =
+        any-same (λ i. eqb (linkKey r i) (standing b l) && bars (linkOwner r i) k w)
+        (λ i. barsOther w k (constraintAt r i .kind) (constraintAt r i .owner .0) l b) (r .used)
+        (λ i below.
+        let proper = c .proper (constraintAt r i) (i, below, refl) in
+        other-side (constraintAt r i .owner .0) (constraintAt r i .kind) (proper .owned) (proper .listed) (proper .named))
 
-    -- a link that w meets is in one of the two chains
-    met : (n : ℕ) → n < 2 * r .used → meets (linkKey r n) (linkBars r n) ≡ true →
-        (barredAlong r w (2 * r .used) l b || barredAlong r (standing w k) (2 * r .used) l b) ≡ true
-    met n below e =
-        let both = and-parts (bars (linkKey r n) k w) (bars (linkBars r n) l b) e in
-        ⊎-elim
-        (λ (f : eqb (linkKey r n) w ≡ true). or-left (barredAlong r (standing w k) (2 * r .used) l b) (along w n below f (both .1)))
-        (λ (f : eqb (linkKey r n) (standing w k) ≡ true). or-right (barredAlong r w (2 * r .used) l b) (along (standing w k) n below f (both .1)))
-        (or-parts (eqb (linkKey r n) w) (eqb (linkKey r n) (standing w k)) (both .0))
+    -- who is named once w stands at k
+    module _ (held held′ : List ℕ) (f : (y : ℕ) → isHeld held′ y ≡ (isHeld held y || bars y k w)) where
+      either-way : named r held′ (standing b l) (r .used)
+          ≡ (named r held (standing b l) (r .used) || someOwner r (standing b l) (λ y. bars y k w) (r .used))
+      unfolding someOwner
+      either-way =
+          any-same (λ i. eqb (linkKey r i) (standing b l) && isHeld held′ (linkOwner r i))
+          (λ i. (eqb (linkKey r i) (standing b l) && isHeld held (linkOwner r i)) || (eqb (linkKey r i) (standing b l) && bars (linkOwner r i) k w)) (r .used)
+          (λ i below.
+          ap (λ (t : Bool). eqb (linkKey r i) (standing b l) && t) (f (linkOwner r i))
+          ∙ and-either (eqb (linkKey r i) (standing b l)) (isHeld held (linkOwner r i)) (bars (linkOwner r i) k w))
+          ∙ any-or (λ i. eqb (linkKey r i) (standing b l) && isHeld held (linkOwner r i))
+          (λ i. eqb (linkKey r i) (standing b l) && bars (linkOwner r i) k w) (r .used)
 
-    -- and a link of one of them is a side of its constraint
-    side-of : (n : ℕ) → n < 2 * r .used → meets (linkKey r n) (linkBars r n) ≡ true → barredAfter r w k (r .used) l b ≡ true
-    unfolding linkKey linkBars barredAfter
-    side-of n below e = any-at barred-by (r .used) (n / 2) (omega arith) (sym (sides (n / 2) (omega arith)) ∙ by-side (eqb (n % 2) 0) e)
-      where
-        by-side : (t : Bool) →
-            meets (cond t (ownerKey (constraintAt r (n / 2))) (otherKey (constraintAt r (n / 2))))
-            (cond t (otherKey (constraintAt r (n / 2))) (ownerKey (constraintAt r (n / 2)))) ≡ true →
-            (meets (ownerKey (constraintAt r (n / 2))) (otherKey (constraintAt r (n / 2)))
-            || meets (otherKey (constraintAt r (n / 2))) (ownerKey (constraintAt r (n / 2)))) ≡ true
-        by-side true f = or-left (meets (otherKey (constraintAt r (n / 2))) (ownerKey (constraintAt r (n / 2)))) f
-        by-side false f = or-right (meets (ownerKey (constraintAt r (n / 2))) (otherKey (constraintAt r (n / 2)))) f
+      pub named-after : named r held′ (standing b l) (r .used) ≡ (named r held (standing b l) (r .used) || barredOther r w k (r .used) l b)
+      named-after = either-way ∙ ap (λ (t : Bool). named r held (standing b l) (r .used) || t) others-barred
 
-    found : (x : ℕ) → ((n : ℕ) → eqb (linkKey r n) x ≡ true → bars (linkKey r n) k w ≡ true) → barredAlong r x (2 * r .used) l b ≡ true →
-        barredAfter r w k (r .used) l b ≡ true
-    unfolding barredAlong barsAlong
-    found x walked e =
-        let f = any-where (barsAlong r x l b) (2 * r .used) e in
-        let both = and-parts (eqb (linkKey r (f .0)) x) (bars (linkBars r (f .0)) l b) (f .2) in
-        side-of (f .0) (f .1) (and-holds (walked (f .0) (both .0)) (both .1))
+-- nobody is named while no key is true
+pub nobody-named : (r : Round) (x n : ℕ) → named r (replicate 1089 0) x n ≡ false
+unfolding someOwner isHeld
+nobody-named r x n =
+    none-any (λ i. eqb (linkKey r i) x && isHeld (replicate 1089 0) (linkOwner r i)) n
+    (λ i below. ap (λ (y : ℕ). eqb (linkKey r i) x && not (eqb y 0)) (zeros 1089 (linkOwner r i)) ∙ and-false (eqb (linkKey r i) x))
 
-    -- the chains of w at any slot and of w at k bar what all the constraints bar
-    pub both-chains : (barredAlong r w (2 * r .used) l b || barredAlong r (standing w k) (2 * r .used) l b) ≡ barredAfter r w k (r .used) l b
-    unfolding barredAfter
-    both-chains =
-        same-tests (barredAlong r w (2 * r .used) l b || barredAlong r (standing w k) (2 * r .used) l b) (anyBelow barred-by (r .used))
-        (λ e.
-        ⊎-elim
-        (found w (λ n f. or-left (eqb (linkKey r n) (standing w k)) f))
-        (found (standing w k) (λ n f. or-right (eqb (linkKey r n) w) f))
-        (or-parts (barredAlong r w (2 * r .used) l b) (barredAlong r (standing w k) (2 * r .used) l b) e))
-        (λ e.
-        let f = any-where barred-by (r .used) e in
-        let i = f .0 in
-        let below : i < r .used = f .1 in
-        ⊎-elim
-        (λ (g : meets (ownerKey (constraintAt r i)) (otherKey (constraintAt r i)) ≡ true).
-        met (2 * i) (omega arith) (ap₂ meets (owner-link r i) (owner-bars r i) ∙ g))
-        (λ (g : meets (otherKey (constraintAt r i)) (ownerKey (constraintAt r i)) ≡ true).
-        met (suc (2 * i)) (omega arith) (ap₂ meets (other-link r i) (other-bars r i) ∙ g))
-        (or-parts (meets (ownerKey (constraintAt r i)) (otherKey (constraintAt r i))) (meets (otherKey (constraintAt r i)) (ownerKey (constraintAt r i)))
-        (sides i below ∙ f .2)))
+-- a key once a slot is settled, by who won it
+pub held-nobody : (w k : ℕ) (was : Bool) (x : ℕ) → w ≡ 0 → heldNext w k was x ≡ was
+unfolding heldNext
+held-nobody w k was x e = rw e
+
+pub held-somebody : (w k : ℕ) (was : Bool) (x : ℕ) → (w ≡ 0 → ⊥) → heldNext w k was x ≡ (was || bars x k w)
+unfolding heldNext
+held-somebody zero k was x s = absurd (s refl)
+held-somebody (suc w) k was x s = refl
+
+-- where no key changes, nobody else is named
+pub named-same : (r : Round) (held held′ : List ℕ) (x n : ℕ) → ((y : ℕ) → isHeld held′ y ≡ isHeld held y) → named r held′ x n ≡ named r held x n
+unfolding someOwner
+named-same r held held′ x n f =
+    any-same (λ i. eqb (linkKey r i) x && isHeld held′ (linkOwner r i)) (λ i. eqb (linkKey r i) x && isHeld held (linkOwner r i)) n
+    (λ i below. ap (λ (t : Bool). eqb (linkKey r i) x && t) (f (linkOwner r i)))

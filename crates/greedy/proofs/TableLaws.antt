@@ -1,4 +1,4 @@
--- One store in the table bars one slot to one bidder, and a row of it tells who is open for a slot. Assumes nothing.
+-- One store in the table bars one slot to one bidder. Assumes nothing.
 use Prim.Native.Nat.{ℕ, zero, suc, _+_, _*_, _-_, _<_, _≤_}
 use borrow.Author.Tests.{eq-eqb, ne-eqb, eqb-true, le-leb, lt-leb, leb-true}
 use mathlib.Core.Bool.{Bool, true, false, not, _&&_, _||_, and-true, and-false, and-or-distrib-right}
@@ -8,10 +8,9 @@ use mathlib.Core.Path.{_≡_, refl, sym, _∙_, ap, subst}
 use native.Mathlib.Nat.{not-suc-le-zero}
 use native.Mathlib.Omega.{arith}
 use lib.Dec.{eqb, leb}
-use lib.ListN.{length, getD, set, take, drop}
-use lib.Seq.{getD-set-same, getD-set-other, getD-take, getD-drop}
+use lib.ListN.{length, getD, set}
+use lib.Seq.{getD-set-same, getD-set-other}
 use Rattle.basis.proofs.TestLaws.{same-tests, or-parts, or-left, or-right}
-use Rattle.choice.specs.Tables.{openIn}
 use Rattle.auction.proofs.PageLaws.{same-or-not}
 use Rattle.greedy.specs.Barred.{openAt, entryIs}
 
@@ -49,17 +48,13 @@ module _ (table : List ℕ) (x y : ℕ) (size : length table ≡ 1024) (x-some :
       ∙ and-true (eqb (getD table (64 * l + b) 0) 0)))
       (same-or-not (64 * l + b) (64 * (x - 1) + (y - 1)))
 
--- the row of slot x
-pub row-open : (table : List ℕ) (x b start size : ℕ) → 0 < x → start ≡ 64 * (x - 1) → size ≡ 64 → 0 < b → b ≤ 64 →
-    openIn (take size (drop start table)) b ≡ openAt table x b
-unfolding openIn openAt
-row-open table zero b start size x-some at-start full s m = absurd (not-suc-le-zero x-some)
-row-open table (suc x) zero start size x-some at-start full s m = absurd (not-suc-le-zero s)
-row-open table (suc x) (suc b) start size x-some at-start full s m =
-    ap (λ (t : ℕ). eqb t 0)
-    (getD-take size (drop start table) b 0 (omega arith)
-    ∙ getD-drop start table b 0
-    ∙ ap (λ (i : ℕ). getD table i 0) (let e : start + b ≡ 64 * x + b = omega arith in e))
+-- the entry of slot x and bidder y
+pub entry-open : (table : List ℕ) (x y : ℕ) → 0 < x → 0 < y → openAt table x y ≡ eqb (getD table (64 * (x - 1) + (y - 1)) 0) 0
+unfolding openAt
+entry-open table zero y x-some y-some = absurd (not-suc-le-zero x-some)
+entry-open table (suc x) zero x-some y-some = absurd (not-suc-le-zero y-some)
+entry-open table (suc x) (suc y) x-some y-some =
+    ap (λ (i : ℕ). eqb (getD table i 0) 0) (let e : 64 * x + y ≡ 64 * (suc x - 1) + (suc y - 1) = omega arith in e)
 
 -- two reasons to be barred, one after the other
 pub barred-also : (a x y : Bool) → ((a && not x) && not y) ≡ (a && not (x || y))

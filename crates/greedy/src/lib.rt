@@ -1,24 +1,25 @@
 // The greedy page and its prices, from one pass over the constraints.
 //
-// The engine keeps a table with a byte for each slot and bidder, 64 bidders a slot: 0 while the bidder is open for the slot. At the
-// start it holds the own-slot constraints; each winner adds what it now bars. So who wins a slot, and what the winner must outbid,
-// is read off one row of the table.
+// A candidate is eligible for a slot where neither its own constraints nor those of an earlier winner are broken. A table tells the first:
+// a byte for each slot and bidder, 64 bidders a slot, which is 0 while the bidder has no slot and no constraint of its own bars it from this
+// one. At the start it holds the own-slot constraints; each winner adds the constraints that name it where it stands.
 //
-// Any other constraint says that two bidders may not stand where it names them. It has two links: one in the chain of the owner at
-// its slot, which bars the other, and one in the chain of the other at its slot, which bars the owner. So a winner meets only the
-// constraints that touch it at its slot. A chain goes from the last link of a key (`last`) to the one before it (`earlier`), and
-// `barring` has what each link bars. Links are counted from 1 there, and 0 ends a chain.
-ghost use mathlib.Core.Bool.{Bool, not, _&&_};
+// Any other constraint is a link in the chain of its other bidder at the other's slot. So those that name a candidate at a slot are along one
+// chain, and one of an earlier winner among them rules the candidate out; and those that name a winner where it stands are along one
+// chain too. A chain is walked once for a candidate and once for a winner. It goes from the last link of a key (`last`) to the one before it
+// (`earlier`), and so on; links are counted from 1 there, and 0 ends a chain. `owners` has for each link the key of its owner where the
+// constraint says, and `held` a 1 for each key that is true of the page.
+ghost use mathlib.Core.Bool.{Bool, not, _&&_, _||_};
 ghost use mathlib.Core.Path.{_≡_};
 ghost use Prim.Native.Nat.{ℕ, suc, _*_, _<_, _≤_};
 ghost use lib.Dec.{eqb};
-ghost use lib.ListN.{length, getD, set};
+ghost use lib.ListN.{length, getD};
 ghost use Rattle.auction.specs.Broken.{constraintAt};
 ghost use Rattle.auction.specs.Proper.{Proper, ProperRound};
 ghost use Rattle.greedy.specs.Outcome.{outcomeOf};
-ghost use Rattle.greedy.specs.Barred.{openAt, entryIs, barsOwn, barredOwn, barredAfter, openAfter, Awarded};
-ghost use Rattle.greedy.specs.Chains.{standing, bars, ownerKey, otherKey, Falling, Chained, barredAlong};
-ghost use Rattle.choice.specs.Ranking.{InOrder};
+ghost use Rattle.greedy.specs.Barred.{openAt, entryIs, barsOwn, barredOwn, barredOwner, openNext};
+ghost use Rattle.greedy.specs.Chains.{standing, bars, ownerKey, otherKey, Falling, Chained, barredAlong, isHeld, heldNext, named, free, Awarded};
+ghost use Rattle.choice.specs.Ranking.{InOrder, NextAt};
 ghost use Rattle.choice.specs.Tables.{bidIn};
 use sheet::Bidder;
 use sheet::Constraint;
@@ -29,8 +30,8 @@ use sheet::Slot;
 
 // A key for each of 64 bidders at each of 16 slots and at any slot, counted from 1.
 const KEYS: usize = 1089;
-// Two links for each of 1,024 constraints ("0 to 1,024").
-const LINKS: usize = 2048;
+// A link for each of 1,024 constraints ("0 to 1,024").
+const LINKS: usize = 1024;
 
 // A played round: its page and the price of each slot, 0 for an empty one.
 pub struct Outcome {
@@ -91,38 +92,22 @@ fn bar_standing(table: &mut [u8], key: usize)
     bar(table, Slot(slot as u8), bidder);
 }
 
-// A link is added to the chain of its key: it is the key's last one now, and the last one until now comes before it.
+// A constraint becomes the last link of its key, and the last one until now comes before it.
 fn link(
     last: &mut [u16],
     earlier: &mut [u16],
-    barring: &mut [u16],
+    owners: &mut [u32],
     key: usize,
-    barred: usize,
+    owner: usize,
     number: usize,
 )
-    requires { ⌜ Falling number (now last) (now earlier) (now barring) × ((key ≤ 1088) × (barred ≤ 1088) × (number < 2048)) ⌝ }
-    ensures { λ r. ⌜ (now (last .exit) ≡ set (now (last .entry)) key (suc number)) × (now (earlier .exit) ≡ set (now (earlier .entry)) number (getD (now (last .entry)) key 0)) × (now (barring .exit) ≡ set (now (barring .entry)) number barred) ⌝ }
+    requires { ⌜ Falling number (now last) (now earlier) (now owners) × ((key ≤ 1088) × (owner ≤ 1088) × (number < 1024)) ⌝ }
+    ensures { λ r. ⌜ Falling (suc number) (now (last .exit)) (now (earlier .exit)) (now (owners .exit)) ⌝ }
+    ensures { λ r. ⌜ ((r : Round) → key ≡ otherKey (constraintAt r number) → owner ≡ ownerKey (constraintAt r number) → Chained r number (now (last .entry)) (now (earlier .entry)) (now (owners .entry)) → Chained r (suc number) (now (last .exit)) (now (earlier .exit)) (now (owners .exit))) ⌝ }
 {
     earlier[number] = last[key];
     last[key] = (number + 1) as u16;
-    barring[number] = barred as u16;
-}
-
-// The two links of a constraint: each of its sides bars the other.
-fn link_both(
-    last: &mut [u16],
-    earlier: &mut [u16],
-    barring: &mut [u16],
-    owner: usize,
-    other: usize,
-    number: usize,
-)
-    requires { ⌜ Falling (2 * number) (now last) (now earlier) (now barring) × ((owner ≤ 1088) × (other ≤ 1088) × (number < 1024)) ⌝ }
-    ensures { λ r. ⌜ Falling (2 * suc number) (now (last .exit)) (now (earlier .exit)) (now (barring .exit)) ⌝ }
-    ensures { λ r. ⌜ ((r : Round) → owner ≡ ownerKey (constraintAt r number) → other ≡ otherKey (constraintAt r number) → Chained r (2 * number) (now (last .entry)) (now (earlier .entry)) (now (barring .entry)) → Chained r (2 * suc number) (now (last .exit)) (now (earlier .exit)) (now (barring .exit))) ⌝ }
-{
-    link(last, earlier, barring, owner, other, 2 * number);
-    link(last, earlier, barring, other, owner, 2 * number + 1);
+    owners[number] = owner as u32;
 }
 
 // One more constraint: an own-slot constraint is held in the table, and another is linked.
@@ -130,15 +115,15 @@ fn enter(
     table: &mut [u8],
     last: &mut [u16],
     earlier: &mut [u16],
-    barring: &mut [u16],
+    owners: &mut [u32],
     constraint: Constraint,
     number: usize,
 )
     requires { ⌜ (length (now table) ≡ 1024) × Proper constraint × (number < 1024) ⌝ }
-    requires { ⌜ Falling (2 * number) (now last) (now earlier) (now barring) ⌝ }
+    requires { ⌜ Falling number (now last) (now earlier) (now owners) ⌝ }
     ensures { λ r. ⌜ ((l b : ℕ) → l ≤ 16 → b ≤ 64 → openAt (now (table .exit)) l b ≡ (openAt (now (table .entry)) l b && not (barsOwn (constraint .kind) (constraint .owner .0) l b))) ⌝ }
-    ensures { λ r. ⌜ Falling (2 * suc number) (now (last .exit)) (now (earlier .exit)) (now (barring .exit)) ⌝ }
-    ensures { λ r. ⌜ ((r : Round) → constraintAt r number ≡ constraint → Chained r (2 * number) (now (last .entry)) (now (earlier .entry)) (now (barring .entry)) → Chained r (2 * suc number) (now (last .exit)) (now (earlier .exit)) (now (barring .exit))) ⌝ }
+    ensures { λ r. ⌜ Falling (suc number) (now (last .exit)) (now (earlier .exit)) (now (owners .exit)) ⌝ }
+    ensures { λ r. ⌜ ((r : Round) → constraintAt r number ≡ constraint → Chained r number (now (last .entry)) (now (earlier .entry)) (now (owners .entry)) → Chained r (suc number) (now (last .exit)) (now (earlier .exit)) (now (owners .exit))) ⌝ }
 {
     let owner = constraint.owner;
     let kind = constraint.kind;
@@ -149,12 +134,12 @@ fn enter(
         Kind::OtherSlot(other, slot) => {
             let anywhere = standing_key(owner, Slot(0));
             let there = standing_key(other, slot);
-            link_both(last, earlier, barring, anywhere, there, number);
+            link(last, earlier, owners, there, anywhere, number);
         }
-        Kind::Pair(own, other, slot) => {
+        Kind::Pair(other, slot, own) => {
             let here = standing_key(owner, own);
             let there = standing_key(other, slot);
-            link_both(last, earlier, barring, here, there, number);
+            link(last, earlier, owners, there, here, number);
         }
     }
 }
@@ -164,78 +149,183 @@ fn enter_all(
     table: &mut [u8],
     last: &mut [u16],
     earlier: &mut [u16],
-    barring: &mut [u16],
+    owners: &mut [u32],
     round: Round,
 )
     requires { ⌜ (length (now table) ≡ 1024) × ProperRound round ⌝ }
-    requires { ⌜ Falling 0 (now last) (now earlier) (now barring) × Chained round 0 (now last) (now earlier) (now barring) ⌝ }
+    requires { ⌜ Falling 0 (now last) (now earlier) (now owners) × Chained round 0 (now last) (now earlier) (now owners) ⌝ }
     ensures { λ r. ⌜ ((l b : ℕ) → l ≤ 16 → b ≤ 64 → openAt (now (table .exit)) l b ≡ (openAt (now (table .entry)) l b && not (barredOwn round (round .used) l b))) ⌝ }
-    ensures { λ r. ⌜ Falling (2 * round .used) (now (last .exit)) (now (earlier .exit)) (now (barring .exit)) × Chained round (2 * round .used) (now (last .exit)) (now (earlier .exit)) (now (barring .exit)) ⌝ }
+    ensures { λ r. ⌜ Falling (round .used) (now (last .exit)) (now (earlier .exit)) (now (owners .exit)) × Chained round (round .used) (now (last .exit)) (now (earlier .exit)) (now (owners .exit)) ⌝ }
 {
     let used = round.used;
     let mut i = 0;
     while i < used {
-        enter(table, last, earlier, barring, round.constraints[i], i);
+        enter(table, last, earlier, owners, round.constraints[i], i);
         i += 1;
     }
 }
 
-// What the links along the chain of one key bar.
-fn bar_chain(table: &mut [u8], last: &[u16], earlier: &[u16], barring: &[u16], key: usize)
+// What the owners of the links along the chain of one key are barred from.
+fn bar_chain(table: &mut [u8], last: &[u16], earlier: &[u16], owners: &[u32], key: usize)
     requires { ⌜ (length (now table) ≡ 1024) × ((0 < key) × (key ≤ 1088)) ⌝ }
-    requires { ⌜ Falling 2048 (now last) (now earlier) (now barring) ⌝ }
-    ensures { λ r. ⌜ ((r : Round) → Chained r (2 * r .used) (now (last .entry)) (now (earlier .entry)) (now (barring .entry)) → (l b : ℕ) → l ≤ 16 → b ≤ 64 → openAt (now (table .exit)) l b ≡ (openAt (now (table .entry)) l b && not (barredAlong r key (2 * r .used) l b))) ⌝ }
+    requires { ⌜ Falling 1024 (now last) (now earlier) (now owners) ⌝ }
+    ensures { λ r. ⌜ ((r : Round) → Chained r (r .used) (now (last .entry)) (now (earlier .entry)) (now (owners .entry)) → (l b : ℕ) → l ≤ 16 → b ≤ 64 → openAt (now (table .exit)) l b ≡ (openAt (now (table .entry)) l b && not (barredAlong r key (r .used) l b))) ⌝ }
 {
     let mut next = last[key] as usize;
     while next != 0 {
         let number = next - 1;
-        bar_standing(table, barring[number] as usize);
+        bar_standing(table, owners[number] as usize);
         next = earlier[number] as usize;
     }
 }
 
-// The table once the winner stands at its slot: it has no other slot, and each constraint bars what it now bars. Only those that
-// speak of the winner there, or at any slot, can bar something.
-fn seat(table: &mut [u8], last: &[u16], earlier: &[u16], barring: &[u16], winner: Bidder, at: Slot)
-    requires { ⌜ (length (now table) ≡ 1024) × Falling 2048 (now last) (now earlier) (now barring) ⌝ }
+// The table once the winner stands at its slot: it has no other slot, and a constraint that names it there bars its owner.
+fn seat(table: &mut [u8], last: &[u16], earlier: &[u16], owners: &[u32], winner: Bidder, at: Slot)
+    requires { ⌜ (length (now table) ≡ 1024) × Falling 1024 (now last) (now earlier) (now owners) ⌝ }
     requires { ⌜ ((0 < winner .0) × (winner .0 ≤ 64)) × ((0 < at .0) × (at .0 ≤ 16)) ⌝ }
-    ensures { λ r. ⌜ ((r : Round) → ProperRound r → Chained r (2 * r .used) (now (last .entry)) (now (earlier .entry)) (now (barring .entry)) → (l b : ℕ) → l ≤ 16 → b ≤ 64 → openAt (now (table .exit)) l b ≡ ((openAt (now (table .entry)) l b && not (eqb b (winner .0))) && not (barredAfter r (winner .0) (at .0) (r .used) l b))) ⌝ }
+    ensures { λ r. ⌜ ((r : Round) → ProperRound r → Chained r (r .used) (now (last .entry)) (now (earlier .entry)) (now (owners .entry)) → (l b : ℕ) → l ≤ 16 → b ≤ 64 → openAt (now (table .exit)) l b ≡ ((openAt (now (table .entry)) l b && not (eqb b (winner .0))) && not (barredOwner r (winner .0) (at .0) (r .used) l b))) ⌝ }
 {
     bar_everywhere(table, winner);
-    let anywhere = standing_key(winner, Slot(0));
-    bar_chain(table, last, earlier, barring, anywhere);
     let here = standing_key(winner, at);
-    bar_chain(table, last, earlier, barring, here);
+    bar_chain(table, last, earlier, owners, here);
 }
 
-// The table once a slot is settled: as it was where nobody won it.
+// The keys that are true once the winner stands at its slot: it does so there, and at any slot.
+fn hold(held: &mut [u8], winner: Bidder, at: Slot)
+    requires { ⌜ (length (now held) ≡ 1089) × (winner .0 ≤ 64) × (at .0 ≤ 16) ⌝ }
+    ensures { λ r. ⌜ ((x : ℕ) → isHeld (now (held .exit)) x ≡ (isHeld (now (held .entry)) x || bars x (at .0) (winner .0))) ⌝ }
+{
+    let anywhere = standing_key(winner, Slot(0));
+    held[anywhere] = 1;
+    let there = standing_key(winner, at);
+    held[there] = 1;
+}
+
+// The table and the keys once a slot is settled: as they were where nobody won it.
 fn settle(
     table: &mut [u8],
+    held: &mut [u8],
     last: &[u16],
     earlier: &[u16],
-    barring: &[u16],
+    owners: &[u32],
     winner: Bidder,
     at: Slot,
 )
-    requires { ⌜ (length (now table) ≡ 1024) × Falling 2048 (now last) (now earlier) (now barring) ⌝ }
+    requires { ⌜ (length (now table) ≡ 1024) × (length (now held) ≡ 1089) × Falling 1024 (now last) (now earlier) (now owners) ⌝ }
     requires { ⌜ (winner .0 ≤ 64) × ((0 < at .0) × (at .0 ≤ 16)) ⌝ }
-    ensures { λ r. ⌜ ((r : Round) → ProperRound r → Chained r (2 * r .used) (now (last .entry)) (now (earlier .entry)) (now (barring .entry)) → (l b : ℕ) → l ≤ 16 → b ≤ 64 → openAt (now (table .exit)) l b ≡ openAfter r (winner .0) (at .0) (openAt (now (table .entry)) l b) l b) ⌝ }
+    ensures { λ r. ⌜ ((r : Round) → ProperRound r → Chained r (r .used) (now (last .entry)) (now (earlier .entry)) (now (owners .entry)) → (l b : ℕ) → l ≤ 16 → b ≤ 64 → openAt (now (table .exit)) l b ≡ openNext r (winner .0) (at .0) (openAt (now (table .entry)) l b) l b) ⌝ }
+    ensures { λ r. ⌜ ((x : ℕ) → isHeld (now (held .exit)) x ≡ heldNext (winner .0) (at .0) (isHeld (now (held .entry)) x) x) ⌝ }
 {
     if winner.0 != 0 {
-        seat(table, last, earlier, barring, winner, at);
+        seat(table, last, earlier, owners, winner, at);
+        hold(held, winner, at);
     }
 }
 
-// The winner of a slot and what it pays, read off the slot's row of the table.
-fn award_slot(ranked: &[u8], table: &[u8], bids: &[u32], bidders: usize, slot: Slot) -> Award
-    requires { ⌜ (length (now table) ≡ 1024) × (bidders ≤ 64) × (bidders ≤ length (now bids)) ⌝ }
-    requires { ⌜ (0 < slot .0) × (slot .0 ≤ 16) ⌝ }
-    requires { ⌜ InOrder (bidIn (now bids)) bidders (now ranked) × ((i : ℕ) → i < bidders → getD (now bids) i 0 ≤ 1000000000) ⌝ }
-    ensures { λ r. ⌜ Awarded (openAt (now (table .entry)) (slot .0)) (bidIn (now (bids .entry))) bidders (r .winner .0) (r .price) ⌝ }
+// Whether a constraint along the chain of one key has its owner where it says: then it would be broken.
+fn is_named(held: &[u8], last: &[u16], earlier: &[u16], owners: &[u32], key: usize) -> bool
+    requires { ⌜ (length (now held) ≡ 1089) × ((0 < key) × (key ≤ 1088)) ⌝ }
+    requires { ⌜ Falling 1024 (now last) (now earlier) (now owners) ⌝ }
+    ensures { λ r. ⌜ ((q : Round) → Chained q (q .used) (now (last .entry)) (now (earlier .entry)) (now (owners .entry)) → r ≡ named q (now (held .entry)) key (q .used)) ⌝ }
 {
-    let start = 64 * (slot.0 as usize - 1);
-    let open = &table[start..start + 64];
-    let placing = choice::placing_of(ranked, open, bids, bidders);
+    let mut next = last[key] as usize;
+    while next != 0 {
+        let number = next - 1;
+        let owner = owners[number] as usize;
+        if held[owner] != 0 {
+            return true;
+        }
+        next = earlier[number] as usize;
+    }
+    false
+}
+
+// Whether a candidate is eligible: the table has no mark for it, and no earlier winner's constraint names it.
+fn is_free(
+    table: &[u8],
+    held: &[u8],
+    last: &[u16],
+    earlier: &[u16],
+    owners: &[u32],
+    bidder: Bidder,
+    slot: Slot,
+) -> bool
+    requires { ⌜ (length (now table) ≡ 1024) × (length (now held) ≡ 1089) × Falling 1024 (now last) (now earlier) (now owners) ⌝ }
+    requires { ⌜ ((0 < bidder .0) × (bidder .0 ≤ 64)) × ((0 < slot .0) × (slot .0 ≤ 16)) ⌝ }
+    ensures { λ r. ⌜ ((q : Round) → Chained q (q .used) (now (last .entry)) (now (earlier .entry)) (now (owners .entry)) → r ≡ free q (now (table .entry)) (now (held .entry)) (slot .0) (bidder .0)) ⌝ }
+{
+    let l = slot.0 as usize - 1;
+    let b = bidder.0 as usize - 1;
+    if table[64 * l + b] != 0 {
+        return false;
+    }
+    let key = standing_key(bidder, slot);
+    let is_barred = is_named(held, last, earlier, owners, key);
+    !is_barred
+}
+
+// The first index from `start` on whose bidder is eligible, or the number of bidders.
+fn next_free(
+    ranked: &[u8],
+    table: &[u8],
+    held: &[u8],
+    last: &[u16],
+    earlier: &[u16],
+    owners: &[u32],
+    bidders: usize,
+    slot: Slot,
+    start: usize,
+) -> usize
+    requires { ⌜ (length (now table) ≡ 1024) × (length (now held) ≡ 1089) × Falling 1024 (now last) (now earlier) (now owners) ⌝ }
+    requires { ⌜ (start ≤ bidders) × (bidders ≤ 64) × (bidders ≤ length (now ranked)) × ((0 < slot .0) × (slot .0 ≤ 16)) ⌝ }
+    requires { ⌜ ((i : ℕ) → i < bidders → (0 < getD (now ranked) i 0) × (getD (now ranked) i 0 ≤ bidders)) ⌝ }
+    ensures { λ r. ⌜ r ≤ bidders ⌝ }
+    ensures { λ r. ⌜ ((q : Round) → Chained q (q .used) (now (last .entry)) (now (earlier .entry)) (now (owners .entry)) → NextAt (free q (now (table .entry)) (now (held .entry)) (slot .0)) (now (ranked .entry)) bidders start r) ⌝ }
+{
+    let mut i: usize = start;
+    while i < bidders {
+        let bidder = Bidder(ranked[i]);
+        if is_free(table, held, last, earlier, owners, bidder, slot) {
+            return i;
+        }
+        i += 1;
+    }
+    i
+}
+
+// The winner of a slot and what it pays: the first two eligible bidders in the order in which they win are the winner and who sets its price.
+fn award_slot(
+    ranked: &[u8],
+    table: &[u8],
+    held: &[u8],
+    last: &[u16],
+    earlier: &[u16],
+    owners: &[u32],
+    bids: &[u32],
+    bidders: usize,
+    slot: Slot,
+) -> Award
+    requires { ⌜ (length (now table) ≡ 1024) × (length (now held) ≡ 1089) × Falling 1024 (now last) (now earlier) (now owners) ⌝ }
+    requires { ⌜ (bidders ≤ 64) × (bidders ≤ length (now bids)) × ((0 < slot .0) × (slot .0 ≤ 16)) ⌝ }
+    requires { ⌜ InOrder (bidIn (now bids)) bidders (now ranked) × ((i : ℕ) → i < bidders → getD (now bids) i 0 ≤ 1000000000) ⌝ }
+    ensures { λ r. ⌜ ((q : Round) → Chained q (q .used) (now (last .entry)) (now (earlier .entry)) (now (owners .entry)) → Awarded (free q (now (table .entry)) (now (held .entry)) (slot .0)) (bidIn (now (bids .entry))) bidders (r .winner .0) (r .price)) ⌝ }
+{
+    let first = next_free(ranked, table, held, last, earlier, owners, bidders, slot, 0);
+    let mut second = bidders;
+    if first < bidders {
+        second = next_free(
+            ranked,
+            table,
+            held,
+            last,
+            earlier,
+            owners,
+            bidders,
+            slot,
+            first + 1,
+        );
+    }
+    let placing = choice::placing_at(ranked, bids, bidders, first, second);
     let winner = placing.winner;
     Award {
         winner,
@@ -249,10 +339,11 @@ pub fn played(round: Round) -> Outcome
     ensures { λ r. ⌜ r ≡ outcomeOf round ⌝ }
 {
     let mut table = [0u8; 1024];
+    let mut held = [0u8; KEYS];
     let mut last = [0u16; KEYS];
     let mut earlier = [0u16; LINKS];
-    let mut barring = [0u16; LINKS];
-    enter_all(&mut table, &mut last, &mut earlier, &mut barring, round);
+    let mut owners = [0u32; LINKS];
+    enter_all(&mut table, &mut last, &mut earlier, &mut owners, round);
     let bids = round.bids;
     let bidders = round.bidders;
     let ranked = choice::ranking_of(&bids, bidders);
@@ -261,11 +352,29 @@ pub fn played(round: Round) -> Outcome
     let mut k: usize = 0;
     while k < round.slots {
         let slot = Slot((k + 1) as u8);
-        let awarded = award_slot(&ranked, &table, &bids, bidders, slot);
+        let awarded = award_slot(
+            &ranked,
+            &table,
+            &held,
+            &last,
+            &earlier,
+            &owners,
+            &bids,
+            bidders,
+            slot,
+        );
         let winner = awarded.winner;
         page = auction::with_bidder(page, slot, winner);
         prices[k] = awarded.price;
-        settle(&mut table, &last, &earlier, &barring, winner, slot);
+        settle(
+            &mut table,
+            &mut held,
+            &last,
+            &earlier,
+            &owners,
+            winner,
+            slot,
+        );
         k += 1;
     }
     Outcome { page, prices }

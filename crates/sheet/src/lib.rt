@@ -26,8 +26,8 @@ pub enum Kind {
     OwnSlot(Slot),
     // "other's place only": the other bidder and its slot, wherever the owner stands
     OtherSlot(Bidder, Slot),
-    // "the pair of them": the owner's slot, the other bidder and its slot
-    Pair(Slot, Bidder, Slot),
+    // "the pair of them": the other bidder and its slot, where the kind above has them too, and the owner's slot
+    Pair(Bidder, Slot, Slot),
 }
 
 // A constraint ("condition" in document 01) with its owner.

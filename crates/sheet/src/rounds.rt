@@ -19,7 +19,7 @@ use basis::word32;
 fn kind_of(own: u8, other: u8, others: u8) -> Kind
     ensures { λ r. ⌜ r ≡ kindOf own other others ⌝ }
 {
-    let mut kind = Kind::Pair(Slot(own), Bidder(other), Slot(others));
+    let mut kind = Kind::Pair(Bidder(other), Slot(others), Slot(own));
     if own == 0 {
         kind = Kind::OtherSlot(Bidder(other), Slot(others));
     }

@@ -52,7 +52,7 @@ fn kind_parts(kind: Kind) {
             line::byte(b", other ", other.0);
             line::byte(b" at place ", others.0);
         }
-        Kind::Pair(own, other, others) => {
+        Kind::Pair(other, others, own) => {
             line::byte(b", own place ", own.0);
             line::byte(b", other ", other.0);
             line::byte(b" at place ", others.0);

@@ -1,27 +1,32 @@
 -- `greedy::bar_chain` meets its contract: each turn bars what one link bars, and goes to the one before it with the same key.
 -- Assumes nothing.
-use Prim.Native.Nat.{ℕ, _*_, _-_, _≤_}
+use Prim.Native.Nat.{ℕ, _-_, _≤_}
+use mathlib.Core.Bool.{Bool, not, _&&_, and-true}
 use mathlib.Core.List.{List}
-use mathlib.Core.Path.{_≡_, sym, _∙_}
+use mathlib.Core.Path.{_≡_, sym, _∙_, ap}
 use native.Mathlib.Omega.{arith}
-use lib.ListN.{length}
+use lib.ListN.{length, getD}
 use Rattle.sheet.specs.declared.Round.{Round}
-use Rattle.greedy.specs.Chains.{Chained}
-use Rattle.greedy.proofs.ChainLaws.{Walking, walk-start, walk-next, walk-end}
+use Rattle.greedy.specs.Barred.{openAt}
+use Rattle.greedy.specs.Chains.{bars, Chained, barredAlong}
+use Rattle.greedy.proofs.TableLaws.{barred-also}
+use Rattle.greedy.proofs.ChainLaws.{Walking, walk-start, all-from-last, walk-next, one-then-rest, none-left}
 use Rattle.greedy.proofs.bar_chain.Statement.{statement}
 use Rattle.greedy.proofs.bar_chain.Tie as tie
 
 -- on the way along the chain of the key, for whichever round has these chains
-record Going (table₀ last earlier barring : List ℕ) (key : ℕ) (table : List ℕ) (next : ℕ) : Type 0 where
-  some : next ≤ 2048
+record Going (table₀ last earlier owners : List ℕ) (key : ℕ) (table : List ℕ) (next : ℕ) : Type 0 where
+  some : next ≤ 1024
   size : length table ≡ 1024
-  walks : (r : Round) → Chained r (2 * r .used) last earlier barring → Walking r key table₀ table next
+  walks : (r : Round) → Chained r (r .used) last earlier owners → Walking r key next
+  left : (r : Round) → Chained r (r .used) last earlier owners → (l b : ℕ) → l ≤ 16 → b ≤ 64 →
+      (openAt table₀ l b && not (barredAlong r key (r .used) l b)) ≡ (openAt table l b && not (barredAlong r key next l b))
 
 abbrev Inv-loop : tie.InvT-loop
-Inv-loop table₀ last earlier barring key next₀ table next = Going table₀ last earlier barring key table next
+Inv-loop table₀ last earlier owners key next₀ table next = Going table₀ last earlier owners key table next
 
 abbrev μ-loop : tie.MeasureT-loop
-μ-loop table₀ last earlier barring key next₀ table next = next
+μ-loop table₀ last earlier owners key next₀ table next = next
 
 mul-next : tie.Need-mul-next Inv-loop μ-loop
 mul-next c =
@@ -50,7 +55,10 @@ loop-holds c =
     record {
       some = falls .last-within (a .key);
       size = c .before .before .before .before .before .pre .0 .0;
-      walks = λ r h. walk-start r (a .key) (a .last .now) (a .earlier .now) (a .barring .now) some-key h (a .table .now) most-key;
+      walks = λ r h. walk-start r (a .key) (a .last .now) (a .earlier .now) (a .owners .now) some-key h most-key;
+      left = λ r h l b l-most b-most.
+          ap (λ (t : Bool). openAt (a .table .now) l b && not t)
+          (all-from-last r (a .key) (a .last .now) (a .earlier .now) (a .owners .now) some-key h most-key (λ y. bars y l b));
     }
 
 sub-number : tie.Need-sub-number Inv-loop μ-loop
@@ -84,7 +92,7 @@ cast-bar-standing c =
     let v = c .before .before .before .loop .inv in
     let next = c .before .before .before .loop .next in
     let going = c .before .before .loop-test .taken in
-    omega (arith, falls .barring-within (next - 1))
+    omega (arith, falls .owners-within (next - 1))
 
 bar-standing-requires : tie.Need-bar-standing-requires Inv-loop μ-loop
 bar-standing-requires c κs =
@@ -93,7 +101,7 @@ bar-standing-requires c κs =
     let v = c .before .before .before .loop .inv in
     let next = c .before .before .before .loop .next in
     let going = c .before .before .loop-test .taken in
-    (v .size, falls .barring-within (next - 1))
+    (v .size, falls .owners-within (next - 1))
 
 mul-next-2 : tie.Need-mul-next-2 Inv-loop μ-loop
 mul-next-2 c =
@@ -141,17 +149,28 @@ loop-again c =
       some = omega (arith, falls .earlier-within (next - 1));
       size = c .before .before .before .bar-standing .kept .0 ∙ v .size;
       walks = λ r h.
-          walk-next r (a .key) (a .last .now) (a .earlier .now) (a .barring .now) some-key h (a .table .now) (c .before .before .before .before .before .before .before .loop .table) _ next (next - 1)
-          (omega arith) (v .walks r h) (c .before .before .before .bar-standing .ensures);
+          walk-next r (a .key) (a .last .now) (a .earlier .now) (a .owners .now) some-key h next (next - 1) (omega arith) (v .walks r h);
+      left = λ r h l b l-most b-most.
+          let t₀ = c .before .before .before .before .before .before .before .loop .table in
+          v .left r h l b l-most b-most
+          ∙ ap (λ (t : Bool). openAt t₀ l b && not t)
+          (one-then-rest r (a .key) (a .last .now) (a .earlier .now) (a .owners .now) some-key h next (next - 1) (omega arith) (v .walks r h) (λ y. bars y l b))
+          ∙ sym (barred-also (openAt t₀ l b) (bars (getD (a .owners .now) (next - 1) 0) l b) _)
+          ∙ ap (λ (t : Bool). t && not (barredAlong r (a .key) (getD (a .earlier .now) (next - 1) 0) l b))
+          (sym (c .before .before .before .bar-standing .ensures l b l-most b-most));
     }
 
 same-length : tie.Need-same-length Inv-loop μ-loop
 same-length c = c .before .loop .inv .size ∙ sym (c .before .before .before .before .before .before .before .pre .0 .0)
 
 returns : tie.Need-returns Inv-loop μ-loop
-returns c = λ r h.
-    walk-end r (c .before .before .before .before .before .before .before .args .key) (c .before .before .before .before .before .before .before .args .table .now) (c .before .loop .table) (c .before .loop .next)
-    (c .before .loop .inv .walks r h) (c .loop-test .left)
+returns c = λ r h l b l-most b-most.
+    let v = c .before .loop .inv in
+    let table = c .before .loop .table in
+    sym
+    (v .left r h l b l-most b-most
+    ∙ ap (λ (t : Bool). openAt table l b && not t) (none-left r _ (c .before .loop .next) (λ y. bars y l b) (c .loop-test .left))
+    ∙ and-true (openAt table l b))
 
 pub bar-chain-spec : {M : Type 1} → statement M
 bar-chain-spec =

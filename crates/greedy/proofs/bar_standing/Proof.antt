@@ -85,7 +85,7 @@ returns-3 c =
     c .before .before .bar .ensures l b l-most b-most
     ∙ nobody-open table l b (entryIs x y l b) (bars key l b)
     (λ b-some.
-    sym (bars-there l b b-some b-most l-most y x (omega arith) (omega arith) (omega arith) (omega arith)) ∙ ap (λ (z : ℕ). bars z l b) same)
+    sym (bars-there l b b-some b-most l-most y x (omega arith) (omega arith) (omega arith)) ∙ ap (λ (z : ℕ). bars z l b) same)
 
 pub bar-standing-spec : {M : Type 1} → statement M
 bar-standing-spec =

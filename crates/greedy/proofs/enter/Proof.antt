@@ -1,6 +1,6 @@
 -- `greedy::enter` meets its contract: an own-slot constraint bars its slot to its owner, and the other kinds bar nothing yet and are
 -- linked. Assumes nothing.
-use Prim.Native.Nat.{suc, _*_}
+use Prim.Native.Nat.{suc}
 use mathlib.Core.Bool.{not, _&&_, and-true}
 use mathlib.Core.Path.{_≡_, sym, _∙_, ap, subst}
 use native.Mathlib.Omega.{arith}
@@ -8,7 +8,7 @@ use Rattle.sheet.specs.declared.Kind.{Kind}
 use Rattle.auction.specs.Proper.{ProperKind}
 use Rattle.greedy.specs.Barred.{openAt, barsOwn}
 use Rattle.greedy.specs.Chains.{ownerOf, otherOf, ownerKey, otherKey}
-use Rattle.greedy.proofs.ChainLaws.{falling-more, chained-own}
+use Rattle.greedy.proofs.ChainLaws.{falling-more, chained-skip}
 use borrow.Author.Needs.{needs}
 use Rattle.greedy.proofs.enter.Statement.{statement}
 use Rattle.greedy.proofs.enter.Tie as tie
@@ -44,8 +44,8 @@ standing-key-requires-2 c κs =
     let x-most = named .4 in
     (omega arith, omega arith)
 
-link-both-requires : tie.Need-link-both-requires
-link-both-requires c κs =
+link-requires : tie.Need-link-requires
+link-requires c κs =
     let q = c .before .before .before .before .before .before .before .before .before .before .before .before .before .args .constraint in
     let p = c .before .before .before .before .before .before .before .before .before .before .before .before .before .pre in
     let e = c .before .before .before .before .before .before .kind2 .given .1 in
@@ -87,8 +87,8 @@ standing-key-requires-4 c κs =
     let t-most = named .6 in
     (omega arith, omega arith)
 
-link-both-requires-2 : tie.Need-link-both-requires-2
-link-both-requires-2 c κs =
+link-requires-2 : tie.Need-link-requires-2
+link-requires-2 c κs =
     let q = c .before .before .before .before .before .before .before .before .before .before .before .before .before .args .constraint in
     let p = c .before .before .before .before .before .before .before .before .before .before .before .before .before .pre in
     let e = c .before .before .before .before .before .before .kind3 .given .1 in
@@ -118,9 +118,9 @@ returns c =
           c .before .before .bar .ensures l b l-most b-most
           ∙ ap (λ (kind : Kind). openAt (c .before .before .before .before .before .before .before .before .before .before .before .before .args .table .now) l b && not (barsOwn kind (q .owner .0) l b)) (sym e)),
       (
-        falling-more (2 * c .before .before .before .before .before .before .before .before .before .before .before .before .args .number) (2 * suc (c .before .before .before .before .before .before .before .before .before .before .before .before .args .number)) _ _ _ (omega arith) (p .1),
+        falling-more (c .before .before .before .before .before .before .before .before .before .before .before .before .args .number) (suc (c .before .before .before .before .before .before .before .before .before .before .before .before .args .number)) _ _ _ (omega arith) (p .1),
         λ r f.
-            chained-own r (c .before .before .before .before .before .before .before .before .before .before .before .before .args .number) _ _ _ (ap ownerKey f ∙ ap (λ (kind : Kind). ownerOf kind (q .owner .0)) e) (ap otherKey f ∙ ap otherOf e),
+            chained-skip r (c .before .before .before .before .before .before .before .before .before .before .before .before .args .number) _ _ _ (ap otherKey f ∙ ap otherOf e),
       ),
     )
 
@@ -147,11 +147,11 @@ returns-2 c =
           (ap (λ (kind : Kind). openAt (c .before .before .before .before .before .before .before .before .before .before .before .before .before .before .before .before .before .before .before .before .args .table .now) l b && not (barsOwn kind (q .owner .0) l b)) e
           ∙ and-true (openAt (c .before .before .before .before .before .before .before .before .before .before .before .before .before .before .before .before .before .before .before .before .args .table .now) l b)),
       (
-        c .before .before .before .before .before .before .link-both .ensures .0,
+        c .before .before .before .before .before .before .link .ensures .0,
         λ r f.
-            c .before .before .before .before .before .before .link-both .ensures .1 r
-            ((let any : c .before .before .before .before .before .before .before .before .before .before .before .standing-key .result ≡ q .owner .0 = omega (arith, c .before .before .before .before .before .before .before .before .before .before .before .standing-key .ensures) in any) ∙ sym (ap ownerKey f ∙ ap (λ (kind : Kind). ownerOf kind (q .owner .0)) e))
-            (c .before .before .before .before .before .before .before .before .before .before .standing-key2 .ensures ∙ sym (ap otherKey f ∙ ap otherOf e)),
+            c .before .before .before .before .before .before .link .ensures .1 r
+            (c .before .before .before .before .before .before .before .before .before .before .standing-key2 .ensures ∙ sym (ap otherKey f ∙ ap otherOf e))
+            ((let any : c .before .before .before .before .before .before .before .before .before .before .before .standing-key .result ≡ q .owner .0 = omega (arith, c .before .before .before .before .before .before .before .before .before .before .before .standing-key .ensures) in any) ∙ sym (ap ownerKey f ∙ ap (λ (kind : Kind). ownerOf kind (q .owner .0)) e)),
       ),
     )
 
@@ -178,11 +178,11 @@ returns-3 c =
           (ap (λ (kind : Kind). openAt (c .before .before .before .before .before .before .before .before .before .before .before .before .before .before .before .before .before .before .before .before .args .table .now) l b && not (barsOwn kind (q .owner .0) l b)) e
           ∙ and-true (openAt (c .before .before .before .before .before .before .before .before .before .before .before .before .before .before .before .before .before .before .before .before .args .table .now) l b)),
       (
-        c .before .before .before .before .before .before .link-both2 .ensures .0,
+        c .before .before .before .before .before .before .link2 .ensures .0,
         λ r f.
-            c .before .before .before .before .before .before .link-both2 .ensures .1 r
-            (c .before .before .before .before .before .before .before .before .before .before .before .standing-key3 .ensures ∙ sym (ap ownerKey f ∙ ap (λ (kind : Kind). ownerOf kind (q .owner .0)) e))
-            (c .before .before .before .before .before .before .before .before .before .before .standing-key4 .ensures ∙ sym (ap otherKey f ∙ ap otherOf e)),
+            c .before .before .before .before .before .before .link2 .ensures .1 r
+            (c .before .before .before .before .before .before .before .before .before .before .standing-key4 .ensures ∙ sym (ap otherKey f ∙ ap otherOf e))
+            (c .before .before .before .before .before .before .before .before .before .before .before .standing-key3 .ensures ∙ sym (ap ownerKey f ∙ ap (λ (kind : Kind). ownerOf kind (q .owner .0)) e)),
       ),
     )
 
@@ -195,11 +195,11 @@ enter-spec =
     enum-known-kind-2
     standing-key-requires
     standing-key-requires-2
-    link-both-requires
+    link-requires
     enum-known-kind-3
     standing-key-requires-3
     standing-key-requires-4
-    link-both-requires-2
+    link-requires-2
     same-length
     returns
     same-length-2

@@ -1,5 +1,5 @@
 -- `greedy::enter_all` meets its contract: after n turns the first n constraints are in the table or in the chains. Assumes nothing.
-use Prim.Native.Nat.{ℕ, suc, _+_, _*_, _-_, _≤_}
+use Prim.Native.Nat.{ℕ, suc, _+_, _-_, _≤_}
 use mathlib.Core.Bool.{Bool, not, _&&_, and-true}
 use mathlib.Core.List.{List}
 use mathlib.Core.Path.{_≡_, refl, sym, _∙_, ap, subst}
@@ -17,18 +17,18 @@ use Rattle.greedy.proofs.enter_all.Statement.{statement}
 use Rattle.greedy.proofs.enter_all.Tie as tie
 
 -- the first n constraints are in the table or in the chains
-record Going (table₀ : List ℕ) (r : Round) (table last earlier barring : List ℕ) (n : ℕ) : Type 0 where
+record Going (table₀ : List ℕ) (r : Round) (table last earlier owners : List ℕ) (n : ℕ) : Type 0 where
   some : n ≤ r .used
   size : length table ≡ 1024
   barred : (l b : ℕ) → l ≤ 16 → b ≤ 64 → openAt table l b ≡ (openAt table₀ l b && not (barredOwn r n l b))
-  falls : Falling (2 * n) last earlier barring
-  chained : Chained r (2 * n) last earlier barring
+  falls : Falling n last earlier owners
+  chained : Chained r n last earlier owners
 
 abbrev Inv-loop : tie.InvT-loop
-Inv-loop table₀ last₀ earlier₀ barring₀ round used i₀ table last earlier barring i = Going table₀ round table last earlier barring i
+Inv-loop table₀ last₀ earlier₀ owners₀ round used i₀ table last earlier owners i = Going table₀ round table last earlier owners i
 
 abbrev μ-loop : tie.MeasureT-loop
-μ-loop table₀ last₀ earlier₀ barring₀ round used i₀ table last earlier barring i = used - i
+μ-loop table₀ last₀ earlier₀ owners₀ round used i₀ table last earlier owners i = used - i
 
 loop-holds : tie.Need-loop-holds Inv-loop μ-loop
 unfolding barredOwn anyBelow
@@ -109,7 +109,7 @@ same-length-3 : tie.Need-same-length-3 Inv-loop μ-loop
 same-length-3 c = c .before .loop .inv .falls .sized-earlier ∙ sym (c .before .before .before .before .before .before .pre .1 .0 .sized-earlier)
 
 same-length-4 : tie.Need-same-length-4 Inv-loop μ-loop
-same-length-4 c = c .before .loop .inv .falls .sized-barring ∙ sym (c .before .before .before .before .before .before .pre .1 .0 .sized-barring)
+same-length-4 c = c .before .loop .inv .falls .sized-owners ∙ sym (c .before .before .before .before .before .before .pre .1 .0 .sized-owners)
 
 returns : tie.Need-returns Inv-loop μ-loop
 returns c =
@@ -119,8 +119,8 @@ returns c =
       (λ l b l-most b-most.
           v .barred l b l-most b-most ∙ ap (λ (n : ℕ). openAt (c .before .before .before .before .before .before .args .table .now) l b && not (barredOwn r n l b)) end),
       (
-        subst (λ (n : ℕ). Falling (2 * n) (c .before .loop .last) (c .before .loop .earlier) (c .before .loop .barring)) end (v .falls),
-        subst (λ (n : ℕ). Chained r (2 * n) (c .before .loop .last) (c .before .loop .earlier) (c .before .loop .barring)) end (v .chained),
+        subst (λ (n : ℕ). Falling n (c .before .loop .last) (c .before .loop .earlier) (c .before .loop .owners)) end (v .falls),
+        subst (λ (n : ℕ). Chained r n (c .before .loop .last) (c .before .loop .earlier) (c .before .loop .owners)) end (v .chained),
       ),
     )
 

@@ -1,8 +1,8 @@
--- `greedy::link` meets its contract: three stores. Assumes nothing.
-use Prim.Native.Nat.{ℕ}
-use mathlib.Core.Path.{refl, ap}
+-- `greedy::link` meets its contract: three stores are one link more. Assumes nothing.
+use Prim.Native.Nat.{ℕ, suc, _+_}
+use mathlib.Core.Path.{_≡_}
 use native.Mathlib.Numerals.{add-one}
-use lib.ListN.{set}
+use Rattle.greedy.proofs.ChainLaws.{falling-next, chained-next}
 use borrow.Author.Needs.{needs}
 use Rattle.greedy.proofs.link.Statement.{statement}
 use Rattle.greedy.proofs.link.Tie as tie
@@ -31,14 +31,14 @@ mul-last c = search needs
 slice-write-last : tie.Need-slice-write-last
 slice-write-last c = search needs
 
-cast-barring : tie.Need-cast-barring
-cast-barring c = search needs
+cast-owners : tie.Need-cast-owners
+cast-owners c = search needs
 
-mul-barring : tie.Need-mul-barring
-mul-barring c = search needs
+mul-owners : tie.Need-mul-owners
+mul-owners c = search needs
 
-slice-write-barring : tie.Need-slice-write-barring
-slice-write-barring c = search needs
+slice-write-owners : tie.Need-slice-write-owners
+slice-write-owners c = search needs
 
 same-length : tie.Need-same-length
 same-length c = search needs
@@ -52,7 +52,13 @@ same-length-3 c = search needs
 returns : tie.Need-returns
 returns c =
     let a = c .before .args in
-    (ap (λ (n : ℕ). set (a .last .now) (a .key) n) (add-one (a .number)), refl, refl)
+    let p = c .before .pre in
+    let next : a .number + 1 ≡ suc (a .number) = add-one (a .number) in
+    let falls = falling-next (a .number) (a .key) (a .owner) (a .last .now) (a .earlier .now) (a .owners .now) (p .0) (p .1 .0) (p .1 .1) (p .1 .2) in
+    let chains = chained-next (a .number) (a .key) (a .owner) (a .last .now) (a .earlier .now) (a .owners .now) (p .0) (p .1 .0) (p .1 .1) (p .1 .2) in (
+      rw next falls,
+      λ r key owner h. rw next (chains r key owner h),
+    )
 
 pub link-spec : {M : Type 1} → statement M
 link-spec =
@@ -66,9 +72,9 @@ link-spec =
     cast-last
     mul-last
     slice-write-last
-    cast-barring
-    mul-barring
-    slice-write-barring
+    cast-owners
+    mul-owners
+    slice-write-owners
     same-length
     same-length-2
     same-length-3

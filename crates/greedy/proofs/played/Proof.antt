@@ -1,4 +1,5 @@
--- `greedy::played` meets its contract: after k turns slots 1 to k are filled, priced and told in the table. Assumes nothing.
+-- `greedy::played` meets its contract: after k turns slots 1 to k are filled and priced, and the table and the keys tell who is eligible
+-- for the rest. Assumes nothing.
 use mathlib.Core.List.{List}
 use mathlib.Core.Path.{_≡_, refl, sym, _∙_, ap, subst}
 use Rattle.basis.specs.Rows.{padded}
@@ -7,27 +8,27 @@ use Rattle.choice.specs.Tables.{bidIn}
 use Rattle.choice.proofs.WinnerLaws.{winner-most}
 use Rattle.auction.specs.Greedy.{bidOf, pageUpTo, greedyPage}
 use Rattle.auction.specs.Price.{price}
-use Rattle.greedy.specs.Barred.{openAt, Awarded}
-use Prim.Native.Nat.{ℕ, suc, _+_, _*_, _-_, _≤_}
+use Prim.Native.Nat.{ℕ, suc, _+_, _-_, _≤_}
 use native.Mathlib.Nat.{le-antisymm}
 use native.Mathlib.Numerals.{add-one}
 use native.Mathlib.Omega.{arith}
 use Rattle.greedy.specs.Outcome.{outcomeOf}
+use Rattle.greedy.specs.Chains.{free, Awarded}
 use Rattle.greedy.proofs.ChainLaws.{falling-none, chained-none, falling-more}
 use Rattle.greedy.proofs.FillLaws.{Filled, filled-start, filled-next}
 use Rattle.greedy.proofs.played.Statement.{statement}
 use Rattle.greedy.proofs.played.Tie as tie
 
 -- who wins a slot is one of the bidders
-won-bidder : (r : Round) (table : List ℕ) (x w paid : ℕ) → r .bidders ≤ 64 → Awarded (openAt table x) (bidIn (r .bids)) (r .bidders) w paid → w ≤ 64
-won-bidder r table x w paid few a =
-    let e = a .won-by in let m = winner-most (openAt table x) (bidIn (r .bids)) (r .bidders) in omega arith
+won-bidder : (r : Round) (table held : List ℕ) (x w paid : ℕ) → r .bidders ≤ 64 → Awarded (free r table held x) (bidIn (r .bids)) (r .bidders) w paid → w ≤ 64
+won-bidder r table held x w paid few a =
+    let e = a .won-by in let m = winner-most (free r table held x) (bidIn (r .bids)) (r .bidders) in omega arith
 
 abbrev Inv-loop : tie.InvT-loop
-Inv-loop round table₀ last earlier barring bids bidders ranked page₀ prices₀ k₀ table page prices k = Filled round k table page prices
+Inv-loop round table₀ held₀ last earlier owners bids bidders ranked page₀ prices₀ k₀ table held page prices k = Filled round k table held page prices
 
 abbrev μ-loop : tie.MeasureT-loop
-μ-loop round table₀ last earlier barring bids bidders ranked page₀ prices₀ k₀ table page prices k = round .slots - k
+μ-loop round table₀ held₀ last earlier owners bids bidders ranked page₀ prices₀ k₀ table held page prices k = round .slots - k
 
 slice-aggregate-enter-all : tie.Need-slice-aggregate-enter-all Inv-loop μ-loop
 slice-aggregate-enter-all c = refl
@@ -60,16 +61,17 @@ empty-page-requires c κs = tt
 loop-holds : tie.Need-loop-holds Inv-loop μ-loop
 loop-holds c = rw (c .empty-page .ensures) (filled-start (c .before .before .before .before .before .before .before .before .before .before .before .before .before .args .round) _ (c .before .before .before .before .before .before .before .before .before .before .before .before .before .pre) (c .before .before .before .before .before .before .before .before .enter-all .kept .0) (c .before .before .before .before .before .before .before .before .enter-all .ensures .0))
 
-add-t28 : tie.Need-add-t28 Inv-loop μ-loop
-add-t28 c =
+add-t29 : tie.Need-add-t29 Inv-loop μ-loop
+add-t29 c =
     let few = c .before .before .before .before .before .before .before .before .before .before .before .before .before .before .before .before .pre .most-slots in
     let v = c .before .before .loop .inv .some in
     omega arith
 
-cast-t29 : tie.Need-cast-t29 Inv-loop μ-loop
-cast-t29 c =
+cast-t30 : tie.Need-cast-t30 Inv-loop μ-loop
+cast-t30 c =
     let few = c .before .before .before .before .before .before .before .before .before .before .before .before .before .before .before .before .pre .most-slots in
     let v = c .before .before .loop .inv .some in
+    let below = c .if1 .taken in
     omega arith
 
 slice-aggregate-award-slot : tie.Need-slice-aggregate-award-slot Inv-loop μ-loop
@@ -79,79 +81,105 @@ slice-aggregate-award-slot-2 : tie.Need-slice-aggregate-award-slot-2 Inv-loop μ
 slice-aggregate-award-slot-2 c = sym (c .before .before .before .before .loop .inv .size)
 
 slice-aggregate-award-slot-3 : tie.Need-slice-aggregate-award-slot-3 Inv-loop μ-loop
-slice-aggregate-award-slot-3 c = sym (c .before .before .before .before .before .before .before .before .before .before .before .before .before .before .before .before .before .before .before .pre .sized-bids)
+slice-aggregate-award-slot-3 c = sym (c .before .before .before .before .before .loop .inv .keys)
+
+slice-aggregate-award-slot-4 : tie.Need-slice-aggregate-award-slot-4 Inv-loop μ-loop
+slice-aggregate-award-slot-4 c = sym (c .before .before .before .before .before .before .before .before .before .before .before .before .before .before .before .enter-all .ensures .1 .0 .sized-last)
+
+slice-aggregate-award-slot-5 : tie.Need-slice-aggregate-award-slot-5 Inv-loop μ-loop
+slice-aggregate-award-slot-5 c = sym (c .before .before .before .before .before .before .before .before .before .before .before .before .before .before .before .before .enter-all .ensures .1 .0 .sized-earlier)
+
+slice-aggregate-award-slot-6 : tie.Need-slice-aggregate-award-slot-6 Inv-loop μ-loop
+slice-aggregate-award-slot-6 c = sym (c .before .before .before .before .before .before .before .before .before .before .before .before .before .before .before .before .before .enter-all .ensures .1 .0 .sized-owners)
+
+slice-aggregate-award-slot-7 : tie.Need-slice-aggregate-award-slot-7 Inv-loop μ-loop
+slice-aggregate-award-slot-7 c = sym (c .before .before .before .before .before .before .before .before .before .before .before .before .before .before .before .before .before .before .before .before .before .before .before .pre .sized-bids)
 
 award-slot-requires : tie.Need-award-slot-requires Inv-loop μ-loop
 unfolding bidOf
 award-slot-requires c κs =
-    let v = c .before .before .before .before .before .loop .inv in
-    let p = c .before .before .before .before .before .before .before .before .before .before .before .before .before .before .before .before .before .before .before .pre in
+    let v = c .before .before .before .before .before .before .before .before .before .loop .inv in
+    let p = c .before .before .before .before .before .before .before .before .before .before .before .before .before .before .before .before .before .before .before .before .before .before .before .pre in
     let few = p .most-slots in
     let listed = p .sized-bids in
     let many = p .most-bidders in
-    ((v .size, many, omega arith), ((omega arith, omega arith), (c .before .before .before .before .before .before .before .ranking-of .ensures, (λ i below. p .most-bid (suc i)))))
+    let used = p .most-used in
+    let below = c .before .before .before .before .before .before .before .if1 .taken in
+    let falls = falling-more (c .before .before .before .before .before .before .before .before .before .before .before .before .before .before .before .before .before .before .before .before .before .before .before .args .round .used) 1024 _ _ _ used (c .before .before .before .before .before .before .before .before .before .before .before .before .before .before .before .before .before .before .enter-all .ensures .1 .0) in
+    ((v .size, v .keys, falls), ((many, omega arith, (omega arith, omega arith)), (c .before .before .before .before .before .before .before .before .before .before .before .ranking-of .ensures, (λ i under. p .most-bid (suc i)))))
 
 with-bidder-requires : tie.Need-with-bidder-requires Inv-loop μ-loop
 with-bidder-requires c κs =
-    let few = c .before .before .before .before .before .before .before .before .before .before .before .before .before .before .before .before .before .before .before .before .before .pre .most-slots in
-    let v = c .before .before .before .before .before .before .before .loop .inv .some in
-    omega arith
+    let few = c .before .before .before .before .before .before .before .before .before .before .before .before .before .before .before .before .before .before .before .before .before .before .before .before .before .pre .most-slots in
+    let v = c .before .before .before .before .before .before .before .before .before .before .before .loop .inv .some in
+    let below = c .before .before .before .before .before .before .before .before .before .if1 .taken in
+    (omega arith, omega arith)
 
 mul-prices : tie.Need-mul-prices Inv-loop μ-loop
 mul-prices c =
-    let few = c .before .before .before .before .before .before .before .before .before .before .before .before .before .before .before .before .before .before .before .before .before .before .pre .most-slots in
-    let v = c .before .before .before .before .before .before .before .before .loop .inv .some in
+    let few = c .before .before .before .before .before .before .before .before .before .before .before .before .before .before .before .before .before .before .before .before .before .before .before .before .before .before .pre .most-slots in
+    let v = c .before .before .before .before .before .before .before .before .before .before .before .before .loop .inv .some in
     omega arith
 
 array-write-prices : tie.Need-array-write-prices Inv-loop μ-loop
 array-write-prices c =
-    let few = c .before .before .before .before .before .before .before .before .before .before .before .before .before .before .before .before .before .before .before .before .before .before .pre .most-slots in
-    let v = c .before .before .before .before .before .before .before .before .loop .inv .some in
+    let few = c .before .before .before .before .before .before .before .before .before .before .before .before .before .before .before .before .before .before .before .before .before .before .before .before .before .before .pre .most-slots in
+    let v = c .before .before .before .before .before .before .before .before .before .before .before .before .loop .inv .some in
+    let below = c .before .before .before .before .before .before .before .before .before .before .if1 .taken in
     omega arith
 
 slice-aggregate-settle : tie.Need-slice-aggregate-settle Inv-loop μ-loop
-slice-aggregate-settle c = sym (c .before .before .before .before .before .before .before .before .before .loop .inv .size)
+slice-aggregate-settle c = sym (c .before .before .before .before .before .before .before .before .before .before .before .before .before .loop .inv .size)
 
 slice-aggregate-settle-2 : tie.Need-slice-aggregate-settle-2 Inv-loop μ-loop
-slice-aggregate-settle-2 c = sym (c .before .before .before .before .before .before .before .before .before .before .before .before .before .before .before .before .before .before .before .enter-all .ensures .1 .0 .sized-last)
+slice-aggregate-settle-2 c = sym (c .before .before .before .before .before .before .before .before .before .before .before .before .before .before .loop .inv .keys)
 
 slice-aggregate-settle-3 : tie.Need-slice-aggregate-settle-3 Inv-loop μ-loop
-slice-aggregate-settle-3 c = sym (c .before .before .before .before .before .before .before .before .before .before .before .before .before .before .before .before .before .before .before .before .enter-all .ensures .1 .0 .sized-earlier)
+slice-aggregate-settle-3 c = sym (c .before .before .before .before .before .before .before .before .before .before .before .before .before .before .before .before .before .before .before .before .before .before .before .before .enter-all .ensures .1 .0 .sized-last)
 
 slice-aggregate-settle-4 : tie.Need-slice-aggregate-settle-4 Inv-loop μ-loop
-slice-aggregate-settle-4 c = sym (c .before .before .before .before .before .before .before .before .before .before .before .before .before .before .before .before .before .before .before .before .before .enter-all .ensures .1 .0 .sized-barring)
+slice-aggregate-settle-4 c = sym (c .before .before .before .before .before .before .before .before .before .before .before .before .before .before .before .before .before .before .before .before .before .before .before .before .before .enter-all .ensures .1 .0 .sized-earlier)
+
+slice-aggregate-settle-5 : tie.Need-slice-aggregate-settle-5 Inv-loop μ-loop
+slice-aggregate-settle-5 c = sym (c .before .before .before .before .before .before .before .before .before .before .before .before .before .before .before .before .before .before .before .before .before .before .before .before .before .before .enter-all .ensures .1 .0 .sized-owners)
 
 settle-requires : tie.Need-settle-requires Inv-loop μ-loop
 settle-requires c κs =
-    let v = c .before .before .before .before .before .before .before .before .before .before .before .before .loop .inv in
-    let p = c .before .before .before .before .before .before .before .before .before .before .before .before .before .before .before .before .before .before .before .before .before .before .before .before .before .before .pre in
+    let v = c .before .before .before .before .before .before .before .before .before .before .before .before .before .before .before .before .before .loop .inv in
+    let p = c .before .before .before .before .before .before .before .before .before .before .before .before .before .before .before .before .before .before .before .before .before .before .before .before .before .before .before .before .before .before .before .pre in
+    let r = c .before .before .before .before .before .before .before .before .before .before .before .before .before .before .before .before .before .before .before .before .before .before .before .before .before .before .before .before .before .before .before .args .round in
     let few = p .most-slots in
-    let used = p .most-used in
-    let won = won-bidder (c .before .before .before .before .before .before .before .before .before .before .before .before .before .before .before .before .before .before .before .before .before .before .before .before .before .before .args .round) (c .before .before .before .before .before .before .before .before .before .before .before .before .loop .table) (c .before .before .before .before .before .before .before .before .before .before .before .before .loop .k + 1) _ _ (p .most-bidders) (c .before .before .before .before .before .before .award-slot .ensures) in
-    ((v .size, falling-more (2 * c .before .before .before .before .before .before .before .before .before .before .before .before .before .before .before .before .before .before .before .before .before .before .before .before .before .before .args .round .used) 2048 _ _ _ (omega arith) (c .before .before .before .before .before .before .before .before .before .before .before .before .before .before .before .before .before .before .before .before .before .enter-all .ensures .1 .0)), (won, (omega arith, omega arith)))
+    let below = c .before .before .before .before .before .before .before .before .before .before .before .before .before .before .before .if1 .taken in
+    let chained = c .before .before .before .before .before .before .before .before .before .before .before .before .before .before .before .before .before .before .before .before .before .before .before .before .before .before .enter-all .ensures .1 .1 in
+    let won = won-bidder r (c .before .before .before .before .before .before .before .before .before .before .before .before .before .before .before .before .before .loop .table) (c .before .before .before .before .before .before .before .before .before .before .before .before .before .before .before .before .before .loop .held) (c .before .before .before .before .before .before .before .before .before .before .before .before .before .before .before .before .before .loop .k + 1) _ _ (p .most-bidders) (c .before .before .before .before .before .before .before .award-slot .ensures r chained) in
+    let falls = falling-more (r .used) 1024 _ _ _ (p .most-used) (c .before .before .before .before .before .before .before .before .before .before .before .before .before .before .before .before .before .before .before .before .before .before .before .before .before .before .enter-all .ensures .1 .0) in
+    ((v .size, v .keys, falls), (won, (omega arith, omega arith)))
 
 add-k : tie.Need-add-k Inv-loop μ-loop
 add-k c =
-    let few = c .before .before .before .before .before .before .before .before .before .before .before .before .before .before .before .before .before .before .before .before .before .before .before .before .before .before .before .before .pre .most-slots in
-    let v = c .before .before .before .before .before .before .before .before .before .before .before .before .before .before .loop .inv .some in
+    let few = c .before .before .before .before .before .before .before .before .before .before .before .before .before .before .before .before .before .before .before .before .before .before .before .before .before .before .before .before .before .before .before .before .before .before .pre .most-slots in
+    let v = c .before .before .before .before .before .before .before .before .before .before .before .before .before .before .before .before .before .before .before .before .loop .inv .some in
     omega arith
 
 loop-less : tie.Need-loop-less Inv-loop μ-loop
 loop-less c =
-    let few = c .before .before .before .before .before .before .before .before .before .before .before .before .before .before .before .before .before .before .before .before .before .before .before .before .before .before .before .before .pre .most-slots in
-    let v = c .before .before .before .before .before .before .before .before .before .before .before .before .before .before .loop .inv .some in
+    let below = c .before .before .before .before .before .before .before .before .before .before .before .before .before .before .before .before .before .before .if1 .taken in
     omega arith
 
 loop-again : tie.Need-loop-again Inv-loop μ-loop
 loop-again c =
-    let v = c .before .before .before .before .before .before .before .before .before .before .before .before .before .before .loop .inv in
-    let p = c .before .before .before .before .before .before .before .before .before .before .before .before .before .before .before .before .before .before .before .before .before .before .before .before .before .before .before .before .pre in
-    let r = c .before .before .before .before .before .before .before .before .before .before .before .before .before .before .before .before .before .before .before .before .before .before .before .before .before .before .before .before .args .round in
-    let k = c .before .before .before .before .before .before .before .before .before .before .before .before .before .before .loop .k in
-    let settled = c .before .settle .ensures r p (c .before .before .before .before .before .before .before .before .before .before .before .before .before .before .before .before .before .before .before .before .before .before .before .enter-all .ensures .1 .1) in
-    rw (c .before .before .before .before .before .before .with-bidder .ensures, add-one k)
-    (filled-next r p k (c .before .before .before .before .before .before .before .before .before .before .before .before .if1 .taken) _ _ _ v _ _ (rw (add-one k) at (c .before .before .before .before .before .before .before .before .award-slot .ensures)) _ (c .before .settle .kept .0 ∙ v .size)
-    (rw (add-one k) at settled))
+    let v = c .before .before .before .before .before .before .before .before .before .before .before .before .before .before .before .before .before .before .before .before .loop .inv in
+    let p = c .before .before .before .before .before .before .before .before .before .before .before .before .before .before .before .before .before .before .before .before .before .before .before .before .before .before .before .before .before .before .before .before .before .before .pre in
+    let r = c .before .before .before .before .before .before .before .before .before .before .before .before .before .before .before .before .before .before .before .before .before .before .before .before .before .before .before .before .before .before .before .before .before .before .args .round in
+    let k = c .before .before .before .before .before .before .before .before .before .before .before .before .before .before .before .before .before .before .before .before .loop .k in
+    let chained = c .before .before .before .before .before .before .before .before .before .before .before .before .before .before .before .before .before .before .before .before .before .before .before .before .before .before .before .before .before .enter-all .ensures .1 .1 in
+    let awarded = c .before .before .before .before .before .before .before .before .before .before .award-slot .ensures r chained in
+    let won = won-bidder r (c .before .before .before .before .before .before .before .before .before .before .before .before .before .before .before .before .before .before .before .before .loop .table) (c .before .before .before .before .before .before .before .before .before .before .before .before .before .before .before .before .before .before .before .before .loop .held) (k + 1) _ _ (p .most-bidders) awarded in
+    let settled = c .before .before .settle .ensures .0 r p chained in
+    let holding = c .before .before .settle .ensures .1 in
+    rw (c .before .before .before .before .before .before .before .before .with-bidder .ensures, add-one k)
+    (filled-next r p k (c .before .before .before .before .before .before .before .before .before .before .before .before .before .before .before .before .before .before .if1 .taken) _ _ _ _ v _ _ (rw (add-one k) at awarded) won _ _ (c .before .before .settle .kept .0 ∙ v .size) (c .before .before .settle .kept .1 .0 ∙ v .keys)
+    (rw (add-one k) at settled) (rw (add-one k) at holding))
 
 returns : tie.Need-returns Inv-loop μ-loop
 unfolding outcomeOf greedyPage
@@ -179,11 +207,15 @@ played-spec =
     ranking-of-requires
     empty-page-requires
     loop-holds
-    add-t28
-    cast-t29
+    add-t29
+    cast-t30
     slice-aggregate-award-slot
     slice-aggregate-award-slot-2
     slice-aggregate-award-slot-3
+    slice-aggregate-award-slot-4
+    slice-aggregate-award-slot-5
+    slice-aggregate-award-slot-6
+    slice-aggregate-award-slot-7
     award-slot-requires
     with-bidder-requires
     mul-prices
@@ -192,6 +224,7 @@ played-spec =
     slice-aggregate-settle-2
     slice-aggregate-settle-3
     slice-aggregate-settle-4
+    slice-aggregate-settle-5
     settle-requires
     add-k
     loop-less

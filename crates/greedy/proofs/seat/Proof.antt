@@ -1,15 +1,15 @@
--- `greedy::seat` meets its contract: the winner is barred everywhere, and the chains of the winner at any slot and of the winner at
--- its slot bar what all the constraints bar. Assumes nothing.
-use Prim.Native.Nat.{ℕ, _*_, _<_}
+-- `greedy::seat` meets its contract: the winner is barred everywhere, and the chain of the winner at its slot bars to owners what all the
+-- constraints that name it there do. Assumes nothing.
 use mathlib.Core.Bool.{Bool, true, false, not, _&&_, and-comm}
 use mathlib.Core.List.{List}
 use mathlib.Core.Path.{_≡_, refl, sym, _∙_, ap, ap₂}
 use native.Mathlib.Omega.{arith}
+use Prim.Native.Nat.{ℕ, _<_}
 use lib.Dec.{eqb}
 use Rattle.greedy.specs.Barred.{openAt}
 use Rattle.greedy.specs.Chains.{standing, barredAlong}
-use Rattle.greedy.proofs.TableLaws.{barred-also, nobody-open}
-use Rattle.greedy.proofs.ChainLaws.{both-chains}
+use Rattle.greedy.proofs.TableLaws.{nobody-open}
+use Rattle.greedy.proofs.ChainLaws.{owners-barred}
 use borrow.Author.Needs.{needs}
 use Rattle.greedy.proofs.seat.Statement.{statement}
 use Rattle.greedy.proofs.seat.Tie as tie
@@ -18,9 +18,9 @@ last-two : (a b c : Bool) → ((a && b) && c) ≡ ((a && c) && b)
 last-two true b c = and-comm b c
 last-two false b c = refl
 
--- the two chains together, for every bidder but 0
-chains-bar : (table : List ℕ) (l b : ℕ) (other x y : Bool) → (0 < b → x ≡ y) → ((openAt table l b && other) && not x) ≡ ((openAt table l b && other) && not y)
-chains-bar table l b other x y h =
+-- what the chain bars, for every bidder but 0
+chain-bars : (table : List ℕ) (l b : ℕ) (other x y : Bool) → (0 < b → x ≡ y) → ((openAt table l b && other) && not x) ≡ ((openAt table l b && other) && not y)
+chain-bars table l b other x y h =
     swapped x ∙ ap (λ (t : Bool). t && other) (nobody-open table l b x y h) ∙ sym (swapped y)
   where
     swapped : (z : Bool) → ((openAt table l b && other) && not z) ≡ ((openAt table l b && not z) && other)
@@ -35,32 +35,21 @@ standing-key-requires c κs = search needs
 bar-chain-requires : tie.Need-bar-chain-requires
 bar-chain-requires c κs = search needs
 
-standing-key-requires-2 : tie.Need-standing-key-requires-2
-standing-key-requires-2 c κs = search needs
-
-bar-chain-requires-2 : tie.Need-bar-chain-requires-2
-bar-chain-requires-2 c κs = search needs
-
 same-length : tie.Need-same-length
 same-length c = search needs
 
 returns : tie.Need-returns
 returns c =
-    let a = c .before .before .before .before .before .before .before .before .before .before .before .before .before .before .before .before .before .before .args in
-    let p = c .before .before .before .before .before .before .before .before .before .before .before .before .before .before .before .before .before .before .pre .1 in
+    let a = c .before .before .before .before .before .before .before .before .before .before .before .before .before .args in
+    let p = c .before .before .before .before .before .before .before .before .before .before .before .before .before .pre .1 in
     let w = a .winner .0 in
     let k = a .at .0 in
-    let any : c .before .before .before .before .before .before .before .before .before .standing-key .result ≡ w = omega (arith, c .before .before .before .before .before .before .before .before .before .standing-key .ensures) in
-    let here : c .before .before .before .before .standing-key2 .result ≡ standing w k = c .before .before .before .before .standing-key2 .ensures in
+    let here : c .before .before .before .before .standing-key .result ≡ standing w k = c .before .before .before .before .standing-key .ensures in
     λ r c′ h l b l-most b-most.
-    c .before .before .bar-chain2 .ensures r h l b l-most b-most
-    ∙ ap₂ (λ (t : Bool) (x : ℕ). t && not (barredAlong r x (2 * r .used) l b))
-    (c .before .before .before .before .before .before .before .bar-chain .ensures r h l b l-most b-most
-    ∙ ap₂ (λ (t : Bool) (x : ℕ). t && not (barredAlong r x (2 * r .used) l b)) (c .before .before .before .before .before .before .before .before .before .before .before .before .bar-everywhere .ensures l b l-most b-most) any)
-    here
-    ∙ barred-also (openAt (a .table .now) l b && not (eqb b w)) (barredAlong r w (2 * r .used) l b) (barredAlong r (standing w k) (2 * r .used) l b)
-    ∙ chains-bar (a .table .now) l b (not (eqb b w)) _ _
-    (λ b-some. both-chains w k l b (p .0 .0) (p .0 .1) (p .1 .0) (p .1 .1) b-some b-most l-most r c′)
+    c .before .before .bar-chain .ensures r h l b l-most b-most
+    ∙ ap₂ (λ (t : Bool) (x : ℕ). t && not (barredAlong r x (r .used) l b)) (c .before .before .before .before .before .before .before .bar-everywhere .ensures l b l-most b-most) here
+    ∙ chain-bars (a .table .now) l b (not (eqb b w)) _ _
+    (λ b-some. owners-barred w k l b (p .0 .0) (p .0 .1) (p .1 .1) b-some b-most l-most r c′)
 
 pub seat-spec : {M : Type 1} → statement M
 seat-spec =
@@ -69,7 +58,5 @@ seat-spec =
     bar-everywhere-requires
     standing-key-requires
     bar-chain-requires
-    standing-key-requires-2
-    bar-chain-requires-2
     same-length
     returns)
