@@ -57,11 +57,3 @@ liveIn barred b = anyBelow (λ l. not (bitOf barred (8 * l + (b - 1)))) 8
 -- lists as functions
 unfoldable pub listed : List ℕ → ℕ → ℕ
 listed l i = getD l i 0
-
--- the first n of a list name the bidders 1 to n, each once, in falling order of their bids
-pub record Ranked (bid : ℕ → ℕ) (n : ℕ) (ranked : List ℕ) : Type 0 where
-  pub size : length ranked ≡ 8
-  pub some : (i : ℕ) → i < n → (0 < getD ranked i 0) × (getD ranked i 0 ≤ n)
-  pub once : (i j : ℕ) → i < n → j < n → getD ranked i 0 ≡ getD ranked j 0 → i ≡ j
-  pub everybody : (b : ℕ) → 0 < b → b ≤ n → (i : ℕ) × (i < n) × (getD ranked i 0 ≡ b)
-  pub falls : (i j : ℕ) → i ≤ j → j < n → bid (getD ranked j 0) ≤ bid (getD ranked i 0)

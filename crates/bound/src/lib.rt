@@ -5,7 +5,7 @@ ghost use Prim.Native.Nat.{ℕ, suc, _<_, _≤_};
 ghost use lib.ListN.{length, getD};
 ghost use Rattle.basis.specs.Bits.{bitOf};
 ghost use Rattle.choice.specs.Tables.{bidIn};
-ghost use Rattle.bound.specs.Bound.{addAfter, liveIn, listed, Ranked};
+ghost use Rattle.bound.specs.Bound.{addAfter, liveIn, listed};
 
 // The bidders that are barred from every slot, bidder 1 in the lowest bit, by a word of who is barred, 8 bidders a slot.
 fn nowhere_open(barred: u64) -> u64
@@ -38,21 +38,4 @@ pub fn most_added(barred: u64, ranked: &[u8], bids: &[u32], effects: &[u32], fro
         i += 1;
     }
     sum
-}
-
-// The bidders in falling order of their bids.
-pub fn rank(bids: &[u32], bidders: usize) -> [u8; 8]
-    requires { ⌜ (bidders ≤ 8) × (bidders ≤ length (now bids)) ⌝ }
-    ensures { λ r. ⌜ Ranked (bidIn (now (bids .entry))) bidders r ⌝ }
-{
-    let mut ranked = [0u8; 8];
-    let mut marked = [0u8; 8];
-    let mut turn: usize = 0;
-    while turn < bidders {
-        let number = choice::winner_of(&marked, bids, bidders).0;
-        ranked[turn] = number;
-        marked[number as usize - 1] = 1;
-        turn += 1;
-    }
-    ranked
 }

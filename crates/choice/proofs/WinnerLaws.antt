@@ -9,7 +9,7 @@ use native.Mathlib.Omega.{arith}
 use lib.Dec.{eqb, ltb, leb}
 use Rattle.basis.specs.First.{_when_otherwise_, firstOver}
 use Rattle.basis.specs.Tests.{allBelow}
-use Rattle.basis.proofs.FirstLaws.{first-next, first-found, first-all-none}
+use Rattle.basis.proofs.FirstLaws.{first-found, first-all-none}
 use Rattle.basis.proofs.TestLaws.{holds-or-fails, not-both, fails, and-holds, and-parts, or-left, or-right, or-parts, not-holds, not-fails, all-at, at-all}
 use Rattle.choice.specs.Winner.{before, wins, winner}
 
@@ -271,46 +271,6 @@ module _ (eligible : ℕ → Bool) (bid : ℕ → ℕ) where
       let m : one .0 ≤ n = one .1 .most in
       omega arith)
       (none-or-wins n)
-
-  -- one bidder more: it wins where it is eligible and nobody won before or its bid is higher, and else the winner stays
-  pub winner-skips : (i : ℕ) → eligible (suc i) ≡ false → winner eligible bid (suc i) ≡ winner eligible bid i
-  winner-skips i e =
-      ⊎-elim
-      (λ (none : (j : ℕ) → 0 < j → j ≤ i → eligible j ≡ false).
-      none-winner
-      (suc i)
-      (λ j s m.
-      ⊎-elim
-      (λ (q : j ≡ suc i). ap eligible q ∙ e)
-      (λ (l : j < suc i). none j s (omega arith))
-      (eq-or-lt-of-le m))
-      ∙ sym (none-winner i none))
-      (λ (one : (w : ℕ) × Wins eligible bid i w).
-      wins-winner (suc i) (one .0) (wins-skips i (one .0) e (one .1)) ∙ sym (wins-winner i (one .0) (one .1)))
-      (none-or-wins i)
-
-  pub winner-starts : (i : ℕ) → eligible (suc i) ≡ true → winner eligible bid i ≡ 0 → winner eligible bid (suc i) ≡ suc i
-  winner-starts i e z = wins-winner (suc i) (suc i) (wins-starts i e (winner-none i z))
-
-  pub winner-rises : (i : ℕ) → eligible (suc i) ≡ true → bid (winner eligible bid i) < bid (suc i) → winner eligible bid (suc i) ≡ suc i
-  winner-rises i e h =
-      ⊎-elim
-      (λ (none : (j : ℕ) → 0 < j → j ≤ i → eligible j ≡ false). wins-winner (suc i) (suc i) (wins-starts i e none))
-      (λ (one : (w : ℕ) × Wins eligible bid i w).
-      wins-winner
-      (suc i)
-      (suc i)
-      (wins-rises
-      i
-      (one .0)
-      e
-      (one .1)
-      (subst (λ (w : ℕ). bid w < bid (suc i)) (wins-winner i (one .0) (one .1)) h)))
-      (none-or-wins i)
-
-  pub winner-stays : (i : ℕ) → (winner eligible bid i ≡ 0 → ⊥) → bid (suc i) ≤ bid (winner eligible bid i) →
-      winner eligible bid (suc i) ≡ winner eligible bid i
-  winner-stays i z h = wins-winner (suc i) (winner eligible bid i) (wins-stays i (winner eligible bid i) (winner-wins i z) h)
 
 -- whether b goes before j depends on their two bids alone
 pub before-same : (bid bid′ : ℕ → ℕ) (b j : ℕ) → bid b ≡ bid′ b → bid j ≡ bid′ j → before bid b j ≡ before bid′ b j

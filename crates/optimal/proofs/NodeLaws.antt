@@ -29,7 +29,7 @@ use Rattle.auction.proofs.PageLaws.{
   Keeps,
 }
 use Rattle.auction.proofs.BrokenLaws.{broken-stays, breaks-where, breaks-at, breaks-none}
-use Rattle.bound.specs.Bound.{sumFrom, Assigns, Ranked, listed}
+use Rattle.bound.specs.Bound.{sumFrom, Assigns, listed}
 use Rattle.optimal.specs.Best.{PageOf, Allowed, totalUpTo, total, Precedes}
 use Rattle.optimal.specs.Node.{Node, Agrees, Tried}
 

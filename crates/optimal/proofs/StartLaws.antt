@@ -12,6 +12,8 @@ use lib.Seq.{getD-take, length-take-le}
 use Rattle.sheet.specs.declared.Page.{Page}
 use Rattle.sheet.specs.declared.Round.{Round}
 use Rattle.choice.specs.Tables.{bidIn}
+use Rattle.choice.specs.Ranking.{InOrder}
+use Rattle.choice.proofs.RankingLaws.{ranked-once, ranked-falls}
 use Rattle.auction.specs.Page.{at, put, emptyPage, Sized}
 use Rattle.auction.specs.Broken.{breaks}
 use Rattle.auction.specs.Greedy.{bidOf, effectOf}
@@ -19,7 +21,7 @@ use Rattle.auction.specs.Proper.{ProperRound}
 use Rattle.auction.proofs.PageLaws.{below-or-not, empty-sized, at-empty}
 use Rattle.auction.proofs.GreedyLaws.{bid-listed}
 use Rattle.auction.proofs.BrokenLaws.{none-breaks, empty-unbroken}
-use Rattle.bound.specs.Bound.{listed, Ranked}
+use Rattle.bound.specs.Bound.{listed}
 use Rattle.clash.specs.Clash.{TableOf, BarredBy}
 use Rattle.optimal.specs.Best.{PageOf, Allowed, totalUpTo, total, Best}
 use Rattle.optimal.specs.Search.{Searched}
@@ -43,7 +45,7 @@ unfolding effectOf
 effects-low r c i = c .most-effect (suc i)
 
 module _ (r : Round) (c : ProperRound r) (few : r .bidders ≤ 8) (short : r .slots ≤ 8) (ranked table : List ℕ)
-    (k : Ranked (bidIn (r .bids)) (r .bidders) ranked) (t : TableOf r table) where
+    (k : InOrder (bidIn (r .bids)) (r .bidders) ranked) (t : TableOf r table) where
   pub front-size : length (take (r .bidders) ranked) ≡ r .bidders
   front-size = length-take-le (r .bidders) ranked (let e = k .size in omega arith)
 
@@ -78,11 +80,11 @@ module _ (r : Round) (c : ProperRound r) (few : r .bidders ≤ 8) (short : r .sl
         ranking =
             record {
               some = λ i l. subst (λ (x : ℕ). (0 < x) × (x ≤ r .bidders)) (sym (same-at i l)) (k .some i l);
-              once = λ i j l m e. k .once i j l m (sym (same-at i l) ∙ e ∙ same-at j m);
+              once = λ i j l m e. ranked-once (bidIn (r .bids)) (r .bidders) ranked k i j l m (sym (same-at i l) ∙ e ∙ same-at j m);
               everybody = λ b s m. (let w = k .everybody b s m in (w .0, w .1, same-at (w .0) (w .1) ∙ w .2));
               falls = λ i j l m.
                   subst₂ (λ (x y : ℕ). bidOf r x ≤ bidOf r y) (sym (same-at j m)) (sym (same-at i (omega arith)))
-                  (let h = k .falls i j l m in let e = bid-listed r (getD ranked i 0) in let d = bid-listed r (getD ranked j 0) in omega arith);
+                  (let h = ranked-falls (bidIn (r .bids)) (r .bidders) ranked k i j l m in let e = bid-listed r (getD ranked i 0) in let d = bid-listed r (getD ranked j 0) in omega arith);
             };
       }
 

@@ -214,7 +214,7 @@ fn best_page(round: Round) -> Answer
     let effects = round.effects;
     let bidders = round.bidders;
     let slots = round.slots;
-    let ranked = bound::rank(&bids, bidders);
+    let ranked = choice::ranking_of(&bids, bidders);
     let mut table = [0u64; 64];
     clash::fill_table(&mut table, round);
     let page = auction::empty_page();

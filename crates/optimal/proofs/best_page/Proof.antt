@@ -18,11 +18,11 @@ use Rattle.optimal.proofs.best_page.Tie as tie
 barred-of-empty : (table : List ℕ) (barred : ℕ) (p : Page) → p ≡ emptyPage → BarredBy table emptyPage 0 barred → BarredBy table p 0 barred
 barred-of-empty table barred p e h = subst (λ (q : Page). BarredBy table q 0 barred) (sym e) h
 
-slice-aggregate-rank : tie.Need-slice-aggregate-rank
-slice-aggregate-rank c = search needs
+slice-aggregate-ranking-of : tie.Need-slice-aggregate-ranking-of
+slice-aggregate-ranking-of c = search needs
 
-rank-requires : tie.Need-rank-requires
-rank-requires c κs = search needs
+ranking-of-requires : tie.Need-ranking-of-requires
+ranking-of-requires c κs = search needs
 
 slice-aggregate-fill-table : tie.Need-slice-aggregate-fill-table
 slice-aggregate-fill-table c = search needs
@@ -50,7 +50,7 @@ slice-aggregate-raise-2 : tie.Need-slice-aggregate-raise-2
 slice-aggregate-raise-2 c =
     let p = c .before .before .before .before .before .before .before .before .before .before .before .before .pre in
     let r = c .before .before .before .before .before .before .before .before .before .before .before .before .args .round in
-    sym (front-size r (p .0) (p .1) (p .2) _ _ (c .before .before .before .before .before .before .before .before .rank .ensures) (c .before .before .before .before .before .before .fill-table .ensures))
+    sym (front-size r (p .0) (p .1) (p .2) _ _ (c .before .before .before .before .before .before .before .before .ranking-of .ensures) (c .before .before .before .before .before .before .fill-table .ensures))
 
 slice-aggregate-raise-3 : tie.Need-slice-aggregate-raise-3
 slice-aggregate-raise-3 c = search needs
@@ -62,7 +62,7 @@ raise-requires : tie.Need-raise-requires
 raise-requires c κs =
     let p = c .before .before .before .before .before .before .before .before .before .before .before .before .before .before .pre in
     let r = c .before .before .before .before .before .before .before .before .before .before .before .before .before .before .args .round in
-    ((lent-of r (p .0) (p .1) (p .2) _ _ (c .before .before .before .before .before .before .before .before .before .before .rank .ensures) (c .before .before .before .before .before .before .before .before .fill-table .ensures), p .2), (omega arith, omega arith))
+    ((lent-of r (p .0) (p .1) (p .2) _ _ (c .before .before .before .before .before .before .before .before .before .before .ranking-of .ensures) (c .before .before .before .before .before .before .before .before .fill-table .ensures), p .2), (omega arith, omega arith))
 
 slice-aggregate-search : tie.Need-slice-aggregate-search
 slice-aggregate-search c = search needs
@@ -74,7 +74,7 @@ slice-aggregate-search-2 : tie.Need-slice-aggregate-search-2
 slice-aggregate-search-2 c =
     let p = c .before .before .before .before .before .before .before .before .before .before .before .before .before .before .before .before .before .pre in
     let r = c .before .before .before .before .before .before .before .before .before .before .before .before .before .before .before .before .before .args .round in
-    sym (front-size r (p .0) (p .1) (p .2) _ _ (c .before .before .before .before .before .before .before .before .before .before .before .before .before .rank .ensures) (c .before .before .before .before .before .before .before .before .before .before .before .fill-table .ensures))
+    sym (front-size r (p .0) (p .1) (p .2) _ _ (c .before .before .before .before .before .before .before .before .before .before .before .before .before .ranking-of .ensures) (c .before .before .before .before .before .before .before .before .before .before .before .fill-table .ensures))
 
 slice-aggregate-search-3 : tie.Need-slice-aggregate-search-3
 slice-aggregate-search-3 c = search needs
@@ -87,7 +87,7 @@ search-requires c κs =
     let p = c .before .before .before .before .before .before .before .before .before .before .before .before .before .before .before .before .before .before .before .pre in
     let r = c .before .before .before .before .before .before .before .before .before .before .before .before .before .before .before .before .before .before .before .args .round in
     let empty = c .before .before .before .before .before .before .before .before .before .before .before .empty-page .ensures in (
-      (lent-of r (p .0) (p .1) (p .2) _ _ (c .before .before .before .before .before .before .before .before .before .before .before .before .before .before .before .rank .ensures) (c .before .before .before .before .before .before .before .before .before .before .before .before .before .fill-table .ensures), p .2),
+      (lent-of r (p .0) (p .1) (p .2) _ _ (c .before .before .before .before .before .before .before .before .before .before .before .before .before .before .before .ranking-of .ensures) (c .before .before .before .before .before .before .before .before .before .before .before .before .before .fill-table .ensures), p .2),
       (
         (omega arith, omega arith, subst Sized (sym empty) empty-sized),
         (
@@ -101,15 +101,15 @@ returns : tie.Need-returns
 returns c =
     let p = c .before .before .before .before .before .before .before .before .before .before .before .before .before .before .before .before .before .before .before .before .pre in
     let r = c .before .before .before .before .before .before .before .before .before .before .before .before .before .before .before .before .before .before .before .before .args .round in
-    best-found r (p .0) (p .1) (p .2) _ _ (c .before .before .before .before .before .before .before .before .before .before .before .before .before .before .before .before .rank .ensures) (c .before .before .before .before .before .before .before .before .before .before .before .before .before .before .fill-table .ensures) _ _ _ _ _ (c .before .before .before .before .before .before .before .before .before .before .first-barred .ensures) (c .before .before .before .before .before .raise .ensures)
+    best-found r (p .0) (p .1) (p .2) _ _ (c .before .before .before .before .before .before .before .before .before .before .before .before .before .before .before .before .ranking-of .ensures) (c .before .before .before .before .before .before .before .before .before .before .before .before .before .before .fill-table .ensures) _ _ _ _ _ (c .before .before .before .before .before .before .before .before .before .before .first-barred .ensures) (c .before .before .before .before .before .raise .ensures)
     (rw (c .before .before .before .before .before .before .before .before .before .before .before .before .empty-page .ensures) at (c .search .ensures))
 
 pub best-page-spec : {M : Type 1} → statement M
 best-page-spec =
     tie.close
     (tie.spec
-    slice-aggregate-rank
-    rank-requires
+    slice-aggregate-ranking-of
+    ranking-of-requires
     slice-aggregate-fill-table
     fill-table-requires
     empty-page-requires
