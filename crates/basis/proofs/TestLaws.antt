@@ -1,5 +1,5 @@
 -- What a test over the indices below a count says, and what the least number that passes says. Assumes nothing.
-use Prim.Native.Nat.{ℕ, zero, suc, _<_, _≤_}
+use Prim.Native.Nat.{ℕ, zero, suc, _+_, _-_, _<_, _≤_}
 use borrow.Author.Tests.{ltb-true, ltb-false, lt-ltb, le-ltb}
 use mathlib.Core.Bool.{Bool, true, false, cond, not, _&&_, _||_, false≢true, or-true}
 use mathlib.Core.Logic.{_⊎_, inl, inr, ⊎-elim}
@@ -163,3 +163,37 @@ module _ (f g : ℕ → Bool) (n : ℕ) where
       (λ (t : anyBelow f n ≡ true). let w = any-where f n t in any-at (λ i. f i || g i) n (w .0) (w .1) (or-left (g (w .0)) (w .2)))
       (λ (t : anyBelow g n ≡ true). let w = any-where g n t in any-at (λ i. f i || g i) n (w .0) (w .1) (or-right (f (w .0)) (w .2)))
       (or-parts (anyBelow f n) (anyBelow g n) e))
+
+-- a test over twice as many indices is one of pairs, n apart
+pub all-pairs : (f g : ℕ → Bool) (n : ℕ) → ((l : ℕ) → l < n → g l ≡ (f l && f (n + l))) → allBelow f (n + n) ≡ allBelow g n
+all-pairs f g n pair =
+    same-tests
+    (allBelow f (n + n))
+    (allBelow g n)
+    (λ e.
+    at-all g n
+    (λ l b. pair l b ∙ and-holds (all-at f (n + n) e l (omega arith)) (all-at f (n + n) e (n + l) (omega arith))))
+    (λ e.
+    at-all f (n + n)
+    (λ l b.
+    ⊎-elim
+    (λ (t : ltb l n ≡ true).
+    let low = ltb-true l n t in
+    and-parts (f l) (f (n + l)) (sym (pair l low) ∙ all-at g n e l low) .0)
+    (λ (t : ltb l n ≡ false).
+    let high = ltb-false l n t in
+    let inside : l - n < n = omega arith in
+    let at : n + (l - n) ≡ l = omega arith in
+    ap f (sym at) ∙ and-parts (f (l - n)) (f (n + (l - n))) (sym (pair (l - n) inside) ∙ all-at g n e (l - n) inside) .1)
+    (holds-or-fails (ltb l n))))
+
+-- every index passes where none fails
+pub none-fails : (f : ℕ → Bool) (n : ℕ) → allBelow f n ≡ not (anyBelow (λ l. not (f l)) n)
+unfolding allBelow anyBelow
+none-fails f zero = refl
+none-fails f (suc n) = ap (λ (t : Bool). t && f n) (none-fails f n) ∙ by-tests (anyBelow (λ l. not (f l)) n) (f n)
+  where
+    by-tests : (a b : Bool) → (not a && b) ≡ not (a || not b)
+    by-tests true b = refl
+    by-tests false true = refl
+    by-tests false false = refl

@@ -4,7 +4,7 @@
 -- eight bytes tells who is not, since each half's and tells it for the slots of that half. Assumes nothing.
 use Prim.Native.Nat.{ℕ, zero, suc, _+_, _-_, _*_, _/_, _^_, _<_, _≤_}
 use borrow.Author.Tests.{eq-eqb, ne-eqb, eqb-true, eqb-false, lt-ltb, le-ltb}
-use mathlib.Core.Bool.{Bool, true, false, cond, not, _&&_, _||_, and-false}
+use mathlib.Core.Bool.{Bool, true, false, cond, not, _&&_, and-false}
 use mathlib.Core.Logic.{_⊎_, inl, inr, ⊎-elim}
 use mathlib.Core.Path.{_≡_, refl, sym, _∙_, ap, ap₂, subst, subst₂}
 use native.Mathlib.Nat.{eq-or-lt-of-le, add-zero}
@@ -14,7 +14,7 @@ use lib.Dec.{eqb, ltb}
 use Rattle.basis.specs.Bits.{bitOf}
 use Rattle.basis.specs.Tests.{anyBelow, allBelow}
 use Rattle.basis.proofs.BitLaws.{bit-and, bit-shr}
-use Rattle.basis.proofs.TestLaws.{holds-or-fails, same-tests, not-both, and-holds, and-parts, any-where, any-none, any-at, all-at, at-all}
+use Rattle.basis.proofs.TestLaws.{holds-or-fails, not-both, and-holds, any-where, any-none, any-at, all-pairs, none-fails}
 use Rattle.auction.proofs.PageLaws.{same-or-not, below-or-not}
 use Rattle.bound.specs.Bound.{sumFrom, slotAfter, addAfter, Falling, NoRise, BoundHolds, liveIn}
 
@@ -400,37 +400,6 @@ bound-holds free rank bid effect n k left z some once falling no-rise f h =
     })
     n
     (omega arith))
-
--- a test over twice as many indices is one of pairs, n apart
-all-pairs : (f g : ℕ → Bool) (n : ℕ) → ((l : ℕ) → l < n → g l ≡ (f l && f (n + l))) → allBelow f (n + n) ≡ allBelow g n
-all-pairs f g n pair =
-    same-tests
-    (allBelow f (n + n))
-    (allBelow g n)
-    (λ e.
-    at-all g n
-    (λ l b. pair l b ∙ and-holds (all-at f (n + n) e l (omega arith)) (all-at f (n + n) e (n + l) (omega arith))))
-    (λ e.
-    at-all f (n + n)
-    (λ l b.
-    ⊎-elim
-    (λ (low : l < n). and-parts (f l) (f (n + l)) (sym (pair l low) ∙ all-at g n e l low) .0)
-    (λ (high : n ≤ l).
-    let inside : l - n < n = omega arith in
-    let at : n + (l - n) ≡ l = omega arith in
-    ap f (sym at) ∙ and-parts (f (l - n)) (f (n + (l - n))) (sym (pair (l - n) inside) ∙ all-at g n e (l - n) inside) .1)
-    (below-or-not l n)))
-
--- every index passes where none fails
-none-fails : (f : ℕ → Bool) (n : ℕ) → allBelow f n ≡ not (anyBelow (λ l. not (f l)) n)
-unfolding allBelow anyBelow
-none-fails f zero = refl
-none-fails f (suc n) = ap (λ (t : Bool). t && f n) (none-fails f n) ∙ by-tests (anyBelow (λ l. not (f l)) n) (f n)
-  where
-    by-tests : (a b : Bool) → (not a && b) ≡ not (a || not b)
-    by-tests true b = refl
-    by-tests false true = refl
-    by-tests false false = refl
 
 -- the and of a word and the same shifted down by n bytes
 abbrev pub halved : ℕ → ℕ → ℕ

@@ -241,7 +241,7 @@ fn is_named(held: &[u8], last: &[u16], earlier: &[u16], owners: &[u32], key: usi
 }
 
 // Whether a candidate is eligible: the table has no mark for it, and no earlier winner's constraint names it.
-fn is_free(
+fn is_eligible(
     table: &[u8],
     held: &[u8],
     last: &[u16],
@@ -265,7 +265,7 @@ fn is_free(
 }
 
 // The first index from `start` on whose bidder is eligible, or the number of bidders.
-fn next_free(
+fn next_eligible(
     ranked: &[u8],
     table: &[u8],
     held: &[u8],
@@ -285,7 +285,7 @@ fn next_free(
     let mut i: usize = start;
     while i < bidders {
         let bidder = Bidder(ranked[i]);
-        if is_free(table, held, last, earlier, owners, bidder, slot) {
+        if is_eligible(table, held, last, earlier, owners, bidder, slot) {
             return i;
         }
         i += 1;
@@ -310,10 +310,10 @@ fn award_slot(
     requires { ⌜ InOrder (bidIn (now bids)) bidders (now ranked) × ((i : ℕ) → i < bidders → getD (now bids) i 0 ≤ 1000000000) ⌝ }
     ensures { λ r. ⌜ ((q : Round) → Chained q (q .used) (now (last .entry)) (now (earlier .entry)) (now (owners .entry)) → Awarded (free q (now (table .entry)) (now (held .entry)) (slot .0)) (bidIn (now (bids .entry))) bidders (r .winner .0) (r .price)) ⌝ }
 {
-    let first = next_free(ranked, table, held, last, earlier, owners, bidders, slot, 0);
+    let first = next_eligible(ranked, table, held, last, earlier, owners, bidders, slot, 0);
     let mut second = bidders;
     if first < bidders {
-        second = next_free(
+        second = next_eligible(
             ranked,
             table,
             held,

@@ -10,18 +10,18 @@ use borrow.Author.Needs.{needs}
 use Rattle.greedy.proofs.award_slot.Statement.{statement}
 use Rattle.greedy.proofs.award_slot.Tie as tie
 
-next-free-requires : tie.Need-next-free-requires
-next-free-requires c κs =
+next-eligible-requires : tie.Need-next-eligible-requires
+next-eligible-requires c κs =
     let p = c .before .before .before .before .before .before .before .pre in
     let few = p .1 .0 .0 in
     let listed = p .1 .1 .0 .size in
     (p .0, ((omega arith, few, omega arith, p .1 .0 .2), p .1 .1 .0 .some))
 
-add-next-free : tie.Need-add-next-free
-add-next-free c = search needs
+add-next-eligible : tie.Need-add-next-eligible
+add-next-eligible c = search needs
 
-next-free-requires-2 : tie.Need-next-free-requires-2
-next-free-requires-2 c κs =
+next-eligible-requires-2 : tie.Need-next-eligible-requires-2
+next-eligible-requires-2 c κs =
     let p = c .before .before .before .before .before .before .before .before .before .pre in
     let few = p .1 .0 .0 in
     let listed = p .1 .1 .0 .size in
@@ -37,13 +37,13 @@ placing-at-requires c κs =
     (λ w. let e = w .2 in let m = w .1 .ensures .0 in omega arith)
     (λ w. let e = w .1 in omega arith)
     (c .if1 .came) in
-    ((p .1 .0 .0, p .1 .0 .1, c .before .next-free .ensures .0, second-most), p .1 .1)
+    ((p .1 .0 .0, p .1 .0 .1, c .before .next-eligible .ensures .0, second-most), p .1 .1)
 
 returns : tie.Need-returns
 returns c = λ r h.
     let a = c .before .before .before .before .before .before .before .before .before .before .before .args in
-    let first = c .before .before .before .next-free .result in
-    let placed = c .before .placing-at .ensures (free r (a .table .now) (a .held .now) (a .slot .0)) (c .before .before .before .next-free .ensures .1 r h)
+    let first = c .before .before .before .next-eligible .result in
+    let placed = c .before .placing-at .ensures (free r (a .table .now) (a .held .now) (a .slot .0)) (c .before .before .before .next-eligible .ensures .1 r h)
     (λ below.
     ⊎-elim
     (λ w.
@@ -57,4 +57,4 @@ returns c = λ r h.
 pub award-slot-spec : {M : Type 1} → statement M
 award-slot-spec =
     tie.close
-    (tie.spec next-free-requires add-next-free next-free-requires-2 placing-at-requires returns)
+    (tie.spec next-eligible-requires add-next-eligible next-eligible-requires-2 placing-at-requires returns)

@@ -1,4 +1,4 @@
--- `greedy::next_free` meets its contract: the ranked bidders are tried one after the other. Assumes nothing.
+-- `greedy::next_eligible` meets its contract: the ranked bidders are tried one after the other. Assumes nothing.
 use Prim.Native.Nat.{ℕ, _+_, _-_, _<_, _≤_}
 use mathlib.Core.Bool.{false}
 use mathlib.Core.List.{List}
@@ -9,8 +9,8 @@ use native.Mathlib.Omega.{arith}
 use lib.ListN.{getD}
 use Rattle.sheet.specs.declared.Round.{Round}
 use Rattle.greedy.specs.Chains.{Chained, free}
-use Rattle.greedy.proofs.next_free.Statement.{statement}
-use Rattle.greedy.proofs.next_free.Tie as tie
+use Rattle.greedy.proofs.next_eligible.Statement.{statement}
+use Rattle.greedy.proofs.next_eligible.Tie as tie
 
 -- none of the bidders from `start` to before i is eligible
 record Going (ranked table held last earlier owners : List ℕ) (bidders slot start i : ℕ) : Type 0 where
@@ -39,8 +39,8 @@ shared-slice-read-t14 c =
     let below = c .before .loop-test .taken in
     omega arith
 
-is-free-requires : tie.Need-is-free-requires Inv-loop μ-loop
-is-free-requires c κs =
+is-eligible-requires : tie.Need-is-eligible-requires Inv-loop μ-loop
+is-eligible-requires c κs =
     let p = c .before .before .before .before .before .before .before .before .before .pre in
     let named = p .1 .1 (c .before .before .loop .i) (c .before .loop-test .taken) in
     let few = p .1 .0 .1 in
@@ -56,7 +56,7 @@ returns c =
             low = v .low;
             high = v .high;
             passed = v .passed r h;
-            here = λ below. sym (c .before .is-free .ensures r h) ∙ c .if1 .taken;
+            here = λ below. sym (c .before .is-eligible .ensures r h) ∙ c .if1 .taken;
           },
     )
 
@@ -86,7 +86,7 @@ loop-again c =
           ⊎-elim
           (λ (e : j ≡ i).
           subst (λ (z : ℕ). free r (a .table .now) (a .held .now) (a .slot .0) (getD (a .ranked .now) z 0) ≡ false) (sym e)
-          (sym (c .before .is-free .ensures r h) ∙ c .if1 .left))
+          (sym (c .before .is-eligible .ensures r h) ∙ c .if1 .left))
           (λ (lt : j < i). v .passed r h j from lt)
           (eq-or-lt-of-le (let s : j ≤ i = omega arith in s));
     }
@@ -105,15 +105,15 @@ returns-2 c =
           },
     )
 
-pub next-free-spec : {M : Type 1} → statement M
-next-free-spec =
+pub next-eligible-spec : {M : Type 1} → statement M
+next-eligible-spec =
     tie.close
     (tie.spec
     Inv-loop
     μ-loop
     loop-holds
     shared-slice-read-t14
-    is-free-requires
+    is-eligible-requires
     returns
     add-i
     loop-less

@@ -1,4 +1,4 @@
--- `greedy::is_free` meets its contract: the table's entry, and then the chain of the candidate at the slot. Assumes nothing.
+-- `greedy::is_eligible` meets its contract: the table's entry, and then the chain of the candidate at the slot. Assumes nothing.
 use Prim.Native.Nat.{ℕ, _+_, _*_, _-_}
 use mathlib.Core.Bool.{Bool, true, false, not, _&&_}
 use mathlib.Core.Path.{_≡_, sym, _∙_, ap, ap₂}
@@ -8,8 +8,8 @@ use Rattle.greedy.specs.Barred.{openAt}
 use Rattle.greedy.specs.Chains.{standing, named, free}
 use Rattle.greedy.proofs.TableLaws.{entry-open}
 use borrow.Author.Needs.{needs}
-use Rattle.greedy.proofs.is_free.Statement.{statement}
-use Rattle.greedy.proofs.is_free.Tie as tie
+use Rattle.greedy.proofs.is_eligible.Statement.{statement}
+use Rattle.greedy.proofs.is_eligible.Tie as tie
 
 cast-l : tie.Need-cast-l
 cast-l c = search needs
@@ -57,8 +57,8 @@ returns-2 c = λ r h.
     (ap (λ (t : Bool). t && not (named r (a .held .now) (standing (a .bidder .0) (a .slot .0)) (r .used)))
     (entry-open (a .table .now) (a .slot .0) (a .bidder .0) (p .1 .0) (p .0 .0) ∙ eq-eqb (getD (a .table .now) (64 * (a .slot .0 - 1) + (a .bidder .0 - 1)) 0) 0 (c .before .before .if1 .left)))
 
-pub is-free-spec : {M : Type 1} → statement M
-is-free-spec =
+pub is-eligible-spec : {M : Type 1} → statement M
+is-eligible-spec =
     tie.close
     (tie.spec
     cast-l
