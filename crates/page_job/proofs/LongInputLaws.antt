@@ -18,7 +18,7 @@ use Rattle.sheet.specs.Sheet.{bidderCount, slotCount, constraintCount, sheetLen
 use Rattle.sheet.specs.Refusal.{formRefusal, countsRefusal, refusalOf}
 use Rattle.sheet.specs.Round.{roundOf}
 use Rattle.sheet.proofs.AcceptedLaws.{counts-accepted}
-use Rattle.lines.specs.Lines.{refusedLine}
+use Rattle.page_lines.specs.Lines.{refusedLine}
 use Rattle.page_job.specs.PageText.{pageText, FirstBytesDecide}
 use Rattle.page_job.proofs.PageTextLaws.{refused-for}
 

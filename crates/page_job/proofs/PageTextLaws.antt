@@ -16,7 +16,7 @@ use Rattle.sheet.specs.Round.{roundOf}
 use Rattle.sheet.proofs.AcceptedLaws.{accepted-sheet}
 use Rattle.auction.proofs.AcceptedLaws.{round-proper}
 use Rattle.play.specs.Play.{playRefusal, playedBuffer, bufferAfter, Played}
-use Rattle.lines.specs.Lines.{line, refusedLine, resultLine, resultLines}
+use Rattle.page_lines.specs.Lines.{line, refusedLine, resultLine, resultLines}
 use Rattle.page_job.specs.PageText.{slotLine, textFor, pageText}
 use Rattle.page_job.proofs.EntryLaws.{entry-bidder, entry-price}
 

@@ -22,8 +22,8 @@ use Rattle.auction.specs.Page.{at, put, emptyPage, placed}
 use Rattle.auction.specs.Broken.{ownHolds, otherHolds, broken, constraintAt}
 use Rattle.auction.specs.Greedy.{bidOf, concerns, eligible, winnerAt, fillSlot, pageUpTo, greedyPage}
 use Rattle.auction.specs.Price.{withBid, winsWith, priceFor, price}
-use Rattle.lines.specs.Decimal.{digitsWithin, decimal}
-use Rattle.lines.specs.Lines.{field, line, refusedLine}
+use Rattle.page_lines.specs.Decimal.{digitsWithin, decimal}
+use Rattle.page_lines.specs.Lines.{field, line, refusedLine}
 use Rattle.page_job.specs.PageText.{slotLine, textFor, pageText}
 use Rattle.page_job.specs.Printed.{TextsPrinted}
 

@@ -10,7 +10,7 @@ use Rattle.sheet.specs.Round.{roundOf}
 use Rattle.auction.specs.Page.{at}
 use Rattle.auction.specs.Greedy.{greedyPage}
 use Rattle.auction.specs.Price.{price}
-use Rattle.lines.specs.Lines.{line, refusedLine}
+use Rattle.page_lines.specs.Lines.{line, refusedLine}
 
 -- the line of slot k + 1. "An empty place shows bidder 0 and price 0."
 unfoldable pub slotLine : Round → ℕ → List ℕ

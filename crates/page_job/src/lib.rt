@@ -1,5 +1,5 @@
 // The page program's whole job, once for every program that runs it: a sheet's bytes in, the text that it prints out.
-ghost use Rattle.lines.specs.Put.{Written};
+ghost use Rattle.page_lines.specs.Put.{Written};
 ghost use Rattle.page_job.specs.PageText.{pageText};
 use sheet::MAX_BIDDERS;
 use sheet::MAX_CONSTRAINTS;
@@ -11,7 +11,7 @@ const SHEET_ROOM: usize = 9 + 4 * (MAX_SLOTS + MAX_BIDDERS + MAX_CONSTRAINTS) + 
 // "5 bytes a place".
 const RESULT_ROOM: usize = 5 * MAX_SLOTS;
 // The longest line for each slot.
-const TEXT_ROOM: usize = lines::LONGEST_LINE * MAX_SLOTS;
+const TEXT_ROOM: usize = page_lines::LONGEST_LINE * MAX_SLOTS;
 
 // The text of the sheet's page, or of its refusal, at the front of the buffer, and how many bytes it is.
 pub fn page_text(sheet: &[u8], text: &mut [u8; TEXT_ROOM]) -> usize
@@ -20,10 +20,10 @@ pub fn page_text(sheet: &[u8], text: &mut [u8; TEXT_ROOM]) -> usize
     let mut result = [0u8; RESULT_ROOM];
     let refusal = play::play(sheet, &mut result);
     if refusal != 0 {
-        return lines::refused_line(refusal, text);
+        return page_lines::refused_line(refusal, text);
     }
     let slots = sheet[6] as usize;
-    lines::page_lines(&result, slots, text)
+    page_lines::page_lines(&result, slots, text)
 }
 
 // The sheet on standard input, to its end or its first error, and its text on standard output.

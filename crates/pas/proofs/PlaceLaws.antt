@@ -11,10 +11,10 @@ use Rattle.downward.specs.declared.Tested.{Tested}
 use Rattle.gain.specs.Gain.{gainOf}
 use Rattle.gain.specs.Call.{gainRefusal, gainedFor, gainedOf}
 use Rattle.gain.specs.declared.Gained.{Gained}
-use Rattle.optimal.specs.Best.{total}
-use Rattle.optimal.specs.BestPage.{bestPage}
-use Rattle.optimal.specs.Call.{bestRefusal, chosenFor, BestGiven}
-use Rattle.optimal.specs.declared.Chosen.{Chosen}
+use Rattle.best_search.specs.Best.{total}
+use Rattle.best_search.specs.BestPage.{bestPage}
+use Rattle.best_search.specs.Call.{bestRefusal, chosenFor, BestGiven}
+use Rattle.best_search.specs.declared.Chosen.{Chosen}
 use Rattle.pas.specs.Calls.{placeAfter, yesNumber, DownwardGiven, GainGiven, BestPageGiven}
 
 -- a refused call's place

@@ -10,9 +10,9 @@ use Rattle.downward.specs.Downward.{downward}
 use Rattle.downward.specs.Call.{testRefusal}
 use Rattle.gain.specs.Gain.{gainOf}
 use Rattle.gain.specs.Call.{gainRefusal}
-use Rattle.optimal.specs.Best.{total}
-use Rattle.optimal.specs.BestPage.{bestPage}
-use Rattle.optimal.specs.Call.{bestRefusal, bufferAfter}
+use Rattle.best_search.specs.Best.{total}
+use Rattle.best_search.specs.BestPage.{bestPage}
+use Rattle.best_search.specs.Call.{bestRefusal, bufferAfter}
 
 -- the answer's own place after the call: a refused call leaves what stood there
 unfoldable pub placeAfter : {A : Type 0} → ℕ → (answer before : A) → A

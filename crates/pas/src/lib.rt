@@ -75,7 +75,7 @@ pub extern "C" fn pas_gain(
 pub extern "C" fn pas_best(sheet: &[u8], result: &mut [u8], total: &mut u64) -> u32
     ensures { λ r. ⌜ BestPageGiven (now (sheet .entry)) (now (result .entry)) (now (total .entry)) r (now (result .exit)) (now (total .exit)) ⌝ }
 {
-    let chosen = optimal::best(sheet, result);
+    let chosen = best_search::best(sheet, result);
     let refusal = chosen.refusal;
     if refusal != 0 {
         return refusal;

@@ -6,7 +6,7 @@ use mathlib.Core.Path.{refl, subst}
 use native.Mathlib.Omega.{arith}
 use Rattle.sheet.specs.Refusal.{Accepted}
 use Rattle.sheet.proofs.AcceptedLaws.{accepted-sheet}
-use Rattle.lines.specs.Put.{Written}
+use Rattle.page_lines.specs.Put.{Written}
 use Rattle.page_job.proofs.PageTextLaws.{text-refused, sheet-accepted, text-played}
 use borrow.Author.Needs.{needs}
 use Rattle.page_job.proofs.page_text.Statement.{statement}

@@ -2,7 +2,7 @@
 -- printed of what was read. Assumes nothing.
 use mathlib.Core.Path.{sym}
 use lib.Seq.{length-take-le}
-use Rattle.lines.proofs.PutLaws.{written-within}
+use Rattle.page_lines.proofs.PutLaws.{written-within}
 use borrow.Author.Needs.{needs}
 use Rattle.page_job.proofs.run.Statement.{statement}
 use Rattle.page_job.proofs.run.Tie as tie

@@ -1,0 +1,56 @@
+// Buffers with random bytes around what is lent, and how they are compared afterwards.
+use test_chance::number;
+use test_chance::parts;
+
+// Random bytes.
+pub fn fill(state: &mut u64, to: &mut [u8], count: usize) {
+    let mut left = count;
+    while 0 < left {
+        left -= 1;
+        let value = number::up_to(state, 255);
+        parts::set_byte(to, left, value);
+    }
+}
+
+// The first bytes of another buffer, from a start on.
+pub fn paste(from: &[u8], to: &mut [u8], start: u32, count: u32) {
+    let mut left = count;
+    while 0 < left {
+        left -= 1;
+        let at = start as usize + left as usize;
+        parts::set_byte(to, at, parts::byte(from, left as usize));
+    }
+}
+
+pub fn same(first: &[u8], second: &[u8], count: usize) -> bool {
+    let mut left = count;
+    while 0 < left {
+        left -= 1;
+        if parts::byte(first, left) != parts::byte(second, left) {
+            return false;
+        }
+    }
+    true
+}
+
+// Whether a byte lies in the part from the start on that may have been written.
+fn within(at: usize, start: u32, written: u32) -> bool {
+    if at < start as usize {
+        return false;
+    }
+    at < start as usize + written as usize
+}
+
+// Whether each byte but those that may have been written is what it was.
+pub fn untouched(now: &[u8], before: &[u8], start: u32, written: u32) -> bool {
+    let mut left = before.len();
+    while 0 < left {
+        left -= 1;
+        if parts::byte(now, left) != parts::byte(before, left) {
+            if !within(left, start, written) {
+                return false;
+            }
+        }
+    }
+    true
+}

@@ -1,0 +1,78 @@
+// What is counted: for each call the numbers that it returned, and what the rounds were like.
+
+// The calls, by their order in document 01, with a place for each number from 0 to 19.
+pub const CHECK: u32 = 0;
+
+pub const PLAY: u32 = 1;
+
+pub const DOWNWARD: u32 = 2;
+
+pub const GAIN: u32 = 3;
+
+pub const BEST: u32 = 4;
+
+pub const CALLS: u32 = 5;
+
+pub const NUMBERS: u32 = 20;
+
+// Further counts, after the calls' hundred.
+pub const ROUNDS: u32 = 100;
+
+pub const DIFFERENCES: u32 = 101;
+
+pub const EMPTY_SLOTS: u32 = 102;
+
+pub const PRICES: u32 = 103;
+
+pub const YES: u32 = 104;
+
+pub const NO: u32 = 105;
+
+pub const GAINS_ABOVE: u32 = 106;
+
+pub const GAINS_NOUGHT: u32 = 107;
+
+pub const GAINS_BELOW: u32 = 108;
+
+pub const ABOVE_GREEDY: u32 = 109;
+
+pub const DAMAGED: u32 = 110;
+
+// By shape: rounds, pages that both engines played, and best pages that both found.
+pub const SHAPES: u32 = 120;
+
+pub const PLAYED: u32 = 140;
+
+pub const SEARCHED: u32 = 160;
+
+pub const ROOM: usize = 180;
+
+// Where a count by shape stands.
+pub fn by_shape(first: u32, shape: u32) -> u32 {
+    std::num::wrapping_add_u32(first, shape)
+}
+
+// Where a call's number is counted. No call has another one: that would be a difference.
+pub fn place(call: u32, number: u32) -> u32 {
+    if call < CALLS {
+        if number < NUMBERS {
+            return call * NUMBERS + number;
+        }
+    }
+    DIFFERENCES
+}
+
+pub fn add_call(tally: &mut [u64], call: u32, number: u32) {
+    test_tally::add(tally, place(call, number));
+}
+
+// A difference is counted, and a line names the call and the round, so that it can be found.
+pub fn hold(tally: &mut [u64], same: bool, name: &[u8]) {
+    if same {
+        return;
+    }
+    test_tally::add(tally, DIFFERENCES);
+    test_tally::text(b"difference: ");
+    test_tally::text(name);
+    test_tally::count_line(tally, b", round", ROUNDS);
+}

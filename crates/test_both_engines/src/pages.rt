@@ -1,0 +1,61 @@
+// What a written page is like, read from the result's bytes.
+use test_chance::parts;
+
+// Where a slot's bidder stands: 5 bytes a slot after playing, 1 byte a slot in a best page.
+fn bidder_at(start: u32, slot: u32, played: bool) -> usize {
+    if played {
+        return start as usize + 5 * (slot as usize);
+    }
+    start as usize + slot as usize
+}
+
+fn price_at(start: u32, slot: u32) -> usize {
+    start as usize + 5 * (slot as usize) + 1
+}
+
+pub fn has_empty_slot(result: &[u8], start: u32, slots: u32) -> bool {
+    let mut left = slots;
+    while 0 < left {
+        left -= 1;
+        if parts::byte(result, bidder_at(start, left, true)) == 0 {
+            return true;
+        }
+    }
+    false
+}
+
+pub fn has_price(result: &[u8], start: u32, slots: u32) -> bool {
+    let mut left = slots;
+    while 0 < left {
+        left -= 1;
+        if 0 < parts::word(result, price_at(start, left)) {
+            return true;
+        }
+    }
+    false
+}
+
+fn product(bid: u32, effect: u32) -> u64 {
+    (bid as u64) * (effect as u64)
+}
+
+// "bid x effect" of a bidder at a slot, 0 for an empty slot.
+fn worth_at(sheet: &[u8], bidder: u32, slot: u32) -> u64 {
+    if bidder == 0 {
+        return 0;
+    }
+    let bid = parts::word(sheet, parts::bid_at(sheet, bidder - 1));
+    product(bid, parts::word(sheet, parts::effect_at(slot)))
+}
+
+// "A page's total is the sum of bid x effect over filled places."
+pub fn total(sheet: &[u8], result: &[u8], start: u32, played: bool) -> u64 {
+    let mut sum: u64 = 0;
+    let mut left = parts::slots(sheet);
+    while 0 < left {
+        left -= 1;
+        let bidder = parts::byte(result, bidder_at(start, left, played));
+        sum = std::num::wrapping_add_u64(sum, worth_at(sheet, bidder, left));
+    }
+    sum
+}

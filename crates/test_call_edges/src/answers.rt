@@ -1,0 +1,132 @@
+// How an answer is written behind its call.
+ghost use Prim.Native.Nat.{_≤_};
+use test_edge_sheets::line;
+
+// What is lent for a result or an answer holds this before a call: no bidder's number, no byte of a price here, and neither yes nor no.
+pub const UNTOUCHED: u8 = 165;
+
+pub const UNTOUCHED_GAIN: i64 = 165;
+
+pub const UNTOUCHED_TOTAL: u64 = 165;
+
+// The number that the call returns.
+pub fn number(refusal: u32) {
+    line::number(b": ", refusal as u64);
+}
+
+// Whether a thing was left as it was.
+pub fn kept(thing: &[u8], same: bool) {
+    line::text(thing);
+    if same {
+        line::text(b" unchanged");
+        return;
+    }
+    line::text(b" changed");
+}
+
+fn is_untouched(buffer: &[u8], from: usize) -> bool {
+    let mut at = from;
+    while at < buffer.len() {
+        if buffer[at] != UNTOUCHED {
+            return false;
+        }
+        at += 1;
+    }
+    true
+}
+
+// Whether the bytes of a buffer from an offset on were left as they were.
+pub fn untouched(thing: &[u8], buffer: &[u8], from: usize) {
+    kept(thing, is_untouched(buffer, from));
+}
+
+// A bidder of the page, in document 01's words.
+fn bidder(number: u8) {
+    if number == 0 {
+        line::text(b"empty");
+        return;
+    }
+    line::byte(b"", number);
+}
+
+// What stands before an entry of a list.
+fn separate(index: usize) {
+    if index == 0 {
+        line::text(b" ");
+        return;
+    }
+    line::text(b", ");
+}
+
+// "page": the bidders by slot, whose numbers stand `width` bytes apart.
+pub fn page(buffer: &[u8], slots: usize, width: usize)
+    requires { ⌜ width ≤ 5 ⌝ }
+{
+    line::text(b"; page");
+    let mut at = 0;
+    let mut slot = 0;
+    while slot < slots {
+        if buffer.len() <= at {
+            return;
+        }
+        separate(slot);
+        bidder(buffer[at]);
+        at += width;
+        slot += 1;
+    }
+}
+
+// The four bytes of a price after its bidder's, which stands at an offset.
+fn price(buffer: &[u8], at: usize) -> u32 {
+    if buffer.len() < 5 {
+        return 0;
+    }
+    if at <= buffer.len() - 5 {
+        return basis::word32(buffer, at + 1);
+    }
+    0
+}
+
+// "prices", by slot.
+pub fn prices(buffer: &[u8], slots: usize) {
+    line::text(b"; prices");
+    let mut at = 0;
+    let mut slot = 0;
+    while slot < slots {
+        if buffer.len() <= at {
+            return;
+        }
+        separate(slot);
+        line::number(b"", price(buffer, at) as u64);
+        at += 5;
+        slot += 1;
+    }
+}
+
+// Whether a list is downward monotonic: 1 for yes, 0 for no.
+pub fn yes_or_no(yes: u8) {
+    if yes == 1 {
+        line::text(b"; yes");
+        return;
+    }
+    if yes == 0 {
+        line::text(b"; no");
+        return;
+    }
+    line::text(b"; neither yes nor no");
+}
+
+// A number without its sign. The smallest has a size that its own type does not hold, so one is added back after the cast.
+fn size(value: i64) -> u64 {
+    if value >= 0 {
+        return value as u64;
+    }
+    ((0 - (value + 1)) as u64) + 1
+}
+
+pub fn signed(value: i64) {
+    if value < 0 {
+        line::text(b"-");
+    }
+    line::number(b"", size(value));
+}

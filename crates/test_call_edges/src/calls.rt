@@ -1,0 +1,120 @@
+// The lines that make a call: what the call answers, and what it leaves of what it was lent.
+//
+// What is lent for a result or an answer holds before each call what no call writes, so that what a refused call alters shows.
+ghost use Prim.Native.Nat.{_<_};
+use crate::answers;
+use crate::script;
+use test_edge_sheets::line;
+
+// Room for a result, more than 5 x 16 bytes.
+const RESULT_ROOM: usize = 128;
+
+// The call that the line's first word names. A line of any other word makes none.
+pub fn answer(words: &[u8], sheet: &[u8], truth: &[u8]) {
+    if script::begins(words, b"check") {
+        answers::number(pas::pas_check(sheet));
+        return;
+    }
+    if script::begins(words, b"play") {
+        play(words, sheet);
+        return;
+    }
+    if script::begins(words, b"downward") {
+        downward(words, sheet);
+        return;
+    }
+    if script::begins(words, b"gain") {
+        gain(words, sheet, truth);
+        return;
+    }
+    if script::begins(words, b"best") {
+        best(words, sheet);
+    }
+}
+
+// The slots of an accepted sheet, m by its header.
+fn slot_count(sheet: &[u8]) -> usize
+    ensures { λ r. ⌜ r < 256 ⌝ }
+{
+    if 6 < sheet.len() {
+        return basis::wide(sheet[6]) as usize;
+    }
+    0
+}
+
+// The call with the first `length` bytes of a buffer lent.
+fn play_into(sheet: &[u8], buffer: &mut [u8], length: usize) -> u32 {
+    if length <= buffer.len() {
+        return pas::pas_play(sheet, &mut buffer[..length]);
+    }
+    pas::pas_play(sheet, buffer)
+}
+
+// "play LENGTH"
+fn play(words: &[u8], sheet: &[u8]) {
+    let mut space = [answers::UNTOUCHED; RESULT_ROOM];
+    let buffer: &mut [u8] = &mut space;
+    let refusal = play_into(sheet, buffer, script::number(words, 1) as usize);
+    answers::number(refusal);
+    if refusal != 0 {
+        answers::untouched(b"; every byte", buffer, 0);
+        return;
+    }
+    let slots = slot_count(sheet);
+    answers::page(buffer, slots, 5);
+    answers::prices(buffer, slots);
+    answers::untouched(b"; later bytes", buffer, 5 * slots);
+}
+
+// "downward BIDDER"
+fn downward(words: &[u8], sheet: &[u8]) {
+    let mut yes = answers::UNTOUCHED;
+    let refusal = pas::pas_downward(sheet, script::number(words, 1), &mut yes);
+    answers::number(refusal);
+    if refusal != 0 {
+        answers::kept(b"; answer", yes == answers::UNTOUCHED);
+        return;
+    }
+    answers::yes_or_no(yes);
+}
+
+// "gain BIDDER WORTH"
+fn gain(words: &[u8], sheet: &[u8], truth: &[u8]) {
+    let mut gained = answers::UNTOUCHED_GAIN;
+    let bidder = script::number(words, 1);
+    let worth = script::number(words, 2);
+    let refusal = pas::pas_gain(sheet, truth, bidder, worth, &mut gained);
+    answers::number(refusal);
+    if refusal != 0 {
+        answers::kept(b"; gain", gained == answers::UNTOUCHED_GAIN);
+        return;
+    }
+    line::text(b"; gain ");
+    answers::signed(gained);
+}
+
+// The call with the first `length` bytes of a buffer lent.
+fn best_into(sheet: &[u8], buffer: &mut [u8], length: usize, total: &mut u64) -> u32 {
+    if length <= buffer.len() {
+        return pas::pas_best(sheet, &mut buffer[..length], total);
+    }
+    pas::pas_best(sheet, buffer, total)
+}
+
+// "best LENGTH"
+fn best(words: &[u8], sheet: &[u8]) {
+    let mut space = [answers::UNTOUCHED; RESULT_ROOM];
+    let buffer: &mut [u8] = &mut space;
+    let mut total = answers::UNTOUCHED_TOTAL;
+    let refusal = best_into(sheet, buffer, script::number(words, 1) as usize, &mut total);
+    answers::number(refusal);
+    if refusal != 0 {
+        answers::untouched(b"; every byte", buffer, 0);
+        answers::kept(b", total", total == answers::UNTOUCHED_TOTAL);
+        return;
+    }
+    let slots = slot_count(sheet);
+    answers::page(buffer, slots, 1);
+    line::number(b"; total ", total);
+    answers::untouched(b"; later bytes", buffer, slots);
+}

@@ -1,0 +1,50 @@
+-- `test_plain::rules::has_bad_effect` is safe and ends: the slots are counted up to their number. Assumes nothing.
+use Prim.Native.Nat.{_≤_, _-_}
+use borrow.Author.Needs.{needs}
+use Rattle.test_plain.proofs.rules.has_bad_effect.Statement.{statement}
+use Rattle.test_plain.proofs.rules.has_bad_effect.Tie as tie
+
+abbrev Inv-loop : tie.InvT-loop
+Inv-loop sheet slots slot₀ slot = slot ≤ slots
+
+abbrev μ-loop : tie.MeasureT-loop
+μ-loop sheet slots slot₀ slot = slots - slot
+
+slot-count-requires : tie.Need-slot-count-requires Inv-loop μ-loop
+slot-count-requires c κs = search needs
+
+loop-holds : tie.Need-loop-holds Inv-loop μ-loop
+loop-holds c = search needs
+
+add-slot : tie.Need-add-slot Inv-loop μ-loop
+add-slot c = search needs
+
+is-bad-effect-requires : tie.Need-is-bad-effect-requires Inv-loop μ-loop
+is-bad-effect-requires c κs = search needs
+
+returns : tie.Need-returns Inv-loop μ-loop
+returns c = search needs
+
+loop-less : tie.Need-loop-less Inv-loop μ-loop
+loop-less c = search needs
+
+loop-again : tie.Need-loop-again Inv-loop μ-loop
+loop-again c = search needs
+
+returns-2 : tie.Need-returns-2 Inv-loop μ-loop
+returns-2 c = search needs
+
+pub has-bad-effect-spec : {M : Type 1} → statement M
+has-bad-effect-spec =
+    tie.close
+    (tie.spec
+    Inv-loop
+    μ-loop
+    slot-count-requires
+    loop-holds
+    add-slot
+    is-bad-effect-requires
+    returns
+    loop-less
+    loop-again
+    returns-2)

@@ -1,0 +1,154 @@
+// What is read of a refused, a small and a full sheet. The bytes of each longer number differ, so that their order shows.
+use crate::show;
+use test_edge_sheets::build;
+use test_edge_sheets::line;
+use sheet::Kind;
+use sheet::Reading;
+use sheet::Round;
+
+pub fn report() {
+    refused();
+    small();
+    full();
+}
+
+// A round's counts.
+fn counts(round: Round) {
+    line::number(b"  bidders ", round.bidders as u64);
+    line::number(b", places ", round.slots as u64);
+    line::number(b", conditions used ", round.used as u64);
+    line::text(b"\n");
+}
+
+// An element of an array: what it is, its index and its value.
+fn amount(name: &[u8], index: usize, value: u32) {
+    line::number(name, index as u64);
+    line::end(value as u64);
+}
+
+// The effect at an index.
+fn effect(round: Round, index: usize) {
+    let effects = round.effects;
+    if index < 16 {
+        amount(b"  effect at ", index, effects[index]);
+    }
+}
+
+// The bid at an index.
+fn bid(round: Round, index: usize) {
+    let bids = round.bids;
+    if index < 64 {
+        amount(b"  bid at ", index, bids[index]);
+    }
+}
+
+// What a constraint forbids its owner.
+fn kind_parts(kind: Kind) {
+    match kind {
+        Kind::OwnSlot(own) => {
+            line::byte(b", own place ", own.0);
+        }
+        Kind::OtherSlot(other, others) => {
+            line::byte(b", other ", other.0);
+            line::byte(b" at place ", others.0);
+        }
+        Kind::Pair(other, others, own) => {
+            line::byte(b", own place ", own.0);
+            line::byte(b", other ", other.0);
+            line::byte(b" at place ", others.0);
+        }
+    }
+}
+
+// The constraint at an index.
+fn constraint(round: Round, index: usize) {
+    let constraints = round.constraints;
+    if index < 1024 {
+        let found = constraints[index];
+        let owner = found.owner;
+        let kind = found.kind;
+        line::number(b"  condition at ", index as u64);
+        line::byte(b": owner ", owner.0);
+        kind_parts(kind);
+        line::text(b"\n");
+    }
+}
+
+// Five bidders, three slots and 0x0102 constraints, with a bid out of range: what is read is blank.
+fn refused() {
+    let mut space = [0u8; build::ROOM];
+    let buf: &mut [u8] = &mut space;
+    let length = build::base(buf, 5, 3, 0x0102);
+    build::set_bid(buf, 5, 1000000001);
+    let reading = show::reading(b"reading a refused sheet", buf, length);
+    let round = reading.round;
+    counts(round);
+    effect(round, 0);
+    bid(round, 0);
+    constraint(round, 0);
+}
+
+// Five bidders, three slots and 0x0102 constraints.
+fn build_small(buf: &mut [u8]) -> usize {
+    let length = build::base(buf, 5, 3, 0x0102);
+    build::set_effect(buf, 1, 0x010203);
+    build::set_effect(buf, 2, 0x0201);
+    build::set_effect(buf, 3, 0x0102);
+    build::set_bid(buf, 1, 0x01020304);
+    build::set_bid(buf, 5, 0x04030201);
+    length
+}
+
+// The same with a constraint of each kind, and the last one set.
+fn read_small() -> Reading {
+    let mut space = [0u8; build::ROOM];
+    let buf: &mut [u8] = &mut space;
+    let length = build_small(buf);
+    build::set_constraint(buf, 1, [2, 3, 4, 1]);
+    build::set_constraint(buf, 2, [3, 0, 1, 2]);
+    build::set_constraint(buf, 3, [4, 2, 0, 0]);
+    build::set_constraint(buf, 0x0102, [5, 1, 4, 3]);
+    show::reading(b"reading a small sheet", buf, length)
+}
+
+// Each array up to the first that the sheet does not fill, and its last element.
+fn small() {
+    let reading = read_small();
+    let round = reading.round;
+    counts(round);
+    effect(round, 0);
+    effect(round, 1);
+    effect(round, 2);
+    effect(round, 3);
+    effect(round, 15);
+    bid(round, 0);
+    bid(round, 4);
+    bid(round, 5);
+    bid(round, 63);
+    small_constraints(round);
+}
+
+fn small_constraints(round: Round) {
+    constraint(round, 0);
+    constraint(round, 1);
+    constraint(round, 2);
+    constraint(round, 257);
+    constraint(round, 258);
+    constraint(round, 1023);
+}
+
+// The largest counts, with the last field of each kind set.
+fn full() {
+    let mut space = [0u8; build::ROOM];
+    let buf: &mut [u8] = &mut space;
+    let length = build::base(buf, 64, 16, 1024);
+    build::set_effect(buf, 16, 0x0102);
+    build::set_bid(buf, 64, 0x01020304);
+    build::set_constraint(buf, 1024, [64, 16, 63, 15]);
+    let reading = show::reading(b"reading a full sheet", buf, length);
+    let round = reading.round;
+    counts(round);
+    effect(round, 15);
+    bid(round, 63);
+    constraint(round, 1023);
+}

@@ -1,0 +1,26 @@
+// The lines that the program writes.
+use test_edge_sheets::line::end;
+use test_edge_sheets::line::front;
+use test_edge_sheets::line::text;
+use sheet::Reading;
+
+// The end of a line: the number that the check gives the first `length` bytes.
+pub fn verdict(buf: &[u8], length: usize) {
+    let refusal = sheet::check(front(buf, length));
+    end(refusal as u64);
+}
+
+// A line: a name, and the number that the check gives the first `length` bytes.
+pub fn case(name: &[u8], buf: &[u8], length: usize) {
+    text(name);
+    verdict(buf, length);
+}
+
+// What is read of the first `length` bytes, and a line with its number.
+pub fn reading(name: &[u8], buf: &[u8], length: usize) -> Reading {
+    let reading = sheet::read(front(buf, length));
+    let refusal = reading.refusal;
+    text(name);
+    end(refusal as u64);
+    reading
+}

@@ -1,0 +1,109 @@
+// The lines that the program writes, in document 01's words.
+use test_both_engines::counts;
+use test_chance::rounds;
+
+// A line for a number that a call returned, if it did.
+fn number_line(tally: &[u64], name: &[u8], call: u32, number: u32) {
+    let count = test_tally::of(tally, counts::place(call, number));
+    if count == 0 {
+        return;
+    }
+    test_tally::text(name);
+    test_tally::text(b" ");
+    test_tally::number(number as u64);
+    test_tally::line(b"", count);
+}
+
+fn sum(tally: &[u64], call: u32) -> u64 {
+    let mut total: u64 = 0;
+    let mut left = counts::NUMBERS;
+    while 0 < left {
+        left -= 1;
+        total = std::num::wrapping_add_u64(total, test_tally::of(tally, counts::place(call, left)));
+    }
+    total
+}
+
+// A call: how often, and how often it returned each number, 0 where it answered.
+fn call_lines(tally: &[u64], name: &[u8], call: u32) {
+    test_tally::text(name);
+    test_tally::line(b" calls", sum(tally, call));
+    let mut left = counts::NUMBERS;
+    while 0 < left {
+        if left <= counts::NUMBERS {
+            number_line(tally, name, call, counts::NUMBERS - left);
+        }
+        left -= 1;
+    }
+}
+
+// Words and a count of the shape.
+fn shape_part(tally: &[u64], words: &[u8], first: u32, shape: u32) {
+    test_tally::text(words);
+    test_tally::number(test_tally::of(tally, counts::by_shape(first, shape)));
+}
+
+// A shape: its rounds, and the pages that both engines played and found best.
+fn shape_line(tally: &[u64], words: &[u8], shape: u32) {
+    test_tally::text(words);
+    shape_part(tally, b": rounds ", counts::SHAPES, shape);
+    shape_part(tally, b", pages ", counts::PLAYED, shape);
+    shape_part(tally, b", best pages ", counts::SEARCHED, shape);
+    test_tally::text(b"\n");
+}
+
+fn small_shapes(tally: &[u64]) {
+    shape_line(tally, b"small", rounds::SMALL);
+    shape_line(tally, b"small with equal bids", rounds::TIES);
+    shape_line(tally, b"small with many bids of 0", rounds::ZERO_BIDS);
+    shape_line(tally, b"more places than bidders", rounds::MORE_SLOTS);
+    shape_line(tally, b"downward monotonic lists", rounds::DOWNWARD);
+    shape_line(tally, b"bidders that bar each other", rounds::EXCLUSIONS);
+    shape_line(tally, b"each bidder above the next", rounds::CHAINS);
+    shape_line(tally, b"repeated conditions", rounds::REPEATS);
+}
+
+fn larger_shapes(tally: &[u64]) {
+    shape_line(tally, b"6 or 7 bidders and places", rounds::SIX_OR_SEVEN);
+    shape_line(tally, b"8 bidders and places", rounds::EIGHT);
+    shape_line(tally, b"9 to 20 bidders, 8 places", rounds::MIDDLE);
+    shape_line(
+        tally,
+        b"up to 64 bidders, 16 places, 1024 conditions",
+        rounds::LARGE,
+    );
+    shape_line(
+        tally,
+        b"64 bidders, 16 places, 1024 conditions",
+        rounds::LARGEST,
+    );
+    test_tally::count_line(tally, b"damaged sheets", counts::DAMAGED);
+}
+
+fn answers(tally: &[u64]) {
+    test_tally::count_line(tally, b"pages with an empty place", counts::EMPTY_SLOTS);
+    test_tally::count_line(tally, b"pages with a price above 0", counts::PRICES);
+    test_tally::count_line(tally, b"lists that are downward monotonic", counts::YES);
+    test_tally::count_line(tally, b"lists that are not", counts::NO);
+    test_tally::count_line(tally, b"gains above 0", counts::GAINS_ABOVE);
+    test_tally::count_line(tally, b"gains of 0", counts::GAINS_NOUGHT);
+    test_tally::count_line(tally, b"gains below 0", counts::GAINS_BELOW);
+    test_tally::count_line(
+        tally,
+        b"best pages with a larger total than the played page",
+        counts::ABOVE_GREEDY,
+    );
+}
+
+pub fn all(tally: &[u64]) {
+    call_lines(tally, b"check", counts::CHECK);
+    call_lines(tally, b"play", counts::PLAY);
+    call_lines(tally, b"downward", counts::DOWNWARD);
+    call_lines(tally, b"gain", counts::GAIN);
+    call_lines(tally, b"best", counts::BEST);
+    answers(tally);
+    small_shapes(tally);
+    larger_shapes(tally);
+    test_tally::count_line(tally, b"rounds", counts::ROUNDS);
+    test_tally::count_line(tally, b"differences", counts::DIFFERENCES);
+}

@@ -1,0 +1,148 @@
+// One round: a sheet and a truth sheet, each lent as a part of a larger buffer, through every call of both engines.
+use test_both_engines::answers;
+use test_both_engines::bytes;
+use test_both_engines::counts;
+use test_chance::lists;
+use test_chance::number;
+use test_chance::parts;
+use test_chance::rounds;
+
+// A sheet's shape, and the rule that it breaks or 0.
+struct Kind {
+    shape: u32,
+    rule: u32,
+}
+
+// The truth sheet: the same sheet, other lists, another sheet or a damaged one.
+fn make_truth(state: &mut u64, shape: u32, sheet: &[u8], bytes: usize, truth: &mut [u8]) -> usize {
+    parts::copy(sheet, truth, bytes);
+    let rule = 1 + number::up_to(state, test_damage::RULES - 1);
+    let aim = number::up_to(state, 30);
+    let drawn = number::up_to(state, 7);
+    match drawn {
+        0 | 1 | 2 => bytes,
+        3 | 4 => lists::relist(state, truth, aim),
+        5 => rounds::make(state, shape, truth),
+        _ => test_damage::damage(state, truth, rule),
+    }
+}
+
+fn damage_sheet(state: &mut u64, sheet: &mut [u8], rule: u32, bytes: usize) -> usize {
+    if rule == 0 {
+        return bytes;
+    }
+    test_damage::damage(state, sheet, rule)
+}
+
+// Random bytes with the sheet among them, and how many there are.
+fn lay(state: &mut u64, made: &[u8], start: u32, bytes: u32, space: &mut [u8]) -> usize {
+    let after = number::up_to(state, 9);
+    let total = start as usize + bytes as usize + after as usize;
+    bytes::fill(state, space, total);
+    bytes::paste(made, space, start, bytes);
+    total
+}
+
+fn play(state: &mut u64, tally: &mut [u64], kind: Kind, sheet: &[u8]) {
+    let played = answers::play(state, tally, sheet);
+    test_tally::add_if(tally, played, counts::by_shape(counts::PLAYED, kind.shape));
+}
+
+fn best(state: &mut u64, tally: &mut [u64], kind: Kind, sheet: &[u8]) {
+    let searched = answers::best(state, tally, sheet);
+    test_tally::add_if(
+        tally,
+        searched,
+        counts::by_shape(counts::SEARCHED, kind.shape),
+    );
+}
+
+fn all_calls(state: &mut u64, tally: &mut [u64], kind: Kind, sheet: &[u8], truth: &[u8]) {
+    answers::check(tally, sheet, kind.rule);
+    play(state, tally, kind, sheet);
+    answers::downward(state, tally, sheet);
+    answers::gain(state, tally, sheet, truth);
+    best(state, tally, kind, sheet);
+}
+
+fn with_truth(
+    state: &mut u64,
+    tally: &mut [u64],
+    kind: Kind,
+    sheet: &[u8],
+    made: &[u8],
+    bytes: u32,
+) {
+    let mut first = [0u8; parts::ROOM];
+    let mut second = [0u8; parts::ROOM];
+    let space: &mut [u8] = &mut first;
+    let kept: &mut [u8] = &mut second;
+    let start = number::up_to(state, 9);
+    let total = lay(state, made, start, bytes, space);
+    parts::copy(space, kept, total);
+    all_calls(state, tally, kind, sheet, parts::part(space, start, bytes));
+    let same = bytes::same(space, kept, total);
+    counts::hold(tally, same, b"the truth sheet's bytes");
+}
+
+fn with_sheet(
+    state: &mut u64,
+    tally: &mut [u64],
+    kind: Kind,
+    made: &[u8],
+    bytes: u32,
+    truth: &[u8],
+    truth_bytes: u32,
+) {
+    let mut first = [0u8; parts::ROOM];
+    let mut second = [0u8; parts::ROOM];
+    let space: &mut [u8] = &mut first;
+    let kept: &mut [u8] = &mut second;
+    let start = number::up_to(state, 9);
+    let total = lay(state, made, start, bytes, space);
+    parts::copy(space, kept, total);
+    with_truth(
+        state,
+        tally,
+        kind,
+        parts::part(space, start, bytes),
+        truth,
+        truth_bytes,
+    );
+    let same = bytes::same(space, kept, total);
+    counts::hold(tally, same, b"the sheet's bytes");
+}
+
+fn note(tally: &mut [u64], shape: u32, rule: u32) {
+    test_tally::add(tally, counts::ROUNDS);
+    if rule != 0 {
+        test_tally::add(tally, counts::DAMAGED);
+    } else {
+        test_tally::add(tally, counts::by_shape(counts::SHAPES, shape));
+    }
+}
+
+// A round on a sheet of the shape that breaks the rule, or on a right one where the rule is 0.
+pub fn play_round(state: &mut u64, tally: &mut [u64], shape: u32, rule: u32) {
+    let mut first = [0u8; parts::ROOM];
+    let mut second = [0u8; parts::ROOM];
+    let sheet: &mut [u8] = &mut first;
+    let truth: &mut [u8] = &mut second;
+    note(tally, shape, rule);
+    let bytes = rounds::make(state, shape, sheet);
+    let truth_bytes = make_truth(state, shape, sheet, bytes, truth);
+    let changed = damage_sheet(state, sheet, rule, bytes);
+    let kind = Kind {
+        shape: shape,
+        rule: rule,
+    };
+    with_sheet(
+        state,
+        tally,
+        kind,
+        sheet,
+        parts::size(changed),
+        truth,
+        parts::size(truth_bytes),
+    );
+}

@@ -1,0 +1,53 @@
+-- The definitions give, of every worked round, what document 01 says of it: the antt kernel computes them from the sheets' bytes, the best
+-- pages by trying every page.
+-- Assumes nothing.
+use mathlib.Core.List.{map}
+use mathlib.Core.Path.{_≡_, refl}
+use Rattle.basis.specs.Bytes.{word16At, word32At, bytes32}
+use Rattle.basis.specs.First.{firstOver}
+use Rattle.basis.specs.Rows.{row, padded}
+use Rattle.basis.specs.Tests.{anyBelow, allBelow, least}
+use Rattle.sheet.specs.Sheet.{effectField, bidField, ownerField, ownSlotField, otherField, otherSlotField}
+use Rattle.sheet.specs.Refusal.{
+  formRefusal,
+  countsRefusal,
+  effectRefusal,
+  bidRefusal,
+  inRange,
+  fieldsRefusal,
+  constraintRefusal,
+  refusalOf,
+}
+use Rattle.sheet.specs.Round.{kindOf, constraintField, roundOf}
+use Rattle.choice.specs.Winner.{before, wins, winner}
+use Rattle.auction.specs.Page.{at, put, emptyPage, placed}
+use Rattle.auction.specs.Broken.{ownHolds, otherHolds, broken, constraintAt, breaks}
+use Rattle.auction.specs.Greedy.{bidOf, effectOf, concerns, eligible, winnerAt, fillSlot, pageUpTo, greedyPage}
+use Rattle.auction.specs.Price.{withBid, winsWith, priceFor, price}
+use Rattle.downward.specs.Downward.{ownSlot, oneLower, sameKind, listHas, asksLower, downward}
+use Rattle.gain.specs.Gain.{slotOf, breaksOwn, gainIf, gainAt, gainOf}
+use Rattle.best_search.specs.Best.{totalUpTo, total}
+use Rattle.best_search.specs.BestPage.{nobodyTwice, isAllowed, keep, eachChoice, tryAll, bestPage}
+use Rattle.test_worked_rounds.specs.Sheets.{
+  words,
+  quads,
+  sheetOf,
+  A,
+  B,
+  C,
+  D,
+  E,
+  F,
+  F-true,
+  G,
+  H,
+  H-longer,
+  earlier-winner,
+  overbid,
+  overbid-barred,
+}
+use Rattle.test_worked_rounds.specs.Worked.{bySlot, Worked, asked, rounds}
+
+pub rounds-hold : map asked rounds ≡ map (λ (w : Worked). w .said) rounds
+unfolding word16At word32At bytes32 firstOver row padded anyBelow allBelow least effectField bidField ownerField ownSlotField otherField otherSlotField formRefusal countsRefusal effectRefusal bidRefusal inRange fieldsRefusal constraintRefusal refusalOf kindOf constraintField roundOf before wins winner at put emptyPage placed ownHolds otherHolds broken constraintAt bidOf effectOf concerns eligible winnerAt fillSlot pageUpTo greedyPage withBid winsWith priceFor price ownSlot oneLower sameKind listHas asksLower downward slotOf breaksOwn gainIf gainAt gainOf breaks totalUpTo total nobodyTwice isAllowed keep eachChoice tryAll bestPage bySlot words quads sheetOf A B C D E F F-true G H H-longer earlier-winner overbid overbid-barred asked rounds
+rounds-hold = refl
