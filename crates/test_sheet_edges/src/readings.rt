@@ -1,10 +1,10 @@
 // What is read of a refused, a small and a full sheet. The bytes of each longer number differ, so that their order shows.
 use crate::show;
-use test_edge_sheets::build;
-use test_edge_sheets::line;
 use sheet::Kind;
 use sheet::Reading;
 use sheet::Round;
+use test_edge_sheets::build;
+use test_edge_sheets::line;
 
 pub fn report() {
     refused();
