@@ -31,9 +31,10 @@ use Rattle.sheet.specs.declared.Constraint.{Constraint}
 use Rattle.sheet.specs.declared.Page.{Page}
 use Rattle.sheet.specs.declared.Round.{Round}
 use Rattle.auction.specs.Page.{at, put, emptyPage, placed, Sized}
-use Rattle.auction.specs.Broken.{ownHolds, otherHolds, broken, constraintAt, breaks}
+use Rattle.auction.specs.Broken.{ownHolds, otherHolds, broken, breaks}
+use Rattle.sheet.specs.Round.{constraintAt, Has}
+use Rattle.sheet.specs.Proper.{ProperKind, Proper, ProperRound}
 use Rattle.auction.specs.Greedy.{concerns, eligible}
-use Rattle.auction.specs.Proper.{ProperKind, Proper, Has, ProperRound}
 use Rattle.auction.proofs.PageLaws.{Keeps, keeps-placed, placed-at, placed-put, empty-placed}
 
 -- a broken constraint's parts are true, and its owner has a slot
@@ -88,7 +89,7 @@ broken-stays p p′ q f s e =
     let parts = broken-parts p q e in
     parts-broken p′ q
     (own-stays p p′ (q .owner .0) (q .kind) f (s .owned) (parts .0))
-    (other-stays p p′ (q .owner .0) (q .kind) f (s .named) (parts .1))
+    (other-stays p p′ (q .owner .0) (q .kind) f (s .parts) (parts .1))
     (keeps-placed p p′ (q .owner .0) (s .owned) f (parts .2))
 
 pub empty-unbroken : (q : Constraint) → Proper q → broken emptyPage q ≡ false

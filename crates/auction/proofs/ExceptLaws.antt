@@ -12,11 +12,12 @@ use Rattle.sheet.specs.declared.Round.{Round}
 use Rattle.choice.specs.Winner.{winner}
 use Rattle.auction.specs.Page.{at, put, emptyPage, placed, Sized}
 use Rattle.auction.specs.Broken.{broken}
-use Rattle.auction.specs.Greedy.{bidOf, eligible, winnerAt, pageUpTo, greedyPage}
-use Rattle.auction.specs.Proper.{Has}
+use Rattle.auction.specs.Greedy.{eligible, winnerAt, pageUpTo, greedyPage}
+use Rattle.sheet.specs.Round.{bidOf, Has}
 use Rattle.auction.specs.Except.{Except, SameSets}
 use Rattle.choice.proofs.WinnerLaws.{winner-without}
-use Rattle.auction.proofs.PageLaws.{same-or-not, placed-put, placed-where, put-placed, keeps-placed}
+use Rattle.auction.proofs.PageLaws.{placed-put, placed-where, put-placed, keeps-placed}
+use Rattle.basis.proofs.NumberLaws.{same-or-not}
 use Rattle.auction.proofs.BrokenLaws.{unplaced-unbroken, eligible-unplaced, eligible-unbroken, unbroken-eligible}
 use Rattle.auction.proofs.GreedyLaws.{upTo-next, upTo-sized, upTo-keeps-next, upTo-bidders}
 

@@ -14,26 +14,12 @@ use Rattle.choice.specs.Tables.{bidIn}
 use Rattle.choice.specs.Winner.{winner}
 use Rattle.auction.specs.Page.{at, put, emptyPage, placed, Sized}
 use Rattle.auction.specs.Broken.{broken, breaks}
-use Rattle.auction.specs.Greedy.{bidOf, eligible, winnerAt, fillSlot, pageUpTo, greedyPage}
-use Rattle.auction.specs.Proper.{Proper, Has, ProperRound}
+use Rattle.auction.specs.Greedy.{eligible, winnerAt, fillSlot, pageUpTo, greedyPage}
+use Rattle.sheet.specs.Round.{bidOf, Has}
+use Rattle.sheet.specs.Proper.{Proper, ProperRound}
 use Rattle.choice.proofs.WinnerLaws.{Wins, winner-wins, winner-none, none-winner, winner-most}
-use Rattle.auction.proofs.PageLaws.{
-  same-or-not,
-  put-sized,
-  empty-sized,
-  at-put-same,
-  at-put-other,
-  at-empty,
-  at-within,
-  placed-at,
-  placed-where,
-  put-nobody,
-  Keeps,
-  keeps-refl,
-  keeps-trans,
-  put-keeps,
-  keeps-placed,
-}
+use Rattle.auction.proofs.PageLaws.{put-sized, empty-sized, at-put-same, at-put-other, at-empty, at-within, placed-at, placed-where, put-nobody, Keeps, keeps-refl, keeps-trans, put-keeps, keeps-placed}
+use Rattle.basis.proofs.NumberLaws.{same-or-not}
 use Rattle.auction.proofs.BrokenLaws.{empty-unbroken, eligible-unplaced, eligible-unbroken, none-breaks}
 
 -- a bid in the round's list is the bidder's
@@ -168,7 +154,7 @@ module _ (r : Round) where
           let new : at p i ≡ w = sym old ∙ same ∙ upTo-slot l m in
           let won = winner-eligible p (suc l) (λ z. some (old ∙ new ∙ z)) in
           let place = at-within p i (upTo-sized l) (λ z. some (old ∙ z)) in
-          not-both (placed-at p w i (place .0) (place .1) new) (eligible-unplaced r p (suc l) w (won .able))
+          not-both (placed-at p w i (place .0) (place .1) new) (eligible-unplaced r p (suc l) w (won .is-eligible))
 
   -- no constraint of the round is broken on the way
   pub upTo-unbroken : ((q : Constraint) → Has r q → Proper q) → (k : ℕ) → k ≤ 16 → (q : Constraint) → Has r q → broken (pageUpTo r k) q ≡ false
@@ -182,7 +168,7 @@ module _ (r : Round) where
       ∙ upTo-unbroken f k (omega arith) q h)
       (λ (s : winnerAt r (pageUpTo r k) (suc k) ≡ 0 → ⊥).
       eligible-unbroken r (pageUpTo r k) (suc k) (winnerAt r (pageUpTo r k) (suc k)) (upTo-sized k) (omega arith) m
-      (winner-eligible (pageUpTo r k) (suc k) s .able) q h)
+      (winner-eligible (pageUpTo r k) (suc k) s .is-eligible) q h)
       (same-or-not (winnerAt r (pageUpTo r k) (suc k)) 0)
 
   -- the greedy page breaks no constraint

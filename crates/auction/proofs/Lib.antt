@@ -4,5 +4,4 @@ pub mod BrokenLaws
 pub mod GreedyLaws
 pub mod ExceptLaws
 pub mod PriceLaws
-pub mod AcceptedLaws
 pub mod WriteLaws

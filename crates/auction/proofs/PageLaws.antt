@@ -1,36 +1,23 @@
 -- How a page is read after a bidder is put on it, and what stays as a page fills. Assumes nothing.
 use Prim.Native.Nat.{ℕ, zero, suc, _-_, _<_, _≤_}
-use borrow.Author.Tests.{eq-eqb, eqb-true, ltb-true, ltb-false}
+use borrow.Author.Tests.{eq-eqb, eqb-true}
 use mathlib.Core.Bool.{Bool, true, false}
 use mathlib.Core.Logic.{_⊎_, inl, inr, ⊎-elim}
 use mathlib.Core.Path.{_≡_, refl, sym, _∙_, ap}
-use native.Mathlib.Decide.{ℕ-discrete}
 use native.Mathlib.Nat.{not-suc-le-zero}
 use native.Mathlib.Omega.{arith}
-use lib.Dec.{eqb, ltb}
+use lib.Dec.{eqb}
 use lib.ListN.{length, getD, set, replicate, length-set, length-replicate, getD-replicate, List·getD-eq-default}
-use lib.Seq.{getD-set-same, getD-set-other, set-getD}
+use lib.Seq.{getD-set-same, getD-set-other, set-getD, ext-getD}
 use Rattle.basis.specs.Tests.{anyBelow}
-use Rattle.basis.proofs.TestLaws.{any-at, any-where, holds-or-fails, fails}
+use Rattle.basis.proofs.NumberLaws.{same-or-not, below-or-not}
+use Rattle.basis.proofs.TestLaws.{any-at, any-where, fails}
 use Rattle.sheet.specs.declared.Bidder.{Bidder}
 use Rattle.sheet.specs.declared.Page.{Page}
 use Rattle.sheet.specs.Round.{bidder}
 use Rattle.auction.specs.Page.{at, put, emptyPage, placed, Sized}
 
--- two numbers are equal or not
-pub same-or-not : (a b : ℕ) → (a ≡ b) ⊎ (a ≡ b → ⊥)
-same-or-not a b = decided (ℕ-discrete a b)
-  where
-    decided : Dec (a ≡ b) → (a ≡ b) ⊎ (a ≡ b → ⊥)
-    decided (yes e) = inl e
-    decided (no h) = inr h
-
--- one number is below another or not
-pub below-or-not : (a b : ℕ) → (a < b) ⊎ (b ≤ a)
-below-or-not a b =
-    ⊎-elim (λ (t : ltb a b ≡ true). inl (ltb-true a b t)) (λ (t : ltb a b ≡ false). inr (ltb-false a b t)) (holds-or-fails (ltb a b))
-
-at-zero : (p : Page) → at p 0 ≡ 0
+pub at-zero : (p : Page) → at p 0 ≡ 0
 unfolding at
 at-zero p = refl
 
@@ -109,6 +96,15 @@ unfolding at put
 put-nobody p zero e = refl
 put-nobody p (suc k) e =
     λ i. record { bidders = (ap (set (p .bidders) k) (λ j. record { 0 = sym e j }) ∙ set-getD (p .bidders) k (bidder 0)) i }
+
+-- pages with the same bidder at each slot are the same page
+pub page-same : (p q : Page) → Sized p → Sized q → ((k : ℕ) → at p k ≡ at q k) → p ≡ q
+unfolding at
+page-same p q s t f =
+    λ i. record {
+      bidders =
+          ext-getD (bidder 0) (p .bidders) (q .bidders) (s ∙ sym t) (λ k l. λ j. record { 0 = f (suc k) j }) i;
+    }
 
 -- a slot by its index in the page's array
 pub at-index : (p : Page) (k : ℕ) → 0 < k → getD (p .bidders) (k - 1) (bidder 0) .0 ≡ at p k

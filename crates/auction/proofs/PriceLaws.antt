@@ -1,6 +1,6 @@
--- The price of document 01, the smallest bid that still wins when the round is replayed, is the most that an eligible rival asks.
--- A lower bid changes no slot before the winner's: whoever won there still goes before it. At its own slot the same bidders are
--- eligible, since bids bar nobody, so it wins with exactly the bids that every rival's asking allows. Assumes nothing.
+-- The price of document 01, the smallest bid that still wins when the round is replayed, is the critical bid.
+-- A lower bid changes no slot before the winner's: whoever won there still ranks no lower. At its own slot the same bidders are
+-- eligible, since bids bar nobody, so it wins with exactly the bids from the critical one up. Assumes nothing.
 use Prim.Native.Nat.{ℕ, zero, suc, _<_, _≤_}
 use borrow.Author.Tests.{eq-eqb, ne-eqb, eqb-true}
 use mathlib.Core.Bool.{Bool, true, false}
@@ -16,17 +16,17 @@ use Rattle.basis.proofs.TestLaws.{not-both, holds, fails, same-tests, holds-or-
 use Rattle.sheet.specs.declared.Constraint.{Constraint}
 use Rattle.sheet.specs.declared.Page.{Page}
 use Rattle.sheet.specs.declared.Round.{Round}
-use Rattle.choice.specs.Winner.{before, winner}
-use Rattle.choice.specs.Asks.{mostAsked}
+use Rattle.choice.specs.Winner.{ranksNoLower, winner}
+use Rattle.choice.specs.Critical.{criticalBid}
 use Rattle.auction.specs.Page.{at, put, placed, Sized}
-use Rattle.auction.specs.Broken.{constraintAt}
-use Rattle.auction.specs.Greedy.{bidOf, eligible, winnerAt, pageUpTo, greedyPage}
+use Rattle.sheet.specs.Round.{constraintAt, bidOf, Has}
+use Rattle.auction.specs.Greedy.{eligible, winnerAt, pageUpTo, greedyPage}
 use Rattle.auction.specs.Price.{withBid, winsWith, priceFor, price}
-use Rattle.auction.specs.Proper.{Has}
 use Rattle.auction.specs.Except.{Except, SameSets}
-use Rattle.choice.proofs.WinnerLaws.{Wins, winner-wins, winner-same, before-cases, before-antisym}
-use Rattle.choice.proofs.AsksLaws.{ExceptBid, enough-wins, less-loses, asked-at-most-bid, asked-same}
-use Rattle.auction.proofs.PageLaws.{same-or-not, below-or-not, placed-at}
+use Rattle.choice.proofs.WinnerLaws.{Wins, winner-wins, winner-same, ranks-cases, ranks-antisym}
+use Rattle.choice.proofs.CriticalLaws.{ExceptBid, enough-wins, less-loses, critical-at-most-bid, critical-same}
+use Rattle.auction.proofs.PageLaws.{placed-at}
+use Rattle.basis.proofs.NumberLaws.{same-or-not, below-or-not}
 use Rattle.auction.proofs.BrokenLaws.{eligible-unplaced}
 use Rattle.auction.proofs.GreedyLaws.{upTo-next, upTo-sized, upTo-slot, slot-winner, winner-eligible, winner-bidder, empty-nobody}
 use Rattle.auction.proofs.ExceptLaws.{winner-except, unplaced-before, eligible-except, upTo-sets, sets-except, stranger-unplaced, page-sets}
@@ -91,7 +91,7 @@ unfolding priceFor
 price-least r k zero s = absurd (not-suc-le-zero s)
 price-least r k (suc i) s = refl
 
--- With a bid x that is not above its own, the later winner w wins no slot before: whoever won there goes before it.
+-- With a bid x that is not above its own, the later winner w wins no slot before: whoever won there ranks no lower.
 module _ (r : Round) (w x : ℕ) (lower : x ≤ bidOf r w) (some : 0 < w) (listed : w ≤ length (r .bids)) where
   no-earlier : (p : Page) (k : ℕ) → 0 < k → (winnerAt r p k ≡ w → ⊥) → winnerAt (withBid r w x) p k ≡ w → ⊥
   unfolding winnerAt
@@ -104,16 +104,16 @@ module _ (r : Round) (w x : ℕ) (lower : x ≤ bidOf r w) (some : 0 < w) (liste
       ∙ ap (winner (eligible (withBid r w x) p k) bid′) (sym (with-bidders r w x))
       ∙ won in
       let top = winner-wins e bid′ n (λ z. absurd (let c : w ≡ 0 = sym won′ ∙ z in omega arith)) in
-      let able : e w ≡ true = subst (λ (b : ℕ). e b ≡ true) won′ (top .able) in
+      let w-eligible : e w ≡ true = subst (λ (b : ℕ). e b ≡ true) won′ (top .is-eligible) in
       let most : w ≤ n = subst (λ (b : ℕ). b ≤ n) won′ (top .most) in
       ⊎-elim
-      (λ (z : winner e (bidOf r) n ≡ 0). not-both able (empty-nobody r p k (unfold winnerAt in z) w some most))
+      (λ (z : winner e (bidOf r) n ≡ 0). not-both w-eligible (empty-nobody r p k (unfold winnerAt in z) w some most))
       (λ (z : winner e (bidOf r) n ≡ 0 → ⊥).
       let v = winner e (bidOf r) n in
       let old = winner-wins e (bidOf r) n z in
-      let first : before (bidOf r) v w ≡ true = old .first w some most able in
-      let again : before bid′ w v ≡ true
-      = subst (λ (b : ℕ). before bid′ b v ≡ true) won′ (top .first v (old .some) (old .most) (old .able)) in
+      let first : ranksNoLower (bidOf r) v w ≡ true = old .first w some most w-eligible in
+      let again : ranksNoLower bid′ w v ≡ true
+      = subst (λ (b : ℕ). ranksNoLower bid′ b v ≡ true) won′ (top .first v (old .some) (old .most) (old .is-eligible)) in
       let own : bid′ w ≡ x = with-own r w x some listed in
       let his : bid′ v ≡ bidOf r v = with-other r w x v lost in
       ⊎-elim
@@ -121,13 +121,13 @@ module _ (r : Round) (w x : ℕ) (lower : x ≤ bidOf r w) (some : 0 < w) (liste
       ⊎-elim
       (λ (c : bid′ v < bid′ w). absurd (omega arith))
       (λ (c : (bid′ v ≡ bid′ w) × (w ≤ v)). absurd (omega arith))
-      (before-cases bid′ w v again))
+      (ranks-cases bid′ w v again))
       (λ (a : (bidOf r w ≡ bidOf r v) × (v ≤ w)).
       ⊎-elim
       (λ (c : bid′ v < bid′ w). absurd (omega arith))
       (λ (c : (bid′ v ≡ bid′ w) × (w ≤ v)). lost (let q : v ≡ w = omega arith in q))
-      (before-cases bid′ w v again))
-      (before-cases (bidOf r) v w first))
+      (ranks-cases bid′ w v again))
+      (ranks-cases (bidOf r) v w first))
       (same-or-not (winner e (bidOf r) n) 0)
 
   -- so the replay fills the slots before w's alike
@@ -158,72 +158,72 @@ module _ (r : Round) (w x : ℕ) (lower : x ≤ bidOf r w) (some : 0 < w) (liste
       (λ j a z. with-eligible r w x p (suc k) j) (λ j a z. refl)
       ∙ ap (winner (eligible r p (suc k)) (bidOf r′)) (with-bidders r w x)
 
--- The winner w of slot k + 1, and what is asked of it there.
+-- The winner w of slot k + 1, and its critical bid there.
 module _ (r : Round) (k w : ℕ) (few : r .slots ≤ 16) (inside : k < r .slots) (listed : w ≤ length (r .bids)) (some : 0 < w)
     (won : winnerAt r (pageUpTo r k) (suc k) ≡ w) where
-  abbrev able : ℕ → Bool
-  able = eligible r (pageUpTo r k) (suc k)
+  abbrev here-eligible : ℕ → Bool
+  here-eligible = eligible r (pageUpTo r k) (suc k)
 
-  abbrev asked : ℕ
-  asked = mostAsked able (bidOf r) w (r .bidders)
+  abbrev critical : ℕ
+  critical = criticalBid here-eligible (bidOf r) w (r .bidders)
 
-  top : Wins able (bidOf r) (r .bidders) w
+  top : Wins here-eligible (bidOf r) (r .bidders) w
   top =
-      subst (Wins able (bidOf r) (r .bidders)) won
+      subst (Wins here-eligible (bidOf r) (r .bidders)) won
       (winner-eligible r (pageUpTo r k) (suc k) (λ z. absurd (let c : w ≡ 0 = sym won ∙ z in omega arith)))
 
   unplaced : placed (pageUpTo r k) w ≡ false
-  unplaced = eligible-unplaced r (pageUpTo r k) (suc k) w (top .able)
+  unplaced = eligible-unplaced r (pageUpTo r k) (suc k) w (top .is-eligible)
 
-  asked-low : asked ≤ bidOf r w
+  critical-low : critical ≤ bidOf r w
   unfolding winnerAt
-  asked-low = asked-at-most-bid able (bidOf r) (r .bidders) w some won
+  critical-low = critical-at-most-bid here-eligible (bidOf r) (r .bidders) w some won
 
   others-bid : (x : ℕ) → ExceptBid (bidOf r) (bidOf (withBid r w x)) w
   others-bid x = record { others = with-other r w x }
 
-  wins-from-asked : (x : ℕ) → x ≤ bidOf r w → asked ≤ x → winsWith r (suc k) w x ≡ true
+  wins-from-critical : (x : ℕ) → x ≤ bidOf r w → critical ≤ x → winsWith r (suc k) w x ≡ true
   unfolding winsWith
-  wins-from-asked x low enough =
+  wins-from-critical x low enough =
       let own = with-own r w x some listed in
       eq-eqb (at (greedyPage (withBid r w x)) (suc k)) w
       (replay-slot r w x low some listed few k inside unplaced
-      ∙ enough-wins able (bidOf r) (r .bidders) w (bidOf (withBid r w x)) (others-bid x) some (top .most) (top .able) (omega arith))
+      ∙ enough-wins here-eligible (bidOf r) (r .bidders) w (bidOf (withBid r w x)) (others-bid x) some (top .most) (top .is-eligible) (omega arith))
 
-  loses-below-asked : (x : ℕ) → x < asked → winsWith r (suc k) w x ≡ false
+  loses-below-critical : (x : ℕ) → x < critical → winsWith r (suc k) w x ≡ false
   unfolding winsWith
-  loses-below-asked x less =
+  loses-below-critical x less =
       let own = with-own r w x some listed in
-      let low : x ≤ bidOf r w = (let h = asked-low in omega arith) in
+      let low : x ≤ bidOf r w = (let h = critical-low in omega arith) in
       ne-eqb (at (greedyPage (withBid r w x)) (suc k)) w
       (λ e.
-      less-loses able (bidOf r) (r .bidders) w (bidOf (withBid r w x)) (others-bid x) some (omega arith)
+      less-loses here-eligible (bidOf r) (r .bidders) w (bidOf (withBid r w x)) (others-bid x) some (omega arith)
       (sym (replay-slot r w x low some listed few k inside unplaced) ∙ e))
 
-  -- The price is the most that an eligible rival asks.
-  pub price-asked : price r (suc k) ≡ asked
+  -- The price is the critical bid.
+  pub price-critical : price r (suc k) ≡ critical
   unfolding price
-  price-asked =
+  price-critical =
       ap (priceFor r (suc k)) (slot-winner r few k inside ∙ won)
       ∙ price-least r (suc k) w some
-      ∙ least-is (winsWith r (suc k) w) (bidOf r w) asked asked-low loses-below-asked (λ l. wins-from-asked asked asked-low (omega arith))
+      ∙ least-is (winsWith r (suc k) w) (bidOf r w) critical critical-low loses-below-critical (λ l. wins-from-critical critical critical-low (omega arith))
 
   -- It is at most the winner's bid,
   pub price-at-most-bid : price r (suc k) ≤ bidOf r w
-  price-at-most-bid = let e = price-asked in let h = asked-low in omega arith
+  price-at-most-bid = let e = price-critical in let h = critical-low in omega arith
 
   -- it wins the slot,
   pub price-wins : at (greedyPage (withBid r w (price r (suc k)))) (suc k) ≡ w
   unfolding winsWith
   price-wins =
       eqb-true (at (greedyPage (withBid r w (price r (suc k)))) (suc k)) w
-      (wins-from-asked (price r (suc k)) price-at-most-bid (let e = price-asked in omega arith))
+      (wins-from-critical (price r (suc k)) price-at-most-bid (let e = price-critical in omega arith))
 
   -- and no smaller bid does.
   pub smaller-loses : (x : ℕ) → x < price r (suc k) → at (greedyPage (withBid r w x)) (suc k) ≡ w → ⊥
   unfolding winsWith
   smaller-loses x less e =
-      not-both (eq-eqb (at (greedyPage (withBid r w x)) (suc k)) w e) (loses-below-asked x (let h = price-asked in omega arith))
+      not-both (eq-eqb (at (greedyPage (withBid r w x)) (suc k)) w e) (loses-below-critical x (let h = price-critical in omega arith))
 
 -- "An empty place has price 0."
 pub empty-costs-nothing : (r : Round) (k : ℕ) → at (greedyPage r) k ≡ 0 → price r k ≡ 0
@@ -237,13 +237,13 @@ pub price-except : (r r′ : Round) (k w : ℕ) → Except w r r′ → r .slots
 price-except r r′ k w x few inside some listed listed′ same won won′ =
     let slots = x .slots in
     let p = pageUpTo r k in
-    price-asked r k w few inside listed some won
-    ∙ asked-same (eligible r p (suc k)) (eligible r′ p (suc k)) (bidOf r) (bidOf r′) (r .bidders) w
+    price-critical r k w few inside listed some won
+    ∙ critical-same (eligible r p (suc k)) (eligible r′ p (suc k)) (bidOf r) (bidOf r′) (r .bidders) w
     (λ j d a z.
     eligible-except w r r′ x p (suc k) j (upTo-sized r k) (omega arith) (omega arith) (unplaced r k w few inside listed some won) d)
     (λ j d a z. x .bids j d)
-    ∙ ap₂ (λ (q : Page) (n : ℕ). mostAsked (eligible r′ q (suc k)) (bidOf r′) w n) same (x .bidders)
-    ∙ sym (price-asked r′ k w (omega arith) (omega arith) listed′ some won′)
+    ∙ ap₂ (λ (q : Page) (n : ℕ). criticalBid (eligible r′ q (suc k)) (bidOf r′) w n) same (x .bidders)
+    ∙ sym (price-critical r′ k w (omega arith) (omega arith) listed′ some won′)
 
 -- Prices depend on each owner's set of constraints only.
 pub price-sets : (r r′ : Round) → SameSets r r′ → r .slots ≤ 16 → r .bidders ≤ length (r .bids) → r .bidders ≤ length (r′ .bids) →

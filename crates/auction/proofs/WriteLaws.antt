@@ -1,19 +1,18 @@
 -- A bid written into the sheet's bytes is the replay's round: the other fields stay, and the four bytes say the bid. The bytes lie
--- after the effects and before the constraints, so every test of the check, and every field of the round but that bid, is as before.
+-- after the effects and before the constraints, so every fact of acceptance, and every field of the round but that bid, is as before.
 -- Assumes nothing.
 use Prim.Native.Nat.{ℕ, zero, suc, _+_, _*_, _<_, _≤_}
 use mathlib.Core.List.{List}
 use mathlib.Core.Logic.{inl, inr, ⊎-elim}
-use mathlib.Core.Path.{_≡_, refl, sym, _∙_, ap}
+use mathlib.Core.Path.{_≡_, refl, sym, _∙_, ap, subst}
 use native.Mathlib.Nat.{not-suc-le-zero}
 use native.Mathlib.Omega.{arith}
 use lib.ListN.{length, set}
 use lib.Seq.{sets, length-sets}
 use Rattle.basis.specs.Bytes.{byteAt, word32At, bytes32}
-use Rattle.basis.specs.First.{orElse, firstOver}
 use Rattle.basis.specs.Rows.{padded}
 use Rattle.basis.proofs.BytesLaws.{byte-elsewhere, word16-elsewhere, word32-elsewhere, word-of-bytes}
-use Rattle.basis.proofs.FirstLaws.{first-same}
+use Rattle.basis.proofs.NumberLaws.{same-or-not, below-or-not}
 use Rattle.basis.proofs.RowLaws.{padded-same, padded-stored}
 use Rattle.sheet.specs.Sheet.{
   version,
@@ -30,22 +29,12 @@ use Rattle.sheet.specs.Sheet.{
   otherField,
   otherSlotField,
 }
-use Rattle.sheet.specs.Refusal.{
-  formRefusal,
-  countsRefusal,
-  effectBefore,
-  effectRefusal,
-  bidRefusal,
-  constraintRefusal,
-  refusalOf,
-  Accepted,
-}
+use Rattle.sheet.specs.Refusal.{effectBefore, Accepted}
+use Rattle.sheet.specs.Accepted.{Form, Counts, EffectAccepted, BidAccepted, ConstraintAccepted, AcceptedSheet}
 use Rattle.sheet.specs.Round.{bidder, kindOf, constraintField, blank, roundOf}
-use Rattle.sheet.proofs.AcceptedLaws.{AcceptedSheet, accepted-sheet}
-use Rattle.sheet.proofs.RefusalLaws.{bid-accepted}
+use Rattle.sheet.proofs.AcceptedLaws.{accepted-sheet, sheet-accepted}
 use Rattle.auction.specs.Price.{withBid}
 use Rattle.auction.specs.Write.{writeBid}
-use Rattle.auction.proofs.PageLaws.{same-or-not, below-or-not}
 
 -- the sheet with the bid x written for bidder i + 1, as its four bytes
 abbrev written : List ℕ → ℕ → ℕ → List ℕ
@@ -81,34 +70,28 @@ module _ (s : List ℕ) (ok : Accepted s) (i x : ℕ) (most : i < bidderCount s)
   same-constraints-start : constraintsStart (written s i x) ≡ constraintsStart s
   same-constraints-start = let slots = same-slots in let bidders = same-bidders in omega arith
 
-  same-form : formRefusal (written s i x) ≡ formRefusal s
-  unfolding formRefusal
-  same-form = simp (same-length, same-version, same-byte 0 (omega arith), same-byte 1 (omega arith), same-byte 2 (omega arith))
-
-  same-counts : countsRefusal (written s i x) ≡ countsRefusal s
-  unfolding countsRefusal
-  same-counts = simp (same-length, same-bidders, same-slots, same-used)
-
   -- so are the effects, which stand before the bids,
-  same-effect : (k : ℕ) → k < slotCount s → effectField (written s i x) k ≡ effectField s k
+  same-effect : (k : ℕ) → k ≤ slotCount s → effectField (written s i x) k ≡ effectField s k
   unfolding effectField
-  same-effect k l = word32-elsewhere s (bidsStart s + 4 * i) x (effectsStart s + 4 * k) (inl (omega arith))
+  same-effect zero l = refl
+  same-effect (suc k) l = word32-elsewhere s (bidsStart s + 4 * i) x (effectsStart s + 4 * k) (inl (omega arith))
 
-  same-effect-before : (k : ℕ) → k < slotCount s → effectBefore (written s i x) k ≡ effectBefore s k
+  same-effect-before : (k : ℕ) → k ≤ slotCount s → effectBefore (written s i x) k ≡ effectBefore s k
   same-effect-before zero l = refl
-  same-effect-before (suc k) l = same-effect k (omega arith)
-
-  same-effect-refusal : (k : ℕ) → k < slotCount s → effectRefusal (written s i x) k ≡ effectRefusal s k
-  unfolding effectRefusal
-  same-effect-refusal k l = simp (same-effect k l, same-effect-before k l)
+  same-effect-before (suc zero) l = refl
+  same-effect-before (suc (suc k)) l = same-effect (suc k) (omega arith)
 
   -- the other bids,
-  same-bid : (j : ℕ) → (j ≡ i → ⊥) → bidField (written s i x) j ≡ bidField s j
+  same-bid : (b : ℕ) → (b ≡ suc i → ⊥) → bidField (written s i x) b ≡ bidField s b
   unfolding bidField
-  same-bid j other =
+  same-bid zero other = refl
+  same-bid (suc j) other =
       ap (λ (start : ℕ). word32At (written s i x) (start + 4 * j)) same-bids-start
       ∙ word32-elsewhere s (bidsStart s + 4 * i) x (bidsStart s + 4 * j)
-      (⊎-elim (λ (l : j < i). inl (omega arith)) (λ (l : i ≤ j). inr (omega arith)) (below-or-not j i))
+      (⊎-elim
+      (λ (l : j < i). inl (omega arith))
+      (λ (l : i ≤ j). let apart : j ≡ i → ⊥ = (λ e. other (ap suc e)) in inr (omega arith))
+      (below-or-not j i))
 
   -- and the constraints, which stand after the bids.
   same-after : (place : ℕ → ℕ) → ((start : ℕ) → start ≤ place start) →
@@ -134,11 +117,6 @@ module _ (s : List ℕ) (ok : Accepted s) (i x : ℕ) (most : i < bidderCount s)
   unfolding otherSlotField
   same-other-slot k = same-after (λ start. start + 4 * k + 3) (λ start. omega arith)
 
-  same-constraint-refusal : (k : ℕ) → constraintRefusal (written s i x) k ≡ constraintRefusal s k
-  unfolding constraintRefusal
-  same-constraint-refusal k =
-      simp (same-bidders, same-slots, same-owner, same-own-slot, same-other, same-other-slot)
-
   same-constraint : (k : ℕ) → constraintField (written s i x) k ≡ constraintField s k
   unfolding constraintField
   same-constraint k = λ j.
@@ -147,52 +125,83 @@ module _ (s : List ℕ) (ok : Accepted s) (i x : ℕ) (most : i < bidderCount s)
         kind = kindOf (same-own-slot k j) (same-other k j) (same-other-slot k j);
       }
 
-  -- The bid written reads back,
-  own-bid : bidField (written s i x) i ≡ x
+  -- The bid written reads back.
+  own-bid : bidField (written s i x) (suc i) ≡ x
   unfolding bidField
   own-bid =
       let whole = facts .counts .whole in
       ap (λ (start : ℕ). word32At (written s i x) (start + 4 * i)) same-bids-start
       ∙ word-of-bytes s (bidsStart s + 4 * i) x (omega arith) (omega arith)
 
-  -- so each bid is legal as before,
-  same-bid-refusal : (j : ℕ) → j < bidderCount s → bidRefusal (written s i x) j ≡ bidRefusal s j
-  same-bid-refusal j l =
-      bid-accepted (written s i x) j
-      (⊎-elim
-      (λ (q : j ≡ i). let e = ap (bidField (written s i x)) q in let own = own-bid in omega arith)
-      (λ (other : j ≡ i → ⊥). let e = same-bid j other in let bid = facts .bids j l in omega arith)
-      (same-or-not j i))
-      ∙ sym (bid-accepted s j (facts .bids j l))
+  -- So each fact of acceptance is as it was, and the bid is legal:
+  form-written : Form (written s i x)
+  form-written =
+      record {
+        header = (let e = same-length in let h = facts .form .header in omega arith);
+        mark = simp (same-byte 0 (omega arith), same-byte 1 (omega arith), same-byte 2 (omega arith)) (facts .form .mark);
+        first = same-version ∙ facts .form .first;
+      }
 
-  -- and the check gives the same number.
-  same-refusal : refusalOf (written s i x) ≡ refusalOf s
-  unfolding refusalOf
-  same-refusal =
-      let s′ = written s i x in
-      let effects : firstOver (effectRefusal s′) (slotCount s′) ≡ firstOver (effectRefusal s) (slotCount s)
-      = ap (firstOver (effectRefusal s′)) same-slots
-      ∙ first-same (effectRefusal s′) (effectRefusal s) (slotCount s) same-effect-refusal in
-      let bids : firstOver (bidRefusal s′) (bidderCount s′) ≡ firstOver (bidRefusal s) (bidderCount s)
-      = ap (firstOver (bidRefusal s′)) same-bidders
-      ∙ first-same (bidRefusal s′) (bidRefusal s) (bidderCount s) same-bid-refusal in
-      let constraints : firstOver (constraintRefusal s′) (constraintCount s′) ≡ firstOver (constraintRefusal s) (constraintCount s)
-      = ap (firstOver (constraintRefusal s′)) same-used
-      ∙ first-same (constraintRefusal s′) (constraintRefusal s) (constraintCount s) (λ k l. same-constraint-refusal k) in
-      λ j. orElse (same-form j) (orElse (same-counts j) (orElse (effects j) (orElse (bids j) (constraints j))))
+  counts-written : Counts (written s i x)
+  counts-written =
+      let f = facts .counts in
+      let bidders = same-bidders in
+      let slots = same-slots in
+      let used = same-used in
+      let size = same-length in
+      let whole = f .whole in
+      record {
+        some-bidders = omega arith;
+        most-bidders = omega arith;
+        some-slots = omega arith;
+        most-slots = omega arith;
+        most-constraints = omega arith;
+        whole = omega arith;
+      }
+
+  effect-written : (k : ℕ) → 0 < k → k ≤ slotCount s → EffectAccepted (written s i x) k
+  effect-written k some l =
+      let f = facts .effects k some l in
+      let here = same-effect k l in
+      let before = same-effect-before k l in
+      record { some = omega arith; most = omega arith; no-rise = omega arith }
+
+  bid-written : (b : ℕ) → 0 < b → b ≤ bidderCount s → BidAccepted (written s i x) b
+  bid-written b some l =
+      ⊎-elim
+      (λ (q : b ≡ suc i). let e = ap (bidField (written s i x)) q in let own = own-bid in record { most = omega arith })
+      (λ (other : b ≡ suc i → ⊥). let e = same-bid b other in let f = facts .bids b some l in record { most = omega arith })
+      (same-or-not b (suc i))
+
+  constraint-written : (k : ℕ) → k < constraintCount s →
+      ConstraintAccepted (bidderCount (written s i x)) (slotCount (written s i x)) (ownerField (written s i x) k) (ownSlotField (written s i x) k) (otherField (written s i x) k) (otherSlotField (written s i x) k)
+  constraint-written k l =
+      rw (same-bidders, same-slots, same-owner k, same-own-slot k, same-other k, same-other-slot k) (facts .constraints k l)
+
+  facts-written : AcceptedSheet (written s i x)
+  facts-written =
+      record {
+        form = form-written;
+        counts = counts-written;
+        effects = λ k some l. effect-written k some (subst (λ (m : ℕ). k ≤ m) same-slots l);
+        bids = λ b some l. bid-written b some (subst (λ (n : ℕ). b ≤ n) same-bidders l);
+        constraints = λ k l. constraint-written k (subst (λ (c : ℕ). k < c) same-used l);
+      }
 
   -- The round that the sheet says then is the one with the bid in its row.
   round-written : roundOf (written s i x) ≡ withBid (roundOf s) (suc i) x
   unfolding roundOf withBid
   round-written =
       let s′ = written s i x in
-      let effects : padded (effectField s′) (slotCount s′) 16 0 ≡ padded (effectField s) (slotCount s) 16 0
-      = ap (λ (m : ℕ). padded (effectField s′) m 16 0) same-slots
-      ∙ padded-same (effectField s′) (effectField s) (slotCount s) 16 0 same-effect in
-      let bids : padded (bidField s′) (bidderCount s′) 64 0 ≡ set (padded (bidField s) (bidderCount s) 64 0) i x
-      = ap (λ (n : ℕ). padded (bidField s′) n 64 0) same-bidders
-      ∙ sym (padded-stored (bidField s) (bidField s′) (bidderCount s) 64 0 i most (λ j l other. sym (same-bid j other)))
-      ∙ ap (set (padded (bidField s) (bidderCount s) 64 0) i) own-bid in
+      let effects : padded (λ k. effectField s′ (suc k)) (slotCount s′) 16 0 ≡ padded (λ k. effectField s (suc k)) (slotCount s) 16 0
+      = ap (λ (m : ℕ). padded (λ k. effectField s′ (suc k)) m 16 0) same-slots
+      ∙ padded-same (λ k. effectField s′ (suc k)) (λ k. effectField s (suc k)) (slotCount s) 16 0 (λ k l. same-effect (suc k) l) in
+      let bids : padded (λ b. bidField s′ (suc b)) (bidderCount s′) 64 0 ≡ set (padded (λ b. bidField s (suc b)) (bidderCount s) 64 0) i x
+      = ap (λ (n : ℕ). padded (λ b. bidField s′ (suc b)) n 64 0) same-bidders
+      ∙ sym
+      (padded-stored (λ b. bidField s (suc b)) (λ b. bidField s′ (suc b)) (bidderCount s) 64 0 i most
+      (λ j l other. sym (same-bid (suc j) (λ e. other (let h : suc j ≡ suc i = e in omega arith)))))
+      ∙ ap (set (padded (λ b. bidField s (suc b)) (bidderCount s) 64 0) i) own-bid in
       let constraints : padded (constraintField s′) (constraintCount s′) 1024 blank ≡ padded (constraintField s) (constraintCount s) 1024 blank
       = ap (λ (c : ℕ). padded (constraintField s′) c 1024 blank) same-used
       ∙ padded-same (constraintField s′) (constraintField s) (constraintCount s) 1024 blank (λ k l. same-constraint k) in
@@ -213,8 +222,8 @@ module _ (s : List ℕ) (ok : Accepted s) (b x : ℕ) (some : 0 < b) (most : b �
   write-accepted = by-number b some most
     where
       by-number : (b : ℕ) → 0 < b → b ≤ bidderCount s → Accepted (writeBid s b x)
-      by-number zero above listed = absurd (not-suc-le-zero above)
-      by-number (suc i) above listed = same-refusal s ok i x listed low ∙ ok
+      by-number zero above within = absurd (not-suc-le-zero above)
+      by-number (suc i) above within = sheet-accepted (written s i x) (facts-written s ok i x within low)
 
   -- and its round is the round with that bid
   pub write-round : roundOf (writeBid s b x) ≡ withBid (roundOf s) b x
@@ -222,5 +231,5 @@ module _ (s : List ℕ) (ok : Accepted s) (b x : ℕ) (some : 0 < b) (most : b �
   write-round = by-number b some most
     where
       by-number : (b : ℕ) → 0 < b → b ≤ bidderCount s → roundOf (writeBid s b x) ≡ withBid (roundOf s) b x
-      by-number zero above listed = absurd (not-suc-le-zero above)
-      by-number (suc i) above listed = round-written s ok i x listed low
+      by-number zero above within = absurd (not-suc-le-zero above)
+      by-number (suc i) above within = round-written s ok i x within low

@@ -2,14 +2,13 @@
 use Prim.Native.Nat.{ℕ, zero, suc}
 use mathlib.Core.Bool.{Bool, true, false, _&&_}
 use lib.Dec.{eqb}
-use lib.ListN.{getD}
 use Rattle.basis.specs.Tests.{anyBelow}
 use Rattle.sheet.specs.declared.Kind.{Kind}
 use Rattle.sheet.specs.declared.Kind.the-variants.{OwnSlot, OtherSlot, Pair}
 use Rattle.sheet.specs.declared.Constraint.{Constraint}
 use Rattle.sheet.specs.declared.Page.{Page}
 use Rattle.sheet.specs.declared.Round.{Round}
-use Rattle.sheet.specs.Round.{blank}
+use Rattle.sheet.specs.Round.{constraintAt}
 use Rattle.auction.specs.Page.{at, placed}
 
 -- "the owner is at the own place (or that is 0)"
@@ -27,10 +26,6 @@ otherHolds p (Pair j l k) = eqb (at p (l .0)) (j .0)
 -- "It is broken when both its parts are true." "A condition binds only if its owner has a place."
 unfoldable pub broken : Page → Constraint → Bool
 broken p q = (ownHolds p (q .owner .0) (q .kind) && otherHolds p (q .kind)) && placed p (q .owner .0)
-
--- the round's constraint at index i
-unfoldable pub constraintAt : Round → ℕ → Constraint
-constraintAt r i = getD (r .constraints) i blank
 
 -- some constraint of the round is broken on the page
 unfoldable pub breaks : Round → Page → Bool

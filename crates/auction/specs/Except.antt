@@ -3,8 +3,7 @@ use Prim.Native.Nat.{ℕ}
 use mathlib.Core.Path.{_≡_}
 use Rattle.sheet.specs.declared.Constraint.{Constraint}
 use Rattle.sheet.specs.declared.Round.{Round}
-use Rattle.auction.specs.Greedy.{bidOf}
-use Rattle.auction.specs.Proper.{Has}
+use Rattle.sheet.specs.Round.{bidOf, Has}
 
 pub record Except (i : ℕ) (r r′ : Round) : Type 0 where
   pub bidders : r .bidders ≡ r′ .bidders

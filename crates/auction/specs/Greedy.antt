@@ -2,24 +2,14 @@
 use Prim.Native.Nat.{ℕ, zero, suc}
 use mathlib.Core.Bool.{Bool, not, _&&_, _||_}
 use lib.Dec.{eqb}
-use lib.ListN.{getD}
 use Rattle.basis.specs.Tests.{anyBelow}
 use Rattle.sheet.specs.declared.Constraint.{Constraint}
 use Rattle.sheet.specs.declared.Page.{Page}
 use Rattle.sheet.specs.declared.Round.{Round}
 use Rattle.auction.specs.Page.{at, put, emptyPage, placed}
-use Rattle.auction.specs.Broken.{broken, constraintAt}
+use Rattle.auction.specs.Broken.{broken}
+use Rattle.sheet.specs.Round.{bidOf, constraintAt}
 use Rattle.choice.specs.Winner.{winner}
-
--- the bid of bidder b
-unfoldable pub bidOf : Round → ℕ → ℕ
-bidOf r zero = 0
-bidOf r (suc i) = getD (r .bids) i 0
-
--- the effect of slot k
-unfoldable pub effectOf : Round → ℕ → ℕ
-effectOf r zero = 0
-effectOf r (suc k) = getD (r .effects) k 0
 
 -- "its own conditions" or "those of an earlier winner": q's owner is the candidate b, or stands on the page p already
 unfoldable pub concerns : Page → ℕ → Constraint → Bool

@@ -1,7 +1,7 @@
 pub mod Page
 pub mod Broken
+pub mod Allowed
 pub mod Greedy
 pub mod Price
-pub mod Proper
 pub mod Except
 pub mod Write

@@ -6,7 +6,8 @@ use lib.ListN.{set}
 use Rattle.basis.specs.Tests.{least}
 use Rattle.sheet.specs.declared.Round.{Round}
 use Rattle.auction.specs.Page.{at}
-use Rattle.auction.specs.Greedy.{bidOf, greedyPage}
+use Rattle.auction.specs.Greedy.{greedyPage}
+use Rattle.sheet.specs.Round.{bidOf}
 
 -- the round with the bid x written for bidder b
 unfoldable pub withBid : Round → ℕ → ℕ → Round

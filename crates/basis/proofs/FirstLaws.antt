@@ -6,7 +6,7 @@ use mathlib.Core.Logic.{⊎-elim}
 use mathlib.Core.Path.{_≡_, refl, sym, _∙_, ap, ap₂, subst}
 use native.Mathlib.Nat.{eq-or-lt-of-le, le-of-suc-le-suc, not-suc-le-zero}
 use native.Mathlib.Omega.{arith}
-use Rattle.basis.specs.First.{_when_otherwise_, orElse, firstOver}
+use Rattle.basis.specs.First.{_when_otherwise_, orElse, firstOver, unlessRefused}
 use Rattle.basis.specs.Tests.{anyBelow}
 
 pub orElse-none : (a b : ℕ) → orElse a b ≡ 0 → (a ≡ 0) × (b ≡ 0)
@@ -78,3 +78,14 @@ first-of-tests v test (suc n) =
     either (suc v) true b = refl
     either zero true true = refl
     either zero true false = refl
+
+-- a refused call leaves what stood there
+pub refused-leaves : {A : Type 0} (k n : ℕ) (given before : A) → n ≡ k → (n ≡ 0 → ⊥) → before ≡ unlessRefused k given before
+unfolding unlessRefused
+refused-leaves zero n given before e h = absurd (h e)
+refused-leaves (suc k) n given before e h = refl
+
+-- a call that is not refused gives its answer
+pub answered-gives : {A : Type 0} (k : ℕ) (given before : A) → k ≡ 0 → given ≡ unlessRefused k given before
+unfolding unlessRefused
+answered-gives k given before z = sym (ap (λ (n : ℕ). unlessRefused n given before) z)

@@ -17,3 +17,8 @@ orElse (suc a) b = suc a
 unfoldable pub firstOver : (ℕ → ℕ) → ℕ → ℕ
 firstOver f zero = 0
 firstOver f (suc k) = orElse (firstOver f k) (f k)
+
+-- what stands in lent memory after a call: what the call gives there, or, where it is refused with a number, what stood there before
+unfoldable pub unlessRefused {ℓ} : {A : Type ℓ} → ℕ → (given before : A) → A
+unlessRefused zero given before = given
+unlessRefused (suc k) given before = before

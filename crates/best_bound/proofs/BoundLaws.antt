@@ -15,8 +15,8 @@ use Rattle.basis.specs.Bits.{bitOf}
 use Rattle.basis.specs.Tests.{anyBelow, allBelow}
 use Rattle.basis.proofs.BitLaws.{bit-and, bit-shr}
 use Rattle.basis.proofs.TestLaws.{holds-or-fails, not-both, and-holds, any-where, any-none, any-at, all-pairs, none-fails}
-use Rattle.auction.proofs.PageLaws.{same-or-not, below-or-not}
-use Rattle.best_bound.specs.Bound.{sumFrom, slotAfter, addAfter, Falling, NoRise, BoundHolds, liveIn}
+use Rattle.basis.proofs.NumberLaws.{same-or-not, below-or-not}
+use Rattle.best_bound.specs.Bound.{sumFrom, slotAfter, addAfter, BidsFall, NoRise, BoundHolds, eligibleIn}
 
 -- an assignment with one index changed
 change : (ℕ → ℕ) → ℕ → ℕ → ℕ → ℕ
@@ -103,69 +103,69 @@ module _ (bid effect : ℕ → ℕ) where
       none
       ∙ omega arith
 
-module _ (free : ℕ → Bool) (rank bid effect : ℕ → ℕ) (k m : ℕ) where
+module _ (eligible : ℕ → Bool) (rank bid effect : ℕ → ℕ) (k m : ℕ) where
   -- a free bidder takes the next slot where there is one left,
-  pub slot-taken : (i : ℕ) → free (rank i) ≡ true → slotAfter free rank k m i < m →
-      slotAfter free rank k m (suc i) ≡ suc (slotAfter free rank k m i)
+  pub slot-taken : (i : ℕ) → eligible (rank i) ≡ true → slotAfter eligible rank k m i < m →
+      slotAfter eligible rank k m (suc i) ≡ suc (slotAfter eligible rank k m i)
   unfolding slotAfter
   slot-taken i e l =
       ap
-      (λ (t : Bool). cond t (suc (slotAfter free rank k m i)) (slotAfter free rank k m i))
-      (and-holds e (lt-ltb (slotAfter free rank k m i) m l))
+      (λ (t : Bool). cond t (suc (slotAfter eligible rank k m i)) (slotAfter eligible rank k m i))
+      (and-holds e (lt-ltb (slotAfter eligible rank k m i) m l))
 
-  pub add-taken : (i : ℕ) → free (rank i) ≡ true → slotAfter free rank k m i < m →
-      addAfter free rank bid effect k m (suc i)
-      ≡ addAfter free rank bid effect k m i + bid (rank i) * effect (slotAfter free rank k m i)
+  pub add-taken : (i : ℕ) → eligible (rank i) ≡ true → slotAfter eligible rank k m i < m →
+      addAfter eligible rank bid effect k m (suc i)
+      ≡ addAfter eligible rank bid effect k m i + bid (rank i) * effect (slotAfter eligible rank k m i)
   unfolding addAfter
   add-taken i e l =
       ap
-      (λ (t : Bool). addAfter free rank bid effect k m i + cond t (bid (rank i) * effect (slotAfter free rank k m i)) 0)
-      (and-holds e (lt-ltb (slotAfter free rank k m i) m l))
+      (λ (t : Bool). addAfter eligible rank bid effect k m i + cond t (bid (rank i) * effect (slotAfter eligible rank k m i)) 0)
+      (and-holds e (lt-ltb (slotAfter eligible rank k m i) m l))
 
   -- and else nothing changes
-  none-taken : (i : ℕ) → (free (rank i) ≡ false) ⊎ (m ≤ slotAfter free rank k m i) →
-      (free (rank i) && ltb (slotAfter free rank k m i) m) ≡ false
+  none-taken : (i : ℕ) → (eligible (rank i) ≡ false) ⊎ (m ≤ slotAfter eligible rank k m i) →
+      (eligible (rank i) && ltb (slotAfter eligible rank k m i) m) ≡ false
   none-taken i =
       ⊎-elim
-      (λ (e : free (rank i) ≡ false). ap (λ (t : Bool). t && ltb (slotAfter free rank k m i) m) e)
-      (λ (l : m ≤ slotAfter free rank k m i).
-      ap (λ (t : Bool). free (rank i) && t) (le-ltb (slotAfter free rank k m i) m l) ∙ and-false (free (rank i)))
+      (λ (e : eligible (rank i) ≡ false). ap (λ (t : Bool). t && ltb (slotAfter eligible rank k m i) m) e)
+      (λ (l : m ≤ slotAfter eligible rank k m i).
+      ap (λ (t : Bool). eligible (rank i) && t) (le-ltb (slotAfter eligible rank k m i) m l) ∙ and-false (eligible (rank i)))
 
-  pub slot-kept : (i : ℕ) → (free (rank i) ≡ false) ⊎ (m ≤ slotAfter free rank k m i) →
-      slotAfter free rank k m (suc i) ≡ slotAfter free rank k m i
+  pub slot-kept : (i : ℕ) → (eligible (rank i) ≡ false) ⊎ (m ≤ slotAfter eligible rank k m i) →
+      slotAfter eligible rank k m (suc i) ≡ slotAfter eligible rank k m i
   unfolding slotAfter
-  slot-kept i h = ap (λ (t : Bool). cond t (suc (slotAfter free rank k m i)) (slotAfter free rank k m i)) (none-taken i h)
+  slot-kept i h = ap (λ (t : Bool). cond t (suc (slotAfter eligible rank k m i)) (slotAfter eligible rank k m i)) (none-taken i h)
 
-  pub add-kept : (i : ℕ) → (free (rank i) ≡ false) ⊎ (m ≤ slotAfter free rank k m i) →
-      addAfter free rank bid effect k m (suc i) ≡ addAfter free rank bid effect k m i
+  pub add-kept : (i : ℕ) → (eligible (rank i) ≡ false) ⊎ (m ≤ slotAfter eligible rank k m i) →
+      addAfter eligible rank bid effect k m (suc i) ≡ addAfter eligible rank bid effect k m i
   unfolding addAfter
   add-kept i h =
       ap
-      (λ (t : Bool). addAfter free rank bid effect k m i + cond t (bid (rank i) * effect (slotAfter free rank k m i)) 0)
+      (λ (t : Bool). addAfter eligible rank bid effect k m i + cond t (bid (rank i) * effect (slotAfter eligible rank k m i)) 0)
       (none-taken i h)
       ∙ omega arith
 
 -- g gives each slot index from s to below m nobody, or a free bidder of rank i or later, and nobody two of them
-record Later (free : ℕ → Bool) (rank : ℕ → ℕ) (n i s m : ℕ) (g : ℕ → ℕ) : Type 0 where
-  ranked : (j : ℕ) → s ≤ j → j < m → (g j ≡ 0) ⊎ ((r : ℕ) × (i ≤ r) × (r < n) × (rank r ≡ g j) × (free (g j) ≡ true))
+record Later (eligible : ℕ → Bool) (rank : ℕ → ℕ) (n i s m : ℕ) (g : ℕ → ℕ) : Type 0 where
+  ranked : (j : ℕ) → s ≤ j → j < m → (g j ≡ 0) ⊎ ((r : ℕ) × (i ≤ r) × (r < n) × (rank r ≡ g j) × (eligible (g j) ≡ true))
   once : (a b : ℕ) → s ≤ a → a < m → s ≤ b → b < m → (g a ≡ 0 → ⊥) → g a ≡ g b → a ≡ b
 
 -- what the first i ranked bidders add, and an assignment of later ones to the slots left, add at least a total
-record Covers (free : ℕ → Bool) (rank bid effect : ℕ → ℕ) (n m total i s added : ℕ) : Type 0 where
+record Covers (eligible : ℕ → Bool) (rank bid effect : ℕ → ℕ) (n m total i s added : ℕ) : Type 0 where
   given : ℕ → ℕ
   left : ℕ
   fits : s + left ≡ m
-  later : Later free rank n i s m given
+  later : Later eligible rank n i s m given
   enough : total ≤ added + sumFrom bid effect given s left
 
-module _ (free : ℕ → Bool) (rank : ℕ → ℕ) (n i s m : ℕ) (g : ℕ → ℕ) (h : Later free rank n i s m g) where
+module _ (eligible : ℕ → Bool) (rank : ℕ → ℕ) (n i s m : ℕ) (g : ℕ → ℕ) (h : Later eligible rank n i s m g) where
   -- an index that holds another than the i-th holds nobody or a later one
   not-this-one : (j : ℕ) → s ≤ j → j < m → (g j ≡ rank i → ⊥) →
-      (g j ≡ 0) ⊎ ((r : ℕ) × (suc i ≤ r) × (r < n) × (rank r ≡ g j) × (free (g j) ≡ true))
+      (g j ≡ 0) ⊎ ((r : ℕ) × (suc i ≤ r) × (r < n) × (rank r ≡ g j) × (eligible (g j) ≡ true))
   not-this-one j l b d =
       ⊎-elim
       (λ (z : g j ≡ 0). inl z)
-      (λ (w : (r : ℕ) × (i ≤ r) × (r < n) × (rank r ≡ g j) × (free (g j) ≡ true)).
+      (λ (w : (r : ℕ) × (i ≤ r) × (r < n) × (rank r ≡ g j) × (eligible (g j) ≡ true)).
       ⊎-elim
       (λ (q : i ≡ w .0). absurd (d (sym (w .3) ∙ ap rank (sym q))))
       (λ (lt : i < w .0). inr (w .0, lt, w .2, w .3, w .4))
@@ -173,20 +173,20 @@ module _ (free : ℕ → Bool) (rank : ℕ → ℕ) (n i s m : ℕ) (g : ℕ →
       (h .ranked j l b)
 
   -- nobody bids more than the i-th
-  none-higher : (bid : ℕ → ℕ) → bid 0 ≡ 0 → Falling rank bid n → (j : ℕ) → s ≤ j → j < m → bid (g j) ≤ bid (rank i)
+  none-higher : (bid : ℕ → ℕ) → bid 0 ≡ 0 → BidsFall rank bid n → (j : ℕ) → s ≤ j → j < m → bid (g j) ≤ bid (rank i)
   none-higher bid z falling j l b =
       ⊎-elim
       (λ (e : g j ≡ 0). let q : bid (g j) ≡ 0 = ap bid e ∙ z in omega arith)
-      (λ (w : (r : ℕ) × (i ≤ r) × (r < n) × (rank r ≡ g j) × (free (g j) ≡ true)).
+      (λ (w : (r : ℕ) × (i ≤ r) × (r < n) × (rank r ≡ g j) × (eligible (g j) ≡ true)).
       subst (λ (x : ℕ). bid x ≤ bid (rank i)) (w .3) (falling i (w .0) (w .1) (w .2)))
       (h .ranked j l b)
 
   -- where the i-th stands nowhere, all are later
-  skipped-later : ((j : ℕ) → s ≤ j → j < m → g j ≡ rank i → ⊥) → Later free rank n (suc i) s m g
+  skipped-later : ((j : ℕ) → s ≤ j → j < m → g j ≡ rank i → ⊥) → Later eligible rank n (suc i) s m g
   skipped-later none = record { ranked = λ j l b. not-this-one j l b (none j l b); once = h .once }
 
   -- where it stands at no index after s, all after s are later
-  first-later : ((j : ℕ) → suc s ≤ j → j < m → g j ≡ rank i → ⊥) → Later free rank n (suc i) (suc s) m g
+  first-later : ((j : ℕ) → suc s ≤ j → j < m → g j ≡ rank i → ⊥) → Later eligible rank n (suc i) (suc s) m g
   first-later none = record {
     ranked = λ j l b. not-this-one j (omega arith) b (none j l b);
     once = λ a b la ma lb mb. h .once a b (omega arith) ma (omega arith) mb;
@@ -203,19 +203,19 @@ module _ (free : ℕ → Bool) (rank : ℕ → ℕ) (n i s m : ℕ) (g : ℕ →
     only-there : (j : ℕ) → s ≤ j → j < m → g j ≡ rank i → j0 ≡ j
     only-there j l b e = h .once j0 j (omega arith) m0 l b (λ z. some (sym here ∙ z)) (here ∙ sym e)
 
-    moved-later : Later free rank n (suc i) (suc s) m (change g j0 (g s))
+    moved-later : Later eligible rank n (suc i) (suc s) m (change g j0 (g s))
     moved-later = record {
       ranked = λ j l b.
           ⊎-elim
           (λ (q : j ≡ j0).
           let e : change g j0 (g s) j ≡ g s = ap (change g j0 (g s)) q ∙ moved-same in
           subst
-          (λ (x : ℕ). (x ≡ 0) ⊎ ((r : ℕ) × (suc i ≤ r) × (r < n) × (rank r ≡ x) × (free x ≡ true)))
+          (λ (x : ℕ). (x ≡ 0) ⊎ ((r : ℕ) × (suc i ≤ r) × (r < n) × (rank r ≡ x) × (eligible x ≡ true)))
           (sym e)
           (not-this-one s (omega arith) (omega arith) (λ t. let u = only-there s (omega arith) (omega arith) t in omega arith)))
           (λ (d : j ≡ j0 → ⊥).
           subst
-          (λ (x : ℕ). (x ≡ 0) ⊎ ((r : ℕ) × (suc i ≤ r) × (r < n) × (rank r ≡ x) × (free x ≡ true)))
+          (λ (x : ℕ). (x ≡ 0) ⊎ ((r : ℕ) × (suc i ≤ r) × (r < n) × (rank r ≡ x) × (eligible x ≡ true)))
           (sym (moved-other j d))
           (not-this-one j (omega arith) b (λ t. d (sym (only-there j (omega arith) b t)))))
           (same-or-not j j0);
@@ -243,22 +243,22 @@ module _ (free : ℕ → Bool) (rank : ℕ → ℕ) (n i s m : ℕ) (g : ℕ →
           (same-or-not a j0);
     }
 
-module _ (free : ℕ → Bool) (rank bid effect : ℕ → ℕ) (n m total : ℕ) (z : bid 0 ≡ 0) (some : (i : ℕ) → i < n → rank i ≡ 0 → ⊥)
-    (falling : Falling rank bid n) (no-rise : NoRise effect m) where
+module _ (eligible : ℕ → Bool) (rank bid effect : ℕ → ℕ) (n m total : ℕ) (z : bid 0 ≡ 0) (some : (i : ℕ) → i < n → rank i ≡ 0 → ⊥)
+    (falling : BidsFall rank bid n) (no-rise : NoRise effect m) where
   -- the next ranked bidder at the first slot left, and another assignment after it
-  placed-covers : (i s added : ℕ) → i < n → s < m → Covers free rank bid effect n m total i s added →
-      Covers free rank bid effect n m total (suc i) (suc s) (added + bid (rank i) * effect s)
+  placed-covers : (i s added : ℕ) → i < n → s < m → Covers eligible rank bid effect n m total i s added →
+      Covers eligible rank bid effect n m total (suc i) (suc s) (added + bid (rank i) * effect s)
   placed-covers i s added l b c = with-left (c .left) (c .fits) (c .enough)
     where
       g : ℕ → ℕ
       g = c .given
 
       with-left : (left : ℕ) → s + left ≡ m → total ≤ added + sumFrom bid effect g s left →
-          Covers free rank bid effect n m total (suc i) (suc s) (added + bid (rank i) * effect s)
+          Covers eligible rank bid effect n m total (suc i) (suc s) (added + bid (rank i) * effect s)
       with-left zero fits enough = absurd (omega arith)
       with-left (suc left) fits enough =
           let first = sum-first bid effect g s left in
-          let low : bid (g s) ≤ bid (rank i) = none-higher free rank n i s m g (c .later) bid z falling s (omega arith) b in
+          let low : bid (g s) ≤ bid (rank i) = none-higher eligible rank n i s m g (c .later) bid z falling s (omega arith) b in
           ⊎-elim
           (λ (e : anyBelow (λ d. eqb (g (suc s + d)) (rank i)) left ≡ true).
           let w = any-where (λ d. eqb (g (suc s + d)) (rank i)) left e in
@@ -272,7 +272,7 @@ module _ (free : ℕ → Bool) (rank bid effect : ℕ → ℕ) (n m total : ℕ)
             given = change g j0 (g s);
             left = left;
             fits = omega arith;
-            later = moved-later free rank n i s m g (c .later) j0 (omega arith) (omega arith) here (some i l);
+            later = moved-later eligible rank n i s m g (c .later) j0 (omega arith) (omega arith) here (some i l);
             enough = omega arith;
           })
           (λ (e : anyBelow (λ d. eqb (g (suc s + d)) (rank i)) left ≡ false).
@@ -283,7 +283,7 @@ module _ (free : ℕ → Bool) (rank bid effect : ℕ → ℕ) (n m total : ℕ)
             fits = omega arith;
             later =
                 first-later
-                free
+                eligible
                 rank
                 n
                 i
@@ -300,15 +300,15 @@ module _ (free : ℕ → Bool) (rank bid effect : ℕ → ℕ) (n m total : ℕ)
           (holds-or-fails (anyBelow (λ d. eqb (g (suc s + d)) (rank i)) left))
 
   -- a ranked bidder that is not free, or that finds no slot, stands nowhere
-  skipped-covers : (i s added : ℕ) → i < n → (free (rank i) ≡ false) ⊎ (m ≤ s) → Covers free rank bid effect n m total i s added →
-      Covers free rank bid effect n m total (suc i) s added
+  skipped-covers : (i s added : ℕ) → i < n → (eligible (rank i) ≡ false) ⊎ (m ≤ s) → Covers eligible rank bid effect n m total i s added →
+      Covers eligible rank bid effect n m total (suc i) s added
   skipped-covers i s added lt why c = record {
     given = c .given;
     left = c .left;
     fits = c .fits;
     later =
         skipped-later
-        free
+        eligible
         rank
         n
         i
@@ -318,48 +318,48 @@ module _ (free : ℕ → Bool) (rank bid effect : ℕ → ℕ) (n m total : ℕ)
         (c .later)
         (λ j l b e.
         ⊎-elim
-        (λ (f : free (rank i) ≡ false).
+        (λ (f : eligible (rank i) ≡ false).
         ⊎-elim
         (λ (o : c .given j ≡ 0). some i lt (sym e ∙ o))
-        (λ (w : (r : ℕ) × (i ≤ r) × (r < n) × (rank r ≡ c .given j) × (free (c .given j) ≡ true)).
-        not-both (ap free (sym e) ∙ w .4) f)
+        (λ (w : (r : ℕ) × (i ≤ r) × (r < n) × (rank r ≡ c .given j) × (eligible (c .given j) ≡ true)).
+        not-both (ap eligible (sym e) ∙ w .4) f)
         (c .later .ranked j l b))
         (λ (o : m ≤ s). omega arith)
         why);
     enough = c .enough;
   }
 
-  covers-after : (k : ℕ) → Covers free rank bid effect n m total 0 k 0 → (i : ℕ) → i ≤ n →
-      Covers free rank bid effect n m total i (slotAfter free rank k m i) (addAfter free rank bid effect k m i)
+  covers-after : (k : ℕ) → Covers eligible rank bid effect n m total 0 k 0 → (i : ℕ) → i ≤ n →
+      Covers eligible rank bid effect n m total i (slotAfter eligible rank k m i) (addAfter eligible rank bid effect k m i)
   unfolding slotAfter addAfter
   covers-after k c zero l = c
   covers-after k c (suc i) l =
       let ih = covers-after k c i (omega arith) in
-      let s : ℕ = slotAfter free rank k m i in
-      let added : ℕ = addAfter free rank bid effect k m i in
-      let kept : (free (rank i) ≡ false) ⊎ (m ≤ s) → Covers free rank bid effect n m total (suc i) (slotAfter free rank k m (suc i)) (addAfter free rank bid effect k m (suc i))
+      let s : ℕ = slotAfter eligible rank k m i in
+      let added : ℕ = addAfter eligible rank bid effect k m i in
+      let kept : (eligible (rank i) ≡ false) ⊎ (m ≤ s) → Covers eligible rank bid effect n m total (suc i) (slotAfter eligible rank k m (suc i)) (addAfter eligible rank bid effect k m (suc i))
       = λ why.
       subst₂
-      (Covers free rank bid effect n m total (suc i))
-      (sym (slot-kept free rank bid effect k m i why))
-      (sym (add-kept free rank bid effect k m i why))
+      (Covers eligible rank bid effect n m total (suc i))
+      (sym (slot-kept eligible rank bid effect k m i why))
+      (sym (add-kept eligible rank bid effect k m i why))
       (skipped-covers i s added l why ih) in
       ⊎-elim
-      (λ (e : free (rank i) ≡ true).
+      (λ (e : eligible (rank i) ≡ true).
       ⊎-elim
       (λ (b : s < m).
       subst₂
-      (Covers free rank bid effect n m total (suc i))
-      (sym (slot-taken free rank bid effect k m i e b))
-      (sym (add-taken free rank bid effect k m i e b))
+      (Covers eligible rank bid effect n m total (suc i))
+      (sym (slot-taken eligible rank bid effect k m i e b))
+      (sym (add-taken eligible rank bid effect k m i e b))
       (placed-covers i s added l b ih))
       (λ (b : m ≤ s). kept (inr b))
       (below-or-not s m))
-      (λ (e : free (rank i) ≡ false). kept (inl e))
-      (holds-or-fails (free (rank i)))
+      (λ (e : eligible (rank i) ≡ false). kept (inl e))
+      (holds-or-fails (eligible (rank i)))
 
   -- after the last ranked bidder nobody is left
-  all-covered : (s added : ℕ) → Covers free rank bid effect n m total n s added → total ≤ added
+  all-covered : (s added : ℕ) → Covers eligible rank bid effect n m total n s added → total ≤ added
   all-covered s added c =
       let none = nobody-adds bid effect z (c .given) s (c .left) (λ j l b. nobody-left j l (let q = c .fits in omega arith)) in
       let enough = c .enough in
@@ -369,7 +369,7 @@ module _ (free : ℕ → Bool) (rank bid effect : ℕ → ℕ) (n m total : ℕ)
       nobody-left j l b =
           ⊎-elim
           (λ (o : c .given j ≡ 0). o)
-          (λ (w : (r : ℕ) × (n ≤ r) × (r < n) × (rank r ≡ c .given j) × (free (c .given j) ≡ true)).
+          (λ (w : (r : ℕ) × (n ≤ r) × (r < n) × (rank r ≡ c .given j) × (eligible (c .given j) ≡ true)).
           let low : n ≤ w .0 = w .1 in
           let high : w .0 < n = w .2 in
           absurd (omega arith))
@@ -377,13 +377,13 @@ module _ (free : ℕ → Bool) (rank bid effect : ℕ → ℕ) (n m total : ℕ)
 
 pub bound-holds : BoundHolds
 unfolding BoundHolds
-bound-holds free rank bid effect n k left z some once falling no-rise f h =
+bound-holds eligible rank bid effect n k left z some once falling no-rise f h =
     let m : ℕ = k + left in
     let total : ℕ = sumFrom bid effect f k left in
-    all-covered free rank bid effect n m total z some falling no-rise
-    (slotAfter free rank k m n)
-    (addAfter free rank bid effect k m n)
-    (covers-after free rank bid effect n m total z some falling no-rise k
+    all-covered eligible rank bid effect n m total z some falling no-rise
+    (slotAfter eligible rank k m n)
+    (addAfter eligible rank bid effect k m n)
+    (covers-after eligible rank bid effect n m total z some falling no-rise k
     (record {
       given = f;
       left = left;
@@ -392,7 +392,7 @@ bound-holds free rank bid effect n k left z some once falling no-rise f h =
         ranked = λ j l b.
             ⊎-elim
             (λ (o : f j ≡ 0). inl o)
-            (λ (w : (i : ℕ) × (i < n) × (rank i ≡ f j) × (free (f j) ≡ true)). inr (w .0, omega arith, w .1, w .2, w .3))
+            (λ (w : (i : ℕ) × (i < n) × (rank i ≡ f j) × (eligible (f j) ≡ true)). inr (w .0, omega arith, w .1, w .2, w .3))
             (h .ranked j l b);
         once = h .once;
       };
@@ -418,8 +418,8 @@ bytes-halved x n i =
     ∙ ap (λ (t : Bool). bitOf x (8 * l + i) && t) (bit-shr x (8 * n) (8 * l + i) ∙ ap (bitOf x) at))
 
 -- the and of the eight bytes: its bit i is set where no slot is open to bidder i + 1
-pub bytes-and : (barred i : ℕ) → bitOf (halved (halved (halved barred 4) 2) 1) i ≡ not (liveIn barred (suc i))
-unfolding liveIn allBelow
+pub bytes-and : (barred i : ℕ) → bitOf (halved (halved (halved barred 4) 2) 1) i ≡ not (eligibleIn barred (suc i))
+unfolding eligibleIn allBelow
 bytes-and barred i =
     let first : i ≡ 8 * 0 + i = omega arith in
     let index : i ≡ suc i - 1 = omega arith in
@@ -431,6 +431,6 @@ bytes-and barred i =
     ∙ ap (λ (k : ℕ). not (anyBelow (λ l. not (bitOf barred (8 * l + k))) 8)) index
 
 -- a bidder that some slot is open to is live
-pub open-live : (barred b j : ℕ) → j < 8 → bitOf barred (8 * j + (b - 1)) ≡ false → liveIn barred b ≡ true
-unfolding liveIn
-open-live barred b j inside e = any-at (λ l. not (bitOf barred (8 * l + (b - 1)))) 8 j inside (ap not e)
+pub open-eligible : (barred b j : ℕ) → j < 8 → bitOf barred (8 * j + (b - 1)) ≡ false → eligibleIn barred b ≡ true
+unfolding eligibleIn
+open-eligible barred b j inside e = any-at (λ l. not (bitOf barred (8 * l + (b - 1)))) 8 j inside (ap not e)

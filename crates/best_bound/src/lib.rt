@@ -5,11 +5,11 @@ ghost use Prim.Native.Nat.{ℕ, suc, _<_, _≤_};
 ghost use lib.ListN.{length, getD};
 ghost use Rattle.basis.specs.Bits.{bitOf};
 ghost use Rattle.choice.specs.Tables.{bidIn};
-ghost use Rattle.best_bound.specs.Bound.{addAfter, liveIn, listed};
+ghost use Rattle.best_bound.specs.Bound.{addAfter, eligibleIn, nth};
 
 // The bidders that are barred from every slot, bidder 1 in the lowest bit, by a word of who is barred, 8 bidders a slot.
 fn nowhere_open(barred: u64) -> u64
-    ensures { λ r. ⌜ ((i : ℕ) → i < 8 → bitOf r i ≡ not (liveIn barred (suc i))) ⌝ }
+    ensures { λ r. ⌜ ((i : ℕ) → i < 8 → bitOf r i ≡ not (eligibleIn barred (suc i))) ⌝ }
 {
     let halves = barred & (barred >> 32u32);
     let quarters = halves & (halves >> 16u32);
@@ -22,7 +22,7 @@ pub fn most_added(barred: u64, ranked: &[u8], bids: &[u32], effects: &[u32], fro
     requires { ⌜ (length (now ranked) ≤ 8) × (from ≤ 8) × (length (now effects) ≡ 16) ⌝ }
     requires { ⌜ ((i : ℕ) → i < length (now ranked) → (0 < getD (now ranked) i 0) × (getD (now ranked) i 0 ≤ length (now bids)) × (getD (now ranked) i 0 ≤ 8)) ⌝ }
     requires { ⌜ ((i : ℕ) → getD (now bids) i 0 ≤ 1000000000) × ((i : ℕ) → getD (now effects) i 0 ≤ 1000000) ⌝ }
-    ensures { λ r. ⌜ r ≡ addAfter (liveIn barred) (listed (now (ranked .entry))) (bidIn (now (bids .entry))) (listed (now (effects .entry))) from 16 (length (now (ranked .entry))) ⌝ }
+    ensures { λ r. ⌜ r ≡ addAfter (eligibleIn barred) (nth (now (ranked .entry))) (bidIn (now (bids .entry))) (nth (now (effects .entry))) from 16 (length (now (ranked .entry))) ⌝ }
 {
     let out = nowhere_open(barred);
     let mut sum: u64 = 0;

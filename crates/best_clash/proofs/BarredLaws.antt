@@ -14,7 +14,8 @@ use Rattle.basis.specs.Tests.{anyBelow}
 use Rattle.basis.proofs.TestLaws.{fails, same-tests, and-parts, or-left, or-right, or-parts, any-at, any-where}
 use Rattle.sheet.specs.declared.Page.{Page}
 use Rattle.auction.specs.Page.{at, put, emptyPage, placed, Sized}
-use Rattle.auction.proofs.PageLaws.{same-or-not, at-put-same, at-put-other, at-empty, placed-at, placed-where, placed-put, put-nobody}
+use Rattle.auction.proofs.PageLaws.{at-put-same, at-put-other, at-empty, placed-at, placed-where, placed-put, put-nobody}
+use Rattle.basis.proofs.NumberLaws.{same-or-not}
 use Rattle.best_clash.specs.Clash.{entryAt, clashesIn, BarredBy, BarredAlso}
 use Rattle.best_clash.proofs.MarkLaws.{entry-bit}
 

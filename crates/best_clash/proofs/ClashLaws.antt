@@ -20,8 +20,10 @@ use Rattle.sheet.specs.declared.Page.{Page}
 use Rattle.sheet.specs.declared.Round.{Round}
 use Rattle.auction.specs.Page.{at, put, emptyPage, placed, Sized}
 use Rattle.auction.specs.Broken.{ownHolds, otherHolds, broken, breaks}
-use Rattle.auction.specs.Proper.{Proper, Has, ProperRound}
-use Rattle.auction.proofs.PageLaws.{same-or-not, below-or-not, put-sized, empty-sized, at-put-same, at-put-other, at-empty, at-within, placed-at, placed-where, placed-put, Keeps}
+use Rattle.sheet.specs.Proper.{Proper, ProperRound}
+use Rattle.sheet.specs.Round.{Has}
+use Rattle.auction.proofs.PageLaws.{put-sized, empty-sized, at-put-same, at-put-other, at-empty, at-within, placed-at, placed-where, placed-put, Keeps}
+use Rattle.basis.proofs.NumberLaws.{same-or-not, below-or-not}
 use Rattle.auction.proofs.BrokenLaws.{broken-parts, parts-broken, broken-stays, breaks-at, breaks-where, breaks-none}
 use Rattle.best_clash.specs.Clash.{pairPage, clash, clashes, entryAt, clashesIn, TableOf}
 
@@ -135,14 +137,14 @@ module _ (r : Round) (proper : ProperRound r) (p : Page) (k b : ℕ) (s : Sized 
       absurd
       (not-both
       (parts-broken p (record { owner = owner; kind = OwnSlot t }) (eq-eqb (at p (t .0)) (owner .0) e) refl
-      (placed-at p (owner .0) (t .0) (q .named .0) (q .named .1) e))
+      (placed-at p (owner .0) (t .0) (q .parts .0) (q .parts .1) e))
       u)
 
   other-clashes : (owner j : Bidder) (x : Slot) → Has r (record { owner = owner; kind = OtherSlot j x }) →
       Proper (record { owner = owner; kind = OtherSlot j x }) → broken p (record { owner = owner; kind = OtherSlot j x }) ≡ false →
       ((x .0 ≡ k) × (j .0 ≡ b)) ⊎ (at p (x .0) ≡ j .0) → (owner .0 ≡ b) ⊎ (placed p (owner .0) ≡ true) → Clashes
   unfolding ownHolds otherHolds
-  other-clashes owner j x h q u (inl e) (inl o) = absurd (q .named .1 (e .1 ∙ sym o))
+  other-clashes owner j x h q u (inl e) (inl o) = absurd (q .parts .1 (e .1 ∙ sym o))
   other-clashes owner j x h q u (inl e) (inr o) =
       let w = placed-where p (owner .0) o in
       let some = somebody (w .0) (owner .0) (w .3) (q .owned) in
@@ -151,7 +153,7 @@ module _ (r : Round) (proper : ProperRound r) (p : Page) (k b : ℕ) (s : Sized 
       (stands (pair (w .0) some) k b (x .0) (j .0) (pair-new (w .0) some) (e .0) (e .1))
       (placed-old (w .0) some (owner .0) (sym (w .3))))
   other-clashes owner j x h q u (inr e) (inl o) =
-      let some = somebody (x .0) (j .0) e (q .named .0) in
+      let some = somebody (x .0) (j .0) e (q .parts .0) in
       pair-clashes (record { owner = owner; kind = OtherSlot j x }) h (x .0) some
       (parts-broken (pair (x .0) some) (record { owner = owner; kind = OtherSlot j x }) refl
       (eq-eqb (at (pair (x .0) some) (x .0)) (j .0) (pair-old (x .0) some ∙ e))
@@ -164,9 +166,9 @@ module _ (r : Round) (proper : ProperRound r) (p : Page) (k b : ℕ) (s : Sized 
       Proper (record { owner = owner; kind = Pair j x t }) → broken p (record { owner = owner; kind = Pair j x t }) ≡ false →
       ((t .0 ≡ k) × (owner .0 ≡ b)) ⊎ (at p (t .0) ≡ owner .0) → ((x .0 ≡ k) × (j .0 ≡ b)) ⊎ (at p (x .0) ≡ j .0) → Clashes
   unfolding ownHolds otherHolds
-  two-clash owner t j x h q u (inl o) (inl e) = absurd (q .named .1 (e .1 ∙ sym (o .1)))
+  two-clash owner t j x h q u (inl o) (inl e) = absurd (q .parts .1 (e .1 ∙ sym (o .1)))
   two-clash owner t j x h q u (inl o) (inr e) =
-      let some = somebody (x .0) (j .0) e (q .named .0) in
+      let some = somebody (x .0) (j .0) e (q .parts .0) in
       pair-clashes (record { owner = owner; kind = Pair j x t }) h (x .0) some
       (parts-broken (pair (x .0) some) (record { owner = owner; kind = Pair j x t })
       (stands (pair (x .0) some) k b (t .0) (owner .0) (pair-new (x .0) some) (o .0) (o .1))
@@ -184,7 +186,7 @@ module _ (r : Round) (proper : ProperRound r) (p : Page) (k b : ℕ) (s : Sized 
       (not-both
       (parts-broken p (record { owner = owner; kind = Pair j x t })
       (eq-eqb (at p (t .0)) (owner .0) o) (eq-eqb (at p (x .0)) (j .0) e)
-      (placed-at p (owner .0) (t .0) (q .named .5) (q .named .6) o))
+      (placed-at p (owner .0) (t .0) (q .parts .5) (q .parts .6) o))
       u)
 
   broken-clashes : (owner : Bidder) (kind : Kind) → Has r (record { owner = owner; kind = kind }) → Proper (record { owner = owner; kind = kind }) →

@@ -23,9 +23,11 @@ use Rattle.sheet.specs.declared.Kind.the-variants.{OwnSlot, OtherSlot, Pair}
 use Rattle.sheet.specs.declared.Page.{Page}
 use Rattle.sheet.specs.declared.Round.{Round}
 use Rattle.auction.specs.Page.{at, placed}
-use Rattle.auction.specs.Broken.{ownHolds, otherHolds, broken, constraintAt, breaks}
-use Rattle.auction.specs.Proper.{Proper, ProperRound}
-use Rattle.auction.proofs.PageLaws.{same-or-not, placed-at, placed-where}
+use Rattle.auction.specs.Broken.{ownHolds, otherHolds, broken, breaks}
+use Rattle.sheet.specs.Round.{constraintAt}
+use Rattle.sheet.specs.Proper.{Proper, ProperRound}
+use Rattle.auction.proofs.PageLaws.{placed-at, placed-where}
+use Rattle.basis.proofs.NumberLaws.{same-or-not}
 use Rattle.auction.proofs.BrokenLaws.{broken-parts, parts-broken}
 use Rattle.best_clash.specs.Clash.{pairPage, clash, entryAt}
 use Rattle.best_clash.specs.Marks.{Entry, Numbered, sameAt, bothAre, eitherWay, anywhere, among, pairBreaks, marks}
@@ -52,23 +54,23 @@ entry-twice b k b-some b-most k-some k-most =
     }
 
 -- the number of bidder b at slot k in the table
-abbrev placeOf : ℕ → ℕ → ℕ
-placeOf b k = 8 * (k - 1) + (b - 1)
+abbrev numberOf : ℕ → ℕ → ℕ
+numberOf b k = 8 * (k - 1) + (b - 1)
 
-place-same : (x s u b k : ℕ) → 0 < x → x ≤ 8 → 0 < s → s ≤ 8 → u ≡ placeOf x s → 0 < b → b ≤ 8 → 0 < k → k ≤ 8 →
-    eqb (placeOf b k) u ≡ sameAt x s b k
-place-same x s u b k x-some x-most s-some s-most at-u b-some b-most k-some k-most =
-    same-tests (eqb (placeOf b k) u) (sameAt x s b k)
-    (λ e. let h = eqb-true (placeOf b k) u e in same-at x s b k (omega arith) (omega arith))
+number-same : (x s u b k : ℕ) → 0 < x → x ≤ 8 → 0 < s → s ≤ 8 → u ≡ numberOf x s → 0 < b → b ≤ 8 → 0 < k → k ≤ 8 →
+    eqb (numberOf b k) u ≡ sameAt x s b k
+number-same x s u b k x-some x-most s-some s-most at-u b-some b-most k-some k-most =
+    same-tests (eqb (numberOf b k) u) (sameAt x s b k)
+    (λ e. let h = eqb-true (numberOf b k) u e in same-at x s b k (omega arith) (omega arith))
     (λ e.
     let same = at-same x s b k e in
     let x-b : x ≡ b = same .0 in
     let s-k : s ≡ k = same .1 in
-    eq-eqb (placeOf b k) u (omega arith))
+    eq-eqb (numberOf b k) u (omega arith))
 
 -- an entry is a bit of a word, by the numbers of the two
 pub entry-bit : (table : List ℕ) (b k j l : ℕ) → 0 < b → 0 < k → 0 < j → 0 < l →
-    entryAt table b k j l ≡ bitOf (getD table (placeOf b k) 0) (placeOf j l)
+    entryAt table b k j l ≡ bitOf (getD table (numberOf b k) 0) (numberOf j l)
 unfolding entryAt
 entry-bit table zero k j l b-some k-some j-some l-some = absurd (not-suc-le-zero b-some)
 entry-bit table (suc b) zero j l b-some k-some j-some l-some = absurd (not-suc-le-zero k-some)
@@ -76,8 +78,8 @@ entry-bit table (suc b) (suc k) zero l b-some k-some j-some l-some = absurd (not
 entry-bit table (suc b) (suc k) (suc j) zero b-some k-some j-some l-some = absurd (not-suc-le-zero l-some)
 entry-bit table (suc b) (suc k) (suc j) (suc l) b-some k-some j-some l-some =
     ap₂ (λ (m n : ℕ). bitOf (getD table m 0) n)
-    (let e : 8 * k + b ≡ placeOf (suc b) (suc k) = omega arith in e)
-    (let e : 8 * l + j ≡ placeOf (suc j) (suc l) = omega arith in e)
+    (let e : 8 * k + b ≡ numberOf (suc b) (suc k) = omega arith in e)
+    (let e : 8 * l + j ≡ numberOf (suc j) (suc l) = omega arith in e)
 
 -- the word at u with bit v set
 abbrev withBit : List ℕ → ℕ → ℕ → ℕ
@@ -103,16 +105,16 @@ store-sets table u v n i size u-most i-most =
 
 -- and so marks one entry
 module _ (table : List ℕ) (x s y t u v : ℕ) (size : length table ≡ 64) (x-some : 0 < x) (x-most : x ≤ 8) (s-some : 0 < s) (s-most : s ≤ 8)
-    (y-some : 0 < y) (y-most : y ≤ 8) (t-some : 0 < t) (t-most : t ≤ 8) (at-u : u ≡ placeOf x s) (at-v : v ≡ placeOf y t) where
+    (y-some : 0 < y) (y-most : y ≤ 8) (t-some : 0 < t) (t-most : t ≤ 8) (at-u : u ≡ numberOf x s) (at-v : v ≡ numberOf y t) where
   pub store-marks : (b k j l : ℕ) → Entry b k j l →
       entryAt (set table u (withBit table u v)) b k j l ≡ (entryAt table b k j l || bothAre x s y t b k j l)
   store-marks b k j l i =
       entry-bit (set table u (withBit table u v)) b k j l (i .some-b) (i .some-k) (i .some-j) (i .some-l)
-      ∙ store-sets table u v (placeOf b k) (placeOf j l) size (omega arith) (omega arith)
+      ∙ store-sets table u v (numberOf b k) (numberOf j l) size (omega arith) (omega arith)
       ∙ ap₂ _||_ (sym (entry-bit table b k j l (i .some-b) (i .some-k) (i .some-j) (i .some-l)))
       (ap₂ _&&_
-      (place-same x s u b k x-some x-most s-some s-most at-u (i .some-b) (i .most-b) (i .some-k) (i .most-k))
-      (place-same y t v j l y-some y-most t-some t-most at-v (i .some-j) (i .most-j) (i .some-l) (i .most-l)))
+      (number-same x s u b k x-some x-most s-some s-most at-u (i .some-b) (i .most-b) (i .some-k) (i .most-k))
+      (number-same y t v j l y-some y-most t-some t-most at-v (i .some-j) (i .most-j) (i .some-l) (i .most-l)))
 
 -- a bidder or a slot that the table does not have marks nothing
 pub first-left-out : (n x s y t b k j l : ℕ) (m : Bool) → Numbered x s n → 64 ≤ n → Entry b k j l → m ≡ (m || bothAre x s y t b k j l)
@@ -250,24 +252,24 @@ module _ (p : Page) (b k j l : ℕ) (k-some : 0 < k) (k-most : k ≤ 16) (l-some
 
   other-told : (owner i : Bidder) (m : Slot) → Proper (record { owner = owner; kind = OtherSlot i m }) →
       ((i .0 ≡ b) × (m .0 ≡ k)) ⊎ ((i .0 ≡ j) × (m .0 ≡ l)) → (owner .0 ≡ b) ⊎ (owner .0 ≡ j) → anywhere (owner .0) (i .0) (m .0) b k j l ≡ true
-  other-told owner i m q (inl e) (inl o) = absurd (q .named .1 (e .0 ∙ sym o))
+  other-told owner i m q (inl e) (inl o) = absurd (q .parts .1 (e .0 ∙ sym o))
   other-told owner i m q (inl e) (inr o) =
       or-right (eqb (owner .0) b && sameAt (i .0) (m .0) j l) (and-holds (same-at (i .0) (m .0) b k (e .0) (e .1)) (eq-eqb (owner .0) j o))
   other-told owner i m q (inr e) (inl o) =
       or-left (sameAt (i .0) (m .0) b k && eqb (owner .0) j) (and-holds (eq-eqb (owner .0) b o) (same-at (i .0) (m .0) j l (e .0) (e .1)))
-  other-told owner i m q (inr e) (inr o) = absurd (q .named .1 (e .0 ∙ sym o))
+  other-told owner i m q (inr e) (inr o) = absurd (q .parts .1 (e .0 ∙ sym o))
 
   pair-told : (owner : Bidder) (s : Slot) (i : Bidder) (m : Slot) → Proper (record { owner = owner; kind = Pair i m s }) →
       ((owner .0 ≡ b) × (s .0 ≡ k)) ⊎ ((owner .0 ≡ j) × (s .0 ≡ l)) → ((i .0 ≡ b) × (m .0 ≡ k)) ⊎ ((i .0 ≡ j) × (m .0 ≡ l)) →
       eitherWay (owner .0) (s .0) (i .0) (m .0) b k j l ≡ true
-  pair-told owner s i m q (inl o) (inl e) = absurd (q .named .1 (e .0 ∙ sym (o .0)))
+  pair-told owner s i m q (inl o) (inl e) = absurd (q .parts .1 (e .0 ∙ sym (o .0)))
   pair-told owner s i m q (inl o) (inr e) =
       or-left (bothAre (i .0) (m .0) (owner .0) (s .0) b k j l)
       (and-holds (same-at (owner .0) (s .0) b k (o .0) (o .1)) (same-at (i .0) (m .0) j l (e .0) (e .1)))
   pair-told owner s i m q (inr o) (inl e) =
       or-right (bothAre (owner .0) (s .0) (i .0) (m .0) b k j l)
       (and-holds (same-at (i .0) (m .0) b k (e .0) (e .1)) (same-at (owner .0) (s .0) j l (o .0) (o .1)))
-  pair-told owner s i m q (inr o) (inr e) = absurd (q .named .1 (e .0 ∙ sym (o .0)))
+  pair-told owner s i m q (inr o) (inr e) = absurd (q .parts .1 (e .0 ∙ sym (o .0)))
 
   broken-told : (owner : Bidder) (kind : Kind) → Proper (record { owner = owner; kind = kind }) →
       broken p (record { owner = owner; kind = kind }) ≡ true → pairBreaks kind (owner .0) b k j l ≡ true
@@ -277,19 +279,19 @@ module _ (p : Page) (b k j l : ℕ) (k-some : 0 < k) (k-most : k ≤ 16) (l-some
       own-told owner s q (only (s .0) (owner .0) (q .owned) (eqb-true (at p (s .0)) (owner .0) (parts .0)))
   broken-told owner (OtherSlot i m) q e =
       let parts = broken-parts p (record { owner = owner; kind = OtherSlot i m }) e in
-      other-told owner i m q (only (m .0) (i .0) (q .named .0) (eqb-true (at p (m .0)) (i .0) (parts .1)))
+      other-told owner i m q (only (m .0) (i .0) (q .parts .0) (eqb-true (at p (m .0)) (i .0) (parts .1)))
       (one-of-two (owner .0) (q .owned) (parts .2))
   broken-told owner (Pair i m s) q e =
       let parts = broken-parts p (record { owner = owner; kind = Pair i m s }) e in
       pair-told owner s i m q (only (s .0) (owner .0) (q .owned) (eqb-true (at p (s .0)) (owner .0) (parts .0)))
-      (only (m .0) (i .0) (q .named .0) (eqb-true (at p (m .0)) (i .0) (parts .1)))
+      (only (m .0) (i .0) (q .parts .0) (eqb-true (at p (m .0)) (i .0) (parts .1)))
 
   own-broken : (owner : Bidder) (s : Slot) → Proper (record { owner = owner; kind = OwnSlot s }) → at p (s .0) ≡ owner .0 →
       broken p (record { owner = owner; kind = OwnSlot s }) ≡ true
   unfolding ownHolds otherHolds
   own-broken owner s q e =
       parts-broken p (record { owner = owner; kind = OwnSlot s }) (eq-eqb (at p (s .0)) (owner .0) e) refl
-      (placed-at p (owner .0) (s .0) (q .named .0) (q .named .1) e)
+      (placed-at p (owner .0) (s .0) (q .parts .0) (q .parts .1) e)
 
   other-broken : (owner i : Bidder) (m : Slot) → at p (m .0) ≡ i .0 → placed p (owner .0) ≡ true →
       broken p (record { owner = owner; kind = OtherSlot i m }) ≡ true
@@ -301,7 +303,7 @@ module _ (p : Page) (b k j l : ℕ) (k-some : 0 < k) (k-most : k ≤ 16) (l-some
   unfolding ownHolds otherHolds
   pair-broken owner s i m q o e =
       parts-broken p (record { owner = owner; kind = Pair i m s }) (eq-eqb (at p (s .0)) (owner .0) o) (eq-eqb (at p (m .0)) (i .0) e)
-      (placed-at p (owner .0) (s .0) (q .named .5) (q .named .6) o)
+      (placed-at p (owner .0) (s .0) (q .parts .5) (q .parts .6) o)
 
   told-broken : (owner : Bidder) (kind : Kind) → Proper (record { owner = owner; kind = kind }) →
       pairBreaks kind (owner .0) b k j l ≡ true → broken p (record { owner = owner; kind = kind }) ≡ true
@@ -372,10 +374,10 @@ module _ (owner : Bidder) where
       ⊎-elim
       (λ (f : (eqb (owner .0) b && sameAt (i .0) (m .0) b k) ≡ true).
       let both = and-parts (eqb (owner .0) b) (sameAt (i .0) (m .0) b k) f in
-      q .named .1 (at-same (i .0) (m .0) b k (both .1) .0 ∙ sym (eqb-true (owner .0) b (both .0))))
+      q .parts .1 (at-same (i .0) (m .0) b k (both .1) .0 ∙ sym (eqb-true (owner .0) b (both .0))))
       (λ (f : (sameAt (i .0) (m .0) b k && eqb (owner .0) b) ≡ true).
       let both = and-parts (sameAt (i .0) (m .0) b k) (eqb (owner .0) b) f in
-      q .named .1 (at-same (i .0) (m .0) b k (both .0) .0 ∙ sym (eqb-true (owner .0) b (both .1))))
+      q .parts .1 (at-same (i .0) (m .0) b k (both .0) .0 ∙ sym (eqb-true (owner .0) b (both .1))))
       (or-parts (eqb (owner .0) b && sameAt (i .0) (m .0) b k) (sameAt (i .0) (m .0) b k && eqb (owner .0) b) e))
 
   pair-not-alone : (s : Slot) (i : Bidder) (m : Slot) → Proper (record { owner = owner; kind = Pair i m s }) → (b k : ℕ) →
@@ -386,10 +388,10 @@ module _ (owner : Bidder) where
       ⊎-elim
       (λ (f : bothAre (owner .0) (s .0) (i .0) (m .0) b k b k ≡ true).
       let both = and-parts (sameAt (owner .0) (s .0) b k) (sameAt (i .0) (m .0) b k) f in
-      q .named .1 (at-same (i .0) (m .0) b k (both .1) .0 ∙ sym (at-same (owner .0) (s .0) b k (both .0) .0)))
+      q .parts .1 (at-same (i .0) (m .0) b k (both .1) .0 ∙ sym (at-same (owner .0) (s .0) b k (both .0) .0)))
       (λ (f : bothAre (i .0) (m .0) (owner .0) (s .0) b k b k ≡ true).
       let both = and-parts (sameAt (i .0) (m .0) b k) (sameAt (owner .0) (s .0) b k) f in
-      q .named .1 (at-same (i .0) (m .0) b k (both .0) .0 ∙ sym (at-same (owner .0) (s .0) b k (both .1) .0)))
+      q .parts .1 (at-same (i .0) (m .0) b k (both .0) .0 ∙ sym (at-same (owner .0) (s .0) b k (both .1) .0)))
       (or-parts (bothAre (owner .0) (s .0) (i .0) (m .0) b k b k) (bothAre (i .0) (m .0) (owner .0) (s .0) b k b k) e))
 
   breaks-marked : (kind : Kind) → Proper (record { owner = owner; kind = kind }) → (b k j l : ℕ) →

@@ -6,7 +6,7 @@ ghost use lib.Dec.{eqb, leb, ltb};
 ghost use lib.ListN.{length, getD};
 ghost use Rattle.basis.specs.Bits.{bitOf};
 ghost use Rattle.auction.specs.Page.{emptyPage};
-ghost use Rattle.auction.specs.Proper.{Proper, ProperRound};
+ghost use Rattle.sheet.specs.Proper.{Proper, ProperRound};
 ghost use Rattle.best_clash.specs.Clash.{entryAt, TableOf, BarredBy, BarredAlso};
 ghost use Rattle.best_clash.specs.Marks.{Entry, Numbered, bothAre, eitherWay, anywhere, marks};
 use sheet::Bidder;
@@ -30,12 +30,12 @@ fn number(bidder: Bidder, slot: Slot) -> usize
 }
 
 // The entry of one bidder at its slot and another at its slot is marked, if the table has it.
-fn mark(table: &mut [u64], bidder: Bidder, slot: Slot, other: Bidder, place: Slot)
-    requires { ⌜ (length (now table) ≡ 64) × (0 < bidder .0) × (0 < slot .0) × (0 < other .0) × (0 < place .0) ⌝ }
-    ensures { λ r. ⌜ ((b k j l : ℕ) → Entry b k j l → entryAt (now (table .exit)) b k j l ≡ (entryAt (now (table .entry)) b k j l || bothAre (bidder .0) (slot .0) (other .0) (place .0) b k j l)) ⌝ }
+fn mark(table: &mut [u64], bidder: Bidder, slot: Slot, other: Bidder, others: Slot)
+    requires { ⌜ (length (now table) ≡ 64) × (0 < bidder .0) × (0 < slot .0) × (0 < other .0) × (0 < others .0) ⌝ }
+    ensures { λ r. ⌜ ((b k j l : ℕ) → Entry b k j l → entryAt (now (table .exit)) b k j l ≡ (entryAt (now (table .entry)) b k j l || bothAre (bidder .0) (slot .0) (other .0) (others .0) b k j l)) ⌝ }
 {
     let x = number(bidder, slot);
-    let y = number(other, place);
+    let y = number(other, others);
     if x >= 64 {
         return;
     }
@@ -46,22 +46,22 @@ fn mark(table: &mut [u64], bidder: Bidder, slot: Slot, other: Bidder, place: Slo
 }
 
 // The same in both orders.
-fn mark_both(table: &mut [u64], bidder: Bidder, slot: Slot, other: Bidder, place: Slot)
-    requires { ⌜ (length (now table) ≡ 64) × (0 < bidder .0) × (0 < slot .0) × (0 < other .0) × (0 < place .0) ⌝ }
-    ensures { λ r. ⌜ ((b k j l : ℕ) → Entry b k j l → entryAt (now (table .exit)) b k j l ≡ (entryAt (now (table .entry)) b k j l || eitherWay (bidder .0) (slot .0) (other .0) (place .0) b k j l)) ⌝ }
+fn mark_both(table: &mut [u64], bidder: Bidder, slot: Slot, other: Bidder, others: Slot)
+    requires { ⌜ (length (now table) ≡ 64) × (0 < bidder .0) × (0 < slot .0) × (0 < other .0) × (0 < others .0) ⌝ }
+    ensures { λ r. ⌜ ((b k j l : ℕ) → Entry b k j l → entryAt (now (table .exit)) b k j l ≡ (entryAt (now (table .entry)) b k j l || eitherWay (bidder .0) (slot .0) (other .0) (others .0) b k j l)) ⌝ }
 {
-    mark(table, bidder, slot, other, place);
-    mark(table, other, place, bidder, slot);
+    mark(table, bidder, slot, other, others);
+    mark(table, other, others, bidder, slot);
 }
 
 // One bidder at any slot, and another at its slot.
-fn mark_anywhere(table: &mut [u64], bidder: Bidder, other: Bidder, place: Slot)
-    requires { ⌜ (length (now table) ≡ 64) × (0 < bidder .0) × (0 < other .0) × (0 < place .0) ⌝ }
-    ensures { λ r. ⌜ ((b k j l : ℕ) → Entry b k j l → entryAt (now (table .exit)) b k j l ≡ (entryAt (now (table .entry)) b k j l || anywhere (bidder .0) (other .0) (place .0) b k j l)) ⌝ }
+fn mark_anywhere(table: &mut [u64], bidder: Bidder, other: Bidder, others: Slot)
+    requires { ⌜ (length (now table) ≡ 64) × (0 < bidder .0) × (0 < other .0) × (0 < others .0) ⌝ }
+    ensures { λ r. ⌜ ((b k j l : ℕ) → Entry b k j l → entryAt (now (table .exit)) b k j l ≡ (entryAt (now (table .entry)) b k j l || anywhere (bidder .0) (other .0) (others .0) b k j l)) ⌝ }
 {
     let mut n: u8 = 0;
     while n < 8 {
-        mark_both(table, bidder, Slot(n + 1), other, place);
+        mark_both(table, bidder, Slot(n + 1), other, others);
         n += 1;
     }
 }
@@ -77,11 +77,11 @@ fn mark_constraint(table: &mut [u64], constraint: Constraint)
         Kind::OwnSlot(slot) => {
             mark(table, owner, slot, owner, slot);
         }
-        Kind::OtherSlot(other, place) => {
-            mark_anywhere(table, owner, other, place);
+        Kind::OtherSlot(other, others) => {
+            mark_anywhere(table, owner, other, others);
         }
-        Kind::Pair(other, place, slot) => {
-            mark_both(table, owner, slot, other, place);
+        Kind::Pair(other, others, slot) => {
+            mark_both(table, owner, slot, other, others);
         }
     }
 }
@@ -136,11 +136,11 @@ pub fn also_barred(table: &[u64], barred: u64, slot: Slot, bidder: Bidder) -> u6
     requires { ⌜ (length (now table) ≡ 64) × ((0 < slot .0) × (slot .0 ≤ 8)) × (bidder .0 ≤ 8) ⌝ }
     ensures { λ r. ⌜ ((k : ℕ) → suc k ≡ slot .0 → BarredAlso (now (table .entry)) barred k (bidder .0) r) ⌝ }
 {
-    let place = slot.0 as usize - 1;
-    let settled = barred | at_slot(place);
+    let slot_index = slot.0 as usize - 1;
+    let settled = barred | at_slot(slot_index);
     if bidder.0 == 0 {
         return settled;
     }
     let index = bidder.0 as usize - 1;
-    settled | table[8 * place + index] | everywhere(index)
+    settled | table[8 * slot_index + index] | everywhere(index)
 }

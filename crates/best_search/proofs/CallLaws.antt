@@ -7,35 +7,30 @@ use mathlib.Core.Path.{_≡_, refl, sym, _∙_, ap, ap₂}
 use native.Mathlib.Omega.{arith}
 use lib.ListN.{length, drop}
 use Rattle.basis.specs.Rows.{row}
-use Rattle.basis.proofs.FirstLaws.{orElse-left, orElse-right}
+use Rattle.basis.proofs.FirstLaws.{orElse-left, orElse-right, refused-leaves, answered-gives}
 use Rattle.sheet.specs.declared.Page.{Page}
 use Rattle.sheet.specs.declared.Round.{Round}
 use Rattle.sheet.specs.Sheet.{bidderCount, slotCount}
 use Rattle.sheet.specs.Refusal.{refusalOf, Accepted}
 use Rattle.sheet.specs.Round.{roundOf}
 use Rattle.auction.specs.Page.{at}
-use Rattle.auction.proofs.AcceptedLaws.{round-proper}
-use Rattle.best_search.specs.Best.{total}
-use Rattle.best_search.specs.BestPage.{bestPage}
-use Rattle.best_search.specs.Call.{boundsRefusal, bestRefusal, bestBuffer, bufferAfter, chosenFor, BestGiven, BestAnswered}
+use Rattle.sheet.proofs.RoundLaws.{round-proper}
+use Rattle.auction.specs.Allowed.{total}
+use Rattle.best_page.specs.BestPage.{bestPage}
+use Rattle.best_page.proofs.BestPageLaws.{best-page}
+use Rattle.best_search.specs.Call.{boundsRefusal, bestRefusal, bestBuffer, chosenFor, BestGiven, BestAnswered}
 use Rattle.best_search.specs.declared.Chosen.{Chosen}
-use Rattle.best_search.proofs.BestPageLaws.{best-page}
 
 chosen-refused : (k : ℕ) (s : List ℕ) → (k ≡ 0 → ⊥) → record { refusal = k; total = 0 } ≡ chosenFor k s
 unfolding chosenFor
 chosen-refused zero s h = absurd (h refl)
 chosen-refused (suc k) s h = refl
 
-left-alone : (k : ℕ) (s out : List ℕ) → (k ≡ 0 → ⊥) → out ≡ bufferAfter k s out
-unfolding bufferAfter
-left-alone zero s out h = absurd (h refl)
-left-alone (suc k) s out h = refl
-
 refused : (s out : List ℕ) (k : ℕ) → k ≡ bestRefusal s out → (k ≡ 0 → ⊥) → BestGiven s out (record { refusal = k; total = 0 }) out
 refused s out k e h =
     record {
       returned = chosen-refused k s h ∙ ap (λ (n : ℕ). chosenFor n s) e;
-      buffer = left-alone k s out h ∙ ap (λ (n : ℕ). bufferAfter n s out) e;
+      buffer = refused-leaves (bestRefusal s out) k (bestBuffer (roundOf s) out) out e h;
     }
 
 pub sheet-refused : (s out : List ℕ) (k : ℕ) → k ≡ refusalOf s → (k ≡ 0 → ⊥) → BestGiven s out (record { refusal = k; total = 0 }) out
@@ -71,7 +66,7 @@ module _ (s out : List ℕ) (ok : Accepted s) where
   pub best-given : (r : Round) (p : Page) (need : ℕ) (out′ : List ℕ) → bidderCount s ≤ 8 → slotCount s ≤ 8 → slotCount s ≤ length out →
       r ≡ roundOf s → p ≡ bestPage r → need ≡ suc (total r p) → out′ ≡ row (λ k. at p (suc k)) (r .slots) ++ drop (r .slots) out →
       BestGiven s out (record { refusal = 0; total = need - 1 }) out′
-  unfolding chosenFor bufferAfter bestBuffer
+  unfolding chosenFor bestBuffer
   best-given r p need out′ m n room same best one e =
       let number = unrefused m n room in
       let own : need - 1 ≡ total r p = omega arith in
@@ -83,13 +78,13 @@ module _ (s out : List ℕ) (ok : Accepted s) where
             e
             ∙ ap (λ (q : Page). row (λ k. at q (suc k)) (r .slots) ++ drop (r .slots) out) best
             ∙ ap (λ (x : Round). bestBuffer x out) same
-            ∙ ap (λ (k : ℕ). bufferAfter k s out) number;
+            ∙ answered-gives (bestRefusal s out) (bestBuffer (roundOf s) out) out (sym number);
       }
 
   -- Demand 2, second half: up to 8 bidders and 8 slots, with room for the page, what meets the call's contract is the best page and its total.
   pub demand-two : (answer : Chosen) (out′ : List ℕ) → BestGiven s out answer out′ →
       bidderCount s ≤ 8 → slotCount s ≤ 8 → slotCount s ≤ length out → BestAnswered (roundOf s) out answer out′
-  unfolding chosenFor bufferAfter bestBuffer
+  unfolding chosenFor bestBuffer
   demand-two answer out′ g m n room =
       let number = sym (unrefused m n room) in
       let proper = round-proper s ok in
@@ -99,5 +94,5 @@ module _ (s out : List ℕ) (ok : Accepted s) where
         page = bestPage (roundOf s);
         best = best-page (roundOf s) (proper .most-slots) proper;
         own = ap (λ (x : Chosen). x .total) returned;
-        written = g .buffer ∙ ap (λ (k : ℕ). bufferAfter k s out) number;
+        written = g .buffer ∙ sym (answered-gives (bestRefusal s out) (bestBuffer (roundOf s) out) out number);
       }

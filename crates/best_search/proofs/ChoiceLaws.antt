@@ -16,18 +16,19 @@ use Rattle.sheet.specs.declared.Round.{Round}
 use Rattle.choice.specs.Tables.{bidIn}
 use Rattle.auction.specs.Page.{at, put, placed, Sized}
 use Rattle.auction.specs.Broken.{breaks}
-use Rattle.auction.specs.Greedy.{bidOf, effectOf}
-use Rattle.auction.specs.Proper.{ProperRound}
-use Rattle.auction.proofs.PageLaws.{below-or-not, put-nobody}
-use Rattle.best_bound.specs.Bound.{sumFrom, slotAfter, addAfter, Falling, NoRise, Assigns, BoundHolds, liveIn, listed}
+use Rattle.sheet.specs.Round.{bidOf, effectOf}
+use Rattle.sheet.specs.Proper.{ProperRound}
+use Rattle.auction.proofs.PageLaws.{put-nobody}
+use Rattle.basis.proofs.NumberLaws.{below-or-not}
+use Rattle.best_bound.specs.Bound.{sumFrom, slotAfter, addAfter, BidsFall, NoRise, Assigns, BoundHolds, eligibleIn, nth}
 use Rattle.best_clash.specs.Clash.{clashes, clashesIn, BarredBy}
 use Rattle.best_search.specs.declared.Prospect.{Prospect}
-use Rattle.best_search.specs.Best.{Allowed, total}
-use Rattle.best_search.specs.Search.{Searched}
-use Rattle.best_search.specs.Node.{TablesOf, Node, Agrees, Tried, mayStand, openTo, Leads}
-use Rattle.best_bound.proofs.BoundLaws.{bound-holds, open-live}
+use Rattle.auction.specs.Allowed.{Allowed, total}
+use Rattle.best_page.specs.Search.{Searched, Agrees, Tried}
+use Rattle.best_page.proofs.SearchLaws.{searched-none}
+use Rattle.best_search.specs.Node.{TablesOf, Node, mayStand, openTo, Leads}
+use Rattle.best_bound.proofs.BoundLaws.{bound-holds, open-eligible}
 use Rattle.best_clash.proofs.ClashLaws.{breaks-added, table-clashes}
-use Rattle.best_search.proofs.SearchLaws.{searched-none}
 use Rattle.best_search.proofs.NodeLaws.{later-unplaced, node-assigns, node-total, node-next, placed-nowhere, broken-later, broken-nowhere}
 use Rattle.best_search.proofs.StepLaws.{leaf-found, leaf-small}
 
@@ -66,24 +67,24 @@ bids-zero bids = refl
 
 -- a bid times an effect is at most 10 to the 15th
 pub product-low : (bids effects : List ℕ) (b j : ℕ) → ((i : ℕ) → getD bids i 0 ≤ 1_000_000_000) → ((i : ℕ) → getD effects i 0 ≤ 1_000_000) →
-    bidIn bids b * listed effects j ≤ 1_000_000_000_000_000
-unfolding bidIn listed
+    bidIn bids b * nth effects j ≤ 1_000_000_000_000_000
+unfolding bidIn nth
 product-low bids effects zero j x y = mul-le-mul {n₁ = 0} {m₁ = getD effects j 0} {n₂ = 1_000_000_000} {m₂ = 1_000_000} (omega arith) (y j)
 product-low bids effects (suc b) j x y = mul-le-mul (x b) (y j)
 
 -- what the bound adds is small enough for 64 bits
-pub added-low : (free : ℕ → Bool) (rank : ℕ → ℕ) (bids effects : List ℕ) (k m i : ℕ) →
+pub added-low : (eligible : ℕ → Bool) (rank : ℕ → ℕ) (bids effects : List ℕ) (k m i : ℕ) →
     ((j : ℕ) → getD bids j 0 ≤ 1_000_000_000) → ((j : ℕ) → getD effects j 0 ≤ 1_000_000) →
-    addAfter free rank (bidIn bids) (listed effects) k m i ≤ i * 1_000_000_000_000_000
+    addAfter eligible rank (bidIn bids) (nth effects) k m i ≤ i * 1_000_000_000_000_000
 unfolding addAfter
-added-low free rank bids effects k m zero x y = omega arith
-added-low free rank bids effects k m (suc i) x y =
-    let h = added-low free rank bids effects k m i x y in
-    let one = step (free (rank i) && ltb (slotAfter free rank k m i) m) in
+added-low eligible rank bids effects k m zero x y = omega arith
+added-low eligible rank bids effects k m (suc i) x y =
+    let h = added-low eligible rank bids effects k m i x y in
+    let one = step (eligible (rank i) && ltb (slotAfter eligible rank k m i) m) in
     omega arith
   where
-    step : (t : Bool) → cond t (bidIn bids (rank i) * listed effects (slotAfter free rank k m i)) 0 ≤ 1_000_000_000_000_000
-    step true = product-low bids effects (rank i) (slotAfter free rank k m i) x y
+    step : (t : Bool) → cond t (bidIn bids (rank i) * nth effects (slotAfter eligible rank k m i)) 0 ≤ 1_000_000_000_000_000
+    step true = product-low bids effects (rank i) (slotAfter eligible rank k m i) x y
     step false = omega arith
 
 module _ (r : Round) (clashes ranked bids effects : List ℕ) (bidders slots : ℕ) (v : TablesOf r clashes ranked bids effects bidders slots)
@@ -107,18 +108,18 @@ module _ (r : Round) (clashes ranked bids effects : List ℕ) (bidders slots : �
 
   -- the table tells whether a bidder at a slot left breaks a constraint
   told : (b j : ℕ) → 0 < b → b ≤ bidders → placed p b ≡ false → k ≤ j → j < slots → breaks r (put p (suc j) b) ≡ clashesIn clashes p (suc j) b
-  told b j s m free past inside =
+  told b j s m eligible past inside =
       let eight = v .few-bidders in
       let n = v .bidders-are in
       let short = v .few-slots in
-      breaks-added r (v .proper) p (suc j) b (w .page .sized) (omega arith) (omega arith) (λ i l. w .later i (omega arith)) free (λ z. absurd (omega arith)) (w .unbroken)
+      breaks-added r (v .proper) p (suc j) b (w .page .sized) (omega arith) (omega arith) (λ i l. w .later i (omega arith)) eligible (λ z. absurd (omega arith)) (w .unbroken)
       ∙ sym
       (table-clashes r clashes (v .table) (v .proper) p (suc j) b (omega arith) (omega arith) s (omega arith)
-      (λ i. (let h = w .page .bidders i in omega arith)) free (w .page .sized) (w .later (suc j) (omega arith)) (w .unbroken))
+      (λ i. (let h = w .page .bidders i in omega arith)) eligible (w .page .sized) (w .later (suc j) (omega arith)) (w .unbroken))
 
   -- who stands at a slot left of an allowed page is not barred from it
   open-later : (barred : ℕ) → BarredBy clashes p k barred → (q : Page) → Agrees p k q → Allowed r q → (j : ℕ) → k ≤ j →
-      (at q (suc j) ≡ 0 → ⊥) → liveIn barred (at q (suc j)) ≡ true
+      (at q (suc j) ≡ 0 → ⊥) → eligibleIn barred (at q (suc j)) ≡ true
   open-later barred told′ q f ok j past s =
       let b = at q (suc j) in
       let inside : j < slots
@@ -129,19 +130,19 @@ module _ (r : Round) (clashes ranked bids effects : List ℕ) (bidders slots : �
       let low : b ≤ bidders = (let h = ok .page .bidders (suc j) in let n = v .bidders-are in omega arith) in
       let eight = v .few-bidders in
       let short = v .few-slots in
-      let free : placed p b ≡ false = later-unplaced r p k had w q f ok j past s in
+      let eligible : placed p b ≡ false = later-unplaced r p k had w q f ok j past s in
       let whole : breaks r (put p (suc j) b) ≡ false = broken-later r (v .proper) p k had w q f ok j b past (omega arith) refl in
-      let apart : clashesIn clashes p (suc j) b ≡ false = sym (told b j (omega arith) low free past inside) ∙ whole in
-      open-live barred b j (omega arith)
+      let apart : clashesIn clashes p (suc j) b ≡ false = sym (told b j (omega arith) low eligible past inside) ∙ whole in
+      open-eligible barred b j (omega arith)
       (ap (λ (n : ℕ). bitOf barred (8 * n + (b - 1))) (let e : j ≡ suc j - 1 = omega arith in e)
       ∙ told′ .told b (suc j) (omega arith) (omega arith) (omega arith) (omega arith)
-      ∙ or-fails free apart)
+      ∙ or-fails eligible apart)
 
   -- the bound is too small
   bound-small : (need : ℕ) (page : Page) (barred : ℕ) → BarredBy clashes p k barred →
-      had + addAfter (liveIn barred) (listed ranked) (bidIn bids) (listed effects) k 16 bidders < need →
+      had + addAfter (eligibleIn barred) (nth ranked) (bidIn bids) (nth effects) k 16 bidders < need →
       Searched r (Agrees p k) need page need page
-  unfolding BoundHolds listed
+  unfolding BoundHolds nth
   bound-small need page barred told′ l =
       searched-none r (Agrees p k) need page
       (λ q f ok.
@@ -154,13 +155,13 @@ module _ (r : Round) (clashes ranked bids effects : List ℕ) (bidders slots : �
       let whole-end : k + rest ≡ 16 = omega arith in
       let more : 16 - slots + left ≡ rest = omega arith in
       let many = v .bidders-are in
-      let assigns = node-assigns r p k had rest (λ i. getD ranked i 0) (liveIn barred) w
+      let assigns = node-assigns r p k had rest (λ i. getD ranked i 0) (eligibleIn barred) w
       (λ b s m.
       let a = v .ranking .everybody b s (omega arith) in
       (a .0, (let h : a .0 < bidders = a .1 in omega arith), a .2))
       q f ok (λ j h g s. open-later barred told′ q f ok j h s) in
-      let assigns′ = subst (λ (n : ℕ). Assigns (liveIn barred) (λ i. getD ranked i 0) n k (k + rest) (λ j. at q (suc j))) many assigns in
-      let most = bound-holds (liveIn barred) (listed ranked) (bidIn bids) (listed effects) bidders k rest (bids-zero bids)
+      let assigns′ = subst (λ (n : ℕ). Assigns (eligibleIn barred) (λ i. getD ranked i 0) n k (k + rest) (λ j. at q (suc j))) many assigns in
+      let most = bound-holds (eligibleIn barred) (nth ranked) (bidIn bids) (nth effects) bidders k rest (bids-zero bids)
       (λ i h z. absurd (let a = v .ranking .some i h .0 in let e : getD ranked i 0 ≡ 0 = z in omega arith))
       (λ i j h g e. v .ranking .once i j h g e)
       (λ i j h g.
@@ -174,16 +175,16 @@ module _ (r : Round) (clashes ranked bids effects : List ℕ) (bidders slots : �
       let d = v .effects-are j in
       omega arith)
       (λ j. at q (suc j)) assigns′ in
-      let sum = sum-same (bidIn bids) (bidOf r) (listed effects) (λ j. effectOf r (suc j)) (λ j. at q (suc j)) k left (v .bids-are) (v .effects-are) in
-      let longer = subst (λ (n : ℕ). sumFrom (bidIn bids) (listed effects) (λ j. at q (suc j)) k left ≤ sumFrom (bidIn bids) (listed effects) (λ j. at q (suc j)) k n) more
-      (sum-longer (bidIn bids) (listed effects) (λ j. at q (suc j)) k left (16 - slots)) in
+      let sum = sum-same (bidIn bids) (bidOf r) (nth effects) (λ j. effectOf r (suc j)) (λ j. at q (suc j)) k left (v .bids-are) (v .effects-are) in
+      let longer = subst (λ (n : ℕ). sumFrom (bidIn bids) (nth effects) (λ j. at q (suc j)) k left ≤ sumFrom (bidIn bids) (nth effects) (λ j. at q (suc j)) k n) more
+      (sum-longer (bidIn bids) (nth effects) (λ j. at q (suc j)) k left (16 - slots)) in
       let total-is = node-total r p k had left w (end ∙ sym same) q f in
-      let within = subst (λ (m : ℕ). sumFrom (bidIn bids) (listed effects) (λ j. at q (suc j)) k rest ≤ addAfter (liveIn barred) (listed ranked) (bidIn bids) (listed effects) k m bidders) whole-end most in
+      let within = subst (λ (m : ℕ). sumFrom (bidIn bids) (nth effects) (λ j. at q (suc j)) k rest ≤ addAfter (eligibleIn barred) (nth ranked) (bidIn bids) (nth effects) k m bidders) whole-end most in
       omega arith)
 
   -- a choice that may stand is a node
   may-node : (b : ℕ) → k < slots → b ≤ bidders → mayStand clashes p (suc k) b ≡ true →
-      Node r (put p (suc k) b) (suc k) (had + bidIn bids b * listed effects k)
+      Node r (put p (suc k) b) (suc k) (had + bidIn bids b * nth effects k)
   unfolding mayStand
   may-node b inside listed′ e =
       subst (λ (x : ℕ). Node r (put p (suc k) b) (suc k) (had + x)) (ap₂ _*_ (sym (v .bids-are b)) (sym (v .effects-are k)))
@@ -195,9 +196,9 @@ module _ (r : Round) (clashes ranked bids effects : List ℕ) (bidders slots : �
           (ap (breaks r) (put-nobody p (suc k) (w .later (suc k) (omega arith))) ∙ w .unbroken)
       by-number (suc b) m e =
           let parts = and-parts (not (placed p (suc b))) (not (clashesIn clashes p (suc k) (suc b))) e in
-          let free = not-true (placed p (suc b)) (parts .0) in
-          node-next r p k had (suc b) w few (let a = v .slots-are in omega arith) (let a = v .bidders-are in omega arith) (inr free)
-          (told (suc b) k (omega arith) m free (omega arith) inside ∙ not-true (clashesIn clashes p (suc k) (suc b)) (parts .1))
+          let eligible = not-true (placed p (suc b)) (parts .0) in
+          node-next r p k had (suc b) w few (let a = v .slots-are in omega arith) (let a = v .bidders-are in omega arith) (inr eligible)
+          (told (suc b) k (omega arith) m eligible (omega arith) inside ∙ not-true (clashesIn clashes p (suc k) (suc b)) (parts .1))
 
   -- and one that may not leads to no allowed page
   may-not : (b : ℕ) → k < slots → b ≤ bidders → mayStand clashes p (suc k) b ≡ false →

@@ -1,9 +1,6 @@
--- The best page: its laws, the search and its steps, and the cases of the call.
-pub mod BestLaws
-pub mod SearchLaws
+-- The search and its steps, and the cases of the call.
 pub mod NodeLaws
 pub mod StepLaws
 pub mod ChoiceLaws
-pub mod BestPageLaws
 pub mod StartLaws
 pub mod CallLaws

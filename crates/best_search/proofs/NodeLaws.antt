@@ -6,41 +6,21 @@ use mathlib.Core.Path.{_≡_, refl, sym, _∙_, ap, ap₂, subst}
 use native.Mathlib.Nat.{eq-or-lt-of-le, le-of-suc-le-suc, not-suc-le-zero}
 use native.Mathlib.Omega.{arith}
 use lib.ListN.{length, getD}
-use lib.Seq.{ext-getD}
 use Rattle.basis.proofs.TestLaws.{not-both, fails, not-holds}
-use Rattle.sheet.specs.declared.Bidder.{Bidder}
 use Rattle.sheet.specs.declared.Page.{Page}
 use Rattle.sheet.specs.declared.Round.{Round}
-use Rattle.sheet.specs.Round.{bidder}
+use Rattle.sheet.specs.Round.{bidOf, effectOf}
 use Rattle.auction.specs.Page.{at, put, placed, Sized}
 use Rattle.auction.specs.Broken.{broken, breaks}
-use Rattle.auction.specs.Greedy.{bidOf, effectOf}
-use Rattle.auction.specs.Proper.{ProperRound}
-use Rattle.auction.proofs.PageLaws.{
-  same-or-not,
-  below-or-not,
-  put-sized,
-  at-put-same,
-  at-put-other,
-  at-within,
-  placed-at,
-  placed-where,
-  put-nobody,
-  Keeps,
-}
+use Rattle.sheet.specs.Proper.{ProperRound}
+use Rattle.auction.proofs.PageLaws.{put-sized, at-put-same, at-put-other, at-within, placed-at, placed-where, put-nobody, Keeps}
+use Rattle.basis.proofs.NumberLaws.{same-or-not, below-or-not}
 use Rattle.auction.proofs.BrokenLaws.{broken-stays, breaks-where, breaks-at, breaks-none}
-use Rattle.best_bound.specs.Bound.{sumFrom, Assigns, listed}
-use Rattle.best_search.specs.Best.{PageOf, Allowed, totalUpTo, total, Precedes}
-use Rattle.best_search.specs.Node.{Node, Agrees, Tried}
-
--- pages with the same bidder at each slot are the same page
-pub page-same : (p q : Page) → Sized p → Sized q → ((k : ℕ) → at p k ≡ at q k) → p ≡ q
-unfolding at
-page-same p q s t f =
-    λ i. record {
-      bidders =
-          ext-getD (bidder 0) (p .bidders) (q .bidders) (s ∙ sym t) (λ k l. λ j. record { 0 = f (suc k) j }) i;
-    }
+use Rattle.best_bound.specs.Bound.{sumFrom, Assigns, nth}
+use Rattle.auction.specs.Allowed.{PageOf, Allowed, totalUpTo, total}
+use Rattle.best_page.specs.Search.{Agrees}
+use Rattle.best_page.proofs.TriedLaws.{settled-only}
+use Rattle.best_search.specs.Node.{Node}
 
 module _ (r : Round) where
   -- settled slots add the same
@@ -66,13 +46,7 @@ module _ (r : Round) where
 
   -- the last node: nothing else agrees with it
   pub leaf-only : (p : Page) (had : ℕ) → Node r p (r .slots) had → (q : Page) → Agrees p (r .slots) q → Allowed r q → q ≡ p
-  leaf-only p had v q f ok =
-      page-same q p (ok .page .sized) (v .page .sized)
-      (λ k.
-      ⊎-elim
-      (λ (l : r .slots < k). ok .page .slots k l ∙ sym (v .later k l))
-      (λ (l : k ≤ r .slots). f k l)
-      (below-or-not (r .slots) k))
+  leaf-only p had v q f ok = settled-only r p (v .page .sized) (v .later) q f ok
 
   pub leaf-total : (p : Page) (had : ℕ) → Node r p (r .slots) had → total r p ≡ had
   unfolding total
@@ -94,19 +68,19 @@ module _ (r : Round) where
       absurd (omega arith))
 
   -- an allowed page that agrees with a node gives the slots left bidders, each once, that pass a test that all of those pass
-  pub node-assigns : (p : Page) (k had left : ℕ) (ranked : ℕ → ℕ) (free : ℕ → Bool) → Node r p k had →
+  pub node-assigns : (p : Page) (k had left : ℕ) (ranked : ℕ → ℕ) (eligible : ℕ → Bool) → Node r p k had →
       ((b : ℕ) → 0 < b → b ≤ r .bidders → (i : ℕ) × (i < r .bidders) × (ranked i ≡ b)) →
       (q : Page) → Agrees p k q → Allowed r q →
-      ((j : ℕ) → k ≤ j → j < k + left → (at q (suc j) ≡ 0 → ⊥) → free (at q (suc j)) ≡ true) →
-      Assigns free ranked (r .bidders) k (k + left) (λ j. at q (suc j))
-  node-assigns p k had left ranked free v everybody q f ok able =
+      ((j : ℕ) → k ≤ j → j < k + left → (at q (suc j) ≡ 0 → ⊥) → eligible (at q (suc j)) ≡ true) →
+      Assigns eligible ranked (r .bidders) k (k + left) (λ j. at q (suc j))
+  node-assigns p k had left ranked eligible v everybody q f ok may-stand =
       record {
         ranked = λ j l m.
             ⊎-elim
             (λ (z : at q (suc j) ≡ 0). inl z)
             (λ (s : at q (suc j) ≡ 0 → ⊥).
             let w = everybody (at q (suc j)) (omega arith) (ok .page .bidders (suc j)) in
-            inr (w .0, w .1, w .2, able j l m s))
+            inr (w .0, w .1, w .2, may-stand j l m s))
             (same-or-not (at q (suc j)) 0);
         once = λ i j a b c d s e. (let same = ok .page .once (suc i) (suc j) s e in omega arith);
       }
@@ -125,7 +99,7 @@ module _ (r : Round) where
       (b ≡ 0) ⊎ (placed p b ≡ false) → breaks r (put p (suc k) b) ≡ false →
       Node r (put p (suc k) b) (suc k) (had + bidOf r b * effectOf r (suc k))
   unfolding totalUpTo
-  node-next p k had b v few inside listed free unbroken =
+  node-next p k had b v few inside nth eligible unbroken =
       let here : at (put p (suc k) b) (suc k) ≡ b = at-put-same p (suc k) b (v .page .sized) (omega arith) (omega arith) in
       let other = at-put-other p (suc k) b in
       record {
@@ -134,7 +108,7 @@ module _ (r : Round) where
               sized = put-sized p (suc k) b (v .page .sized);
               bidders = λ j.
                   ⊎-elim
-                  (λ (e : j ≡ suc k). subst (λ (x : ℕ). x ≤ r .bidders) (sym (ap (at (put p (suc k) b)) e ∙ here)) listed)
+                  (λ (e : j ≡ suc k). subst (λ (x : ℕ). x ≤ r .bidders) (sym (ap (at (put p (suc k) b)) e ∙ here)) nth)
                   (λ (d : j ≡ suc k → ⊥). subst (λ (x : ℕ). x ≤ r .bidders) (sym (other j d)) (v .page .bidders j))
                   (same-or-not j (suc k));
               slots = λ j l. other j (λ e. absurd (omega arith)) ∙ v .page .slots j l;
@@ -170,7 +144,7 @@ module _ (r : Round) where
           (λ (u : placed p b ≡ false).
           let place = at-within p i (v .page .sized) (λ z. s (e ∙ sym there ∙ z)) in
           not-both (placed-at p b i (place .0) (place .1) there) u)
-          free
+          eligible
 
   -- a choice that is placed already, or breaks a constraint, leads to no allowed page
   pub placed-nowhere : (p : Page) (k had b : ℕ) → Node r p k had → r .slots ≤ 16 → k < r .slots → (b ≡ 0 → ⊥) → placed p b ≡ true →
@@ -210,36 +184,3 @@ module _ (r : Round) where
       not-both t
       (broken-later c p k had v q (λ j l. f j (omega arith) ∙ at-put-other p (suc k) b j (λ e. absurd (omega arith))) ok k b (omega arith) (omega arith)
       (f (suc k) (omega arith) ∙ at-put-same p (suc k) b (v .page .sized) (omega arith) (omega arith)))
-
--- Choices at the next slot are tried in rising order, so what is tried first comes first.
-pub tried-part : (p : Page) (k b : ℕ) → Sized p → suc k ≤ 16 → (q : Page) → Tried p k (suc b) q → Tried p k b q ⊎ Agrees (put p (suc k) b) (suc k) q
-tried-part p k b s room q t =
-    ⊎-elim
-    (λ (e : at q (suc k) ≡ b).
-    inr
-    (λ j l.
-    ⊎-elim
-    (λ (x : j ≡ suc k). ap (at q) x ∙ e ∙ sym (ap (at (put p (suc k) b)) x ∙ at-put-same p (suc k) b s (omega arith) room))
-    (λ (x : j < suc k). t .0 j (le-of-suc-le-suc x) ∙ sym (at-put-other p (suc k) b j (λ e. absurd (omega arith))))
-    (eq-or-lt-of-le l)))
-    (λ (l : at q (suc k) < b). inl (t .0, l))
-    (eq-or-lt-of-le (le-of-suc-le-suc (t .1)))
-
-pub tried-more : (p : Page) (k b : ℕ) (q : Page) → Tried p k b q → Tried p k (suc b) q
-tried-more p k b q t = (t .0, (let l = t .1 in omega arith))
-
-pub tried-next : (p : Page) (k b : ℕ) → Sized p → suc k ≤ 16 → (q : Page) → Agrees (put p (suc k) b) (suc k) q → Tried p k (suc b) q
-tried-next p k b s room q f = (
-  λ j l. f j (omega arith) ∙ at-put-other p (suc k) b j (λ e. absurd (omega arith)),
-  (let here : at q (suc k) ≡ b = f (suc k) (omega arith) ∙ at-put-same p (suc k) b s (omega arith) room in omega arith),
-)
-
-pub tried-order : (p : Page) (k b : ℕ) → Sized p → suc k ≤ 16 → (q q′ : Page) → Tried p k b q → Agrees (put p (suc k) b) (suc k) q′ → Precedes q q′
-tried-order p k b s room q q′ t f =
-    record {
-      slot = suc k;
-      smaller = (let here : at q′ (suc k) ≡ b = f (suc k) (omega arith) ∙ at-put-same p (suc k) b s (omega arith) room in let l = t .1 in omega arith);
-      same = λ j l.
-          t .0 j (omega arith)
-          ∙ sym (f j (omega arith) ∙ at-put-other p (suc k) b j (λ e. absurd (omega arith)));
-    }

@@ -16,24 +16,26 @@ use Rattle.choice.specs.Ranking.{InOrder}
 use Rattle.choice.proofs.RankingLaws.{ranked-once, ranked-falls}
 use Rattle.auction.specs.Page.{at, put, emptyPage, Sized}
 use Rattle.auction.specs.Broken.{breaks}
-use Rattle.auction.specs.Greedy.{bidOf, effectOf}
-use Rattle.auction.specs.Proper.{ProperRound}
-use Rattle.auction.proofs.PageLaws.{below-or-not, empty-sized, at-empty}
+use Rattle.sheet.specs.Round.{bidOf, effectOf}
+use Rattle.sheet.specs.Proper.{ProperRound}
+use Rattle.auction.proofs.PageLaws.{empty-sized, at-empty}
+use Rattle.basis.proofs.NumberLaws.{below-or-not}
 use Rattle.auction.proofs.GreedyLaws.{bid-listed}
 use Rattle.auction.proofs.BrokenLaws.{none-breaks, empty-unbroken}
-use Rattle.best_bound.specs.Bound.{listed}
+use Rattle.best_bound.specs.Bound.{nth}
 use Rattle.best_clash.specs.Clash.{TableOf, BarredBy}
-use Rattle.best_search.specs.Best.{PageOf, Allowed, totalUpTo, total, Best}
-use Rattle.best_search.specs.Search.{Searched}
-use Rattle.best_search.specs.Node.{RankedBy, TablesOf, Node, Agrees, Lent, Attempt, Raised}
-use Rattle.best_search.proofs.SearchLaws.{searched-best}
+use Rattle.best_page.specs.Best.{Best}
+use Rattle.best_page.specs.Search.{Searched, Agrees}
+use Rattle.best_page.proofs.SearchLaws.{searched-best}
+use Rattle.auction.specs.Allowed.{PageOf, Allowed, totalUpTo, total}
+use Rattle.best_search.specs.Node.{RankedBy, TablesOf, Node, Lent, Attempt, Raised}
 
 at-zero : (p : Page) → at p 0 ≡ 0
 unfolding at
 at-zero p = refl
 
-effect-same : (r : Round) (k : ℕ) → listed (r .effects) k ≡ effectOf r (suc k)
-unfolding listed effectOf
+effect-same : (r : Round) (k : ℕ) → nth (r .effects) k ≡ effectOf r (suc k)
+unfolding nth effectOf
 effect-same r k = refl
 
 pub bids-low : (r : Round) → ProperRound r → (i : ℕ) → getD (r .bids) i 0 ≤ 1_000_000_000

@@ -1,11 +1,11 @@
 -- The call: the best page of a lent sheet, in a lent buffer.
 use Prim.Native.Nat.{ℕ, zero, suc}
 use mathlib.Core.Bool.{_||_}
-use mathlib.Core.List.{List, [], _∷_, _++_}
+use mathlib.Core.List.{List, _++_}
 use mathlib.Core.Path.{_≡_}
 use lib.Dec.{ltb}
 use lib.ListN.{length, drop}
-use Rattle.basis.specs.First.{_when_otherwise_, orElse}
+use Rattle.basis.specs.First.{_when_otherwise_, orElse, unlessRefused}
 use Rattle.basis.specs.Rows.{row}
 use Rattle.sheet.specs.declared.Page.{Page}
 use Rattle.sheet.specs.declared.Round.{Round}
@@ -13,8 +13,9 @@ use Rattle.sheet.specs.Sheet.{bidderCount, slotCount}
 use Rattle.sheet.specs.Refusal.{refusalOf}
 use Rattle.sheet.specs.Round.{roundOf}
 use Rattle.auction.specs.Page.{at}
-use Rattle.best_search.specs.Best.{total, Best}
-use Rattle.best_search.specs.BestPage.{bestPage}
+use Rattle.best_page.specs.Best.{Best}
+use Rattle.best_page.specs.BestPage.{bestPage}
+use Rattle.auction.specs.Allowed.{total}
 use Rattle.best_search.specs.declared.Chosen.{Chosen}
 
 -- 18. The best page is sought with n above 8 or m above 8.  19. The result buffer is shorter than the bytes to be written.
@@ -32,18 +33,14 @@ bestRefusal s out = orElse (refusalOf s) (boundsRefusal s out)
 unfoldable pub bestBuffer : Round → List ℕ → List ℕ
 bestBuffer r out = row (λ k. at (bestPage r) (suc k)) (r .slots) ++ drop (r .slots) out
 
-unfoldable pub bufferAfter : ℕ → List ℕ → List ℕ → List ℕ
-bufferAfter zero s out = bestBuffer (roundOf s) out
-bufferAfter (suc k) s out = out
-
 unfoldable pub chosenFor : ℕ → List ℕ → Chosen
 chosenFor zero s = record { refusal = 0; total = total (roundOf s) (bestPage (roundOf s)) }
 chosenFor (suc k) s = record { refusal = suc k; total = 0 }
 
--- All that the call returns and leaves.
+-- All that the call returns and leaves; a refused call leaves every byte.
 pub record BestGiven (s out : List ℕ) (answer : Chosen) (out′ : List ℕ) : Type 0 where
   pub returned : answer ≡ chosenFor (bestRefusal s out) s
-  pub buffer : out′ ≡ bufferAfter (bestRefusal s out) s out
+  pub buffer : out′ ≡ unlessRefused (bestRefusal s out) (bestBuffer (roundOf s) out) out
 
 -- Demand 2's sentence, of a call on a round: it is not refused; there is a page that is best (it breaks no constraint, and no other such
 -- page has a larger total); the total returned is its own; and its bidder numbers are the buffer's first bytes.

@@ -11,13 +11,13 @@ use Rattle.sheet.specs.declared.Round.{Round}
 use Rattle.choice.specs.Tables.{bidIn}
 use Rattle.auction.specs.Page.{at, placed}
 use Rattle.auction.specs.Broken.{breaks}
-use Rattle.auction.specs.Greedy.{bidOf, effectOf}
-use Rattle.auction.specs.Proper.{ProperRound}
-use Rattle.best_bound.specs.Bound.{addAfter, liveIn, listed}
+use Rattle.sheet.specs.Round.{bidOf, effectOf}
+use Rattle.sheet.specs.Proper.{ProperRound}
+use Rattle.best_bound.specs.Bound.{addAfter, eligibleIn, nth}
 use Rattle.best_clash.specs.Clash.{TableOf, clashesIn, BarredBy, BarredAlso}
 use Rattle.best_search.specs.declared.Prospect.{Prospect}
-use Rattle.best_search.specs.Search.{Searched}
-use Rattle.best_search.specs.Best.{PageOf, Allowed, totalUpTo, total}
+use Rattle.best_page.specs.Search.{Searched, Agrees}
+use Rattle.auction.specs.Allowed.{PageOf, Allowed, totalUpTo, total}
 
 -- the list names the bidders 1 to n, each once, in falling order of their bids
 pub record RankedBy (bid : ℕ → ℕ) (n : ℕ) (ranked : List ℕ) : Type 0 where
@@ -34,7 +34,7 @@ pub record TablesOf (r : Round) (clashes ranked bids effects : List ℕ) (bidder
   pub few-bidders : bidders ≤ 8
   pub few-slots : slots ≤ 8
   pub bids-are : (b : ℕ) → bidIn bids b ≡ bidOf r b
-  pub effects-are : (k : ℕ) → listed effects k ≡ effectOf r (suc k)
+  pub effects-are : (k : ℕ) → nth effects k ≡ effectOf r (suc k)
   pub table : TableOf r clashes
   pub ranking : RankedBy (bidOf r) bidders ranked
 
@@ -45,14 +45,6 @@ pub record Node (r : Round) (p : Page) (k had : ℕ) : Type 0 where
   pub later : (j : ℕ) → k < j → at p j ≡ 0
   pub unbroken : breaks r p ≡ false
   pub had-is : had ≡ totalUpTo r p k
-
--- q has the settled slots of p
-abbrev pub Agrees : Page → ℕ → Page → Type 0
-Agrees p k q = (j : ℕ) → j ≤ k → at q j ≡ at p j
-
--- and one of the first b choices, 0 to b - 1, at the next slot
-abbrev pub Tried : Page → ℕ → ℕ → Page → Type 0
-Tried p k b q = Agrees p k q × (at q (suc k) < b)
 
 -- a choice for slot k: nobody, or a bidder that has no slot and clashes with nobody
 unfoldable pub mayStand : List ℕ → Page → ℕ → ℕ → Bool
@@ -77,8 +69,8 @@ pub record Lent (clashes ranked bids effects : List ℕ) : Type 0 where
 -- what bidder b, or nobody, at the slot with index k leads to: who is barred then, what is had then, and the most that can be had
 pub record Leads (clashes ranked bids effects : List ℕ) (k barred had b : ℕ) (next : Prospect) : Type 0 where
   pub barred-also : BarredAlso clashes barred k b (next .barred)
-  pub had-is : next .had ≡ had + bidIn bids b * listed effects k
-  pub most-is : next .most ≡ next .had + addAfter (liveIn (next .barred)) (listed ranked) (bidIn bids) (listed effects) (suc k) 16 (length ranked)
+  pub had-is : next .had ≡ had + bidIn bids b * nth effects k
+  pub most-is : next .most ≡ next .had + addAfter (eligibleIn (next .barred)) (nth ranked) (bidIn bids) (nth effects) (suc k) 16 (length ranked)
 
 -- what a search from a page with the slots before index k settled gives, for every round of which the lent tables are
 abbrev pub Attempt : (clashes ranked bids effects : List ℕ) (slots k : ℕ) (p : Page) (had need : ℕ) (page : Page) (need′ : ℕ) (page′ : Page) → Type 0

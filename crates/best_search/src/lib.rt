@@ -6,24 +6,20 @@ ghost use lib.ListN.{length, getD};
 ghost use mathlib.Core.List.{_++_};
 ghost use lib.ListN.{drop};
 ghost use Rattle.basis.specs.Rows.{row};
-ghost use Rattle.auction.specs.Proper.{ProperRound};
-ghost use Rattle.best_search.specs.Best.{Best, total};
+ghost use Rattle.sheet.specs.Proper.{ProperRound};
+ghost use Rattle.best_page.specs.Best.{Best};
+ghost use Rattle.auction.specs.Allowed.{total};
 ghost use Rattle.best_search.specs.Call.{BestGiven};
 ghost use Rattle.choice.specs.Tables.{bidIn};
 ghost use Rattle.auction.specs.Page.{at, Sized};
-ghost use Rattle.best_bound.specs.Bound.{listed};
+ghost use Rattle.best_bound.specs.Bound.{nth};
 ghost use Rattle.best_clash.specs.Clash.{BarredBy};
 ghost use Rattle.best_search.specs.Node.{openTo, Lent, Leads, Attempt, Raised};
+use best_page::Answer;
 use sheet::Bidder;
 use sheet::Page;
 use sheet::Round;
 use sheet::Slot;
-
-// What a search has found: the page, and the total that another page must have to be better: one more than its own.
-pub struct Answer {
-    pub page: Page,
-    pub need: u64,
-}
 
 // What a choice at a slot leads to: a word of who is barred then, 8 bidders a slot, what is had then, and the most that can be had.
 pub struct Prospect {
@@ -54,7 +50,7 @@ fn may_stand(barred: u64, slot: Slot, bidder: Bidder) -> bool
 fn adds(bids: &[u32], effects: &[u32], bidder: Bidder, index: usize) -> u64
     requires { ⌜ (bidder .0 ≤ length (now bids)) × (index < length (now effects)) ⌝ }
     requires { ⌜ ((i : ℕ) → getD (now bids) i 0 ≤ 1000000000) × ((i : ℕ) → getD (now effects) i 0 ≤ 1000000) ⌝ }
-    ensures { λ r. ⌜ r ≡ bidIn (now (bids .entry)) (bidder .0) * listed (now (effects .entry)) index ⌝ }
+    ensures { λ r. ⌜ r ≡ bidIn (now (bids .entry)) (bidder .0) * nth (now (effects .entry)) index ⌝ }
 {
     if bidder.0 == 0 {
         return 0;
@@ -262,7 +258,7 @@ fn write_page(page: Page, slots: usize, result: &mut [u8])
 pub fn best(sheet: &[u8], result: &mut [u8]) -> Chosen
     ensures { λ r. ⌜ BestGiven (now (sheet .entry)) (now (result .entry)) r (now (result .exit)) ⌝ }
 {
-    let reading = sheet::read(sheet);
+    let reading = sheet_read::read(sheet);
     let refusal = reading.refusal;
     if refusal != 0 {
         return Chosen { refusal, total: 0 };

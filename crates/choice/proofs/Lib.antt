@@ -1,4 +1,4 @@
 pub mod WinnerLaws
-pub mod AsksLaws
+pub mod CriticalLaws
 pub mod PlacingLaws
 pub mod RankingLaws

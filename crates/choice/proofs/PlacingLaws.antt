@@ -1,4 +1,4 @@
--- The first two of the eligible bidders, in the order in which they win: the first is the winner, and the second asks most of it.
+-- The first two of the eligible bidders, in the order in which they win: the first is the winner, and the second sets its critical bid.
 -- Assumes nothing.
 use Prim.Native.Nat.{ℕ, zero, suc, _+_, _-_, _<_, _≤_}
 use borrow.Author.Tests.{ltb-true, ltb-false}
@@ -11,12 +11,12 @@ use native.Mathlib.Omega.{arith}
 use lib.Dec.{ltb}
 use lib.ListN.{getD}
 use Rattle.basis.proofs.TestLaws.{holds-or-fails, not-both}
-use Rattle.choice.specs.Winner.{before, winner}
-use Rattle.choice.specs.Asks.{asks, mostAsked}
+use Rattle.choice.specs.Winner.{ranksNoLower, winner}
+use Rattle.choice.specs.Critical.{criticalAgainst, criticalBid}
 use Rattle.choice.specs.Tables.{bidIn}
 use Rattle.choice.specs.Ranking.{InOrder, NextAt}
-use Rattle.choice.proofs.WinnerLaws.{before-cases, before-self, wins-winner}
-use Rattle.choice.proofs.AsksLaws.{asks-lower, asks-higher, asked-covers, asked-within}
+use Rattle.choice.proofs.WinnerLaws.{ranks-cases, ranks-self, wins-winner}
+use Rattle.choice.proofs.CriticalLaws.{against-lower, against-higher, critical-covers, critical-within}
 
 -- a bidder's bid stands at the index before its number
 pub bid-index : (bids : List ℕ) (b : ℕ) → 0 < b → bidIn bids b ≡ getD bids (b - 1) 0
@@ -26,85 +26,85 @@ bid-index bids (suc i) s =
     let q : i ≡ suc i - 1 = omega arith in
     ap (λ (k : ℕ). getD bids k 0) q
 
--- a rival asks for its bid, and one more where its number is lower
-pub asks-sum : (bid : ℕ → ℕ) (w j : ℕ) → asks bid w j ≡ bid j + cond (ltb j w) 1 0
-unfolding asks
-asks-sum bid w j = by-test (ltb j w)
+-- the critical bid against a rival is its bid, and one more where its number is lower
+pub against-sum : (bid : ℕ → ℕ) (w j : ℕ) → criticalAgainst bid w j ≡ bid j + cond (ltb j w) 1 0
+unfolding criticalAgainst
+against-sum bid w j = by-test (ltb j w)
   where
     by-test : (t : Bool) → cond t (suc (bid j)) (bid j) ≡ bid j + cond t 1 0
     by-test true = omega arith
     by-test false = omega arith
 
--- whoever goes before a rival asks no less than it
-asks-no-less : (bid : ℕ → ℕ) (w v u : ℕ) → before bid v u ≡ true → asks bid w u ≤ asks bid w v
+-- against who ranks no lower than a rival it is no less than against the rival
+asks-no-less : (bid : ℕ → ℕ) (w v u : ℕ) → ranksNoLower bid v u ≡ true → criticalAgainst bid w u ≤ criticalAgainst bid w v
 asks-no-less bid w v u h =
-    let least = asks-sum bid w v in
+    let least = against-sum bid w v in
     ⊎-elim
     (λ (t : ltb u w ≡ true).
     let l : u < w = ltb-true u w t in
-    let a = asks-lower bid w u l in
+    let a = against-lower bid w u l in
     ⊎-elim
     (λ (k : bid u < bid v). omega arith)
-    (λ (k : (bid u ≡ bid v) × (v ≤ u)). let b = asks-lower bid w v (omega arith) in omega arith)
-    (before-cases bid v u h))
+    (λ (k : (bid u ≡ bid v) × (v ≤ u)). let b = against-lower bid w v (omega arith) in omega arith)
+    (ranks-cases bid v u h))
     (λ (t : ltb u w ≡ false).
-    let a = asks-higher bid w u (ltb-false u w t) in
-    ⊎-elim (λ (k : bid u < bid v). omega arith) (λ (k : (bid u ≡ bid v) × (v ≤ u)). omega arith) (before-cases bid v u h))
+    let a = against-higher bid w u (ltb-false u w t) in
+    ⊎-elim (λ (k : bid u < bid v). omega arith) (λ (k : (bid u ≡ bid v) × (v ≤ u)). omega arith) (ranks-cases bid v u h))
     (holds-or-fails (ltb u w))
 
-module _ (able : ℕ → Bool) (bid : ℕ → ℕ) (n : ℕ) (ranked : List ℕ) (o : InOrder bid n ranked) where
-  -- the bidder at an index goes before that at any later one
-  order-at : (i j : ℕ) → i ≤ j → j < n → before bid (getD ranked i 0) (getD ranked j 0) ≡ true
+module _ (eligible : ℕ → Bool) (bid : ℕ → ℕ) (n : ℕ) (ranked : List ℕ) (o : InOrder bid n ranked) where
+  -- the bidder at an index ranks no lower than that at any later one
+  order-at : (i j : ℕ) → i ≤ j → j < n → ranksNoLower bid (getD ranked i 0) (getD ranked j 0) ≡ true
   order-at i j m l =
       ⊎-elim
-      (λ (q : i ≡ j). subst (λ (k : ℕ). before bid (getD ranked i 0) (getD ranked k 0) ≡ true) q (before-self bid (getD ranked i 0)))
+      (λ (q : i ≡ j). subst (λ (k : ℕ). ranksNoLower bid (getD ranked i 0) (getD ranked k 0) ≡ true) q (ranks-self bid (getD ranked i 0)))
       (λ (k : i < j). o .order i j k l .0)
       (eq-or-lt-of-le m)
 
-  module _ (f : ℕ) (first : NextAt able ranked n 0 f) where
+  module _ (f : ℕ) (first : NextAt eligible ranked n 0 f) where
     -- an eligible bidder stands at the first eligible index, or after it
-    stands : (b : ℕ) → 0 < b → b ≤ n → able b ≡ true → (i : ℕ) × (i < n) × (getD ranked i 0 ≡ b) × (f ≤ i)
+    stands : (b : ℕ) → 0 < b → b ≤ n → eligible b ≡ true → (i : ℕ) × (i < n) × (getD ranked i 0 ≡ b) × (f ≤ i)
     stands b s m e =
         let p = o .everybody b s m in
         let i = p .0 in
         ⊎-elim
         (λ (t : ltb i f ≡ true).
-        absurd (not-both (ap able (p .2) ∙ e) (first .passed i (omega arith) (ltb-true i f t))))
+        absurd (not-both (ap eligible (p .2) ∙ e) (first .passed i (omega arith) (ltb-true i f t))))
         (λ (t : ltb i f ≡ false). (i, p .1, p .2, ltb-false i f t))
         (holds-or-fails (ltb i f))
 
     -- where there is none, nobody is eligible
-    pub none-eligible : f ≡ n → (b : ℕ) → 0 < b → b ≤ n → able b ≡ false
+    pub none-eligible : f ≡ n → (b : ℕ) → 0 < b → b ≤ n → eligible b ≡ false
     none-eligible q b s m =
         ⊎-elim
-        (λ (e : able b ≡ true).
+        (λ (e : eligible b ≡ true).
         let p = stands b s m e in
         let l : p .0 < n = p .1 in
         let l′ : f ≤ p .0 = p .3 in
         absurd (omega arith))
-        (λ (e : able b ≡ false). e)
-        (holds-or-fails (able b))
+        (λ (e : eligible b ≡ false). e)
+        (holds-or-fails (eligible b))
 
     -- the bidder there is the winner
-    pub first-wins : f < n → winner able bid n ≡ getD ranked f 0
+    pub first-wins : f < n → winner eligible bid n ≡ getD ranked f 0
     first-wins l =
         wins-winner
-        able
+        eligible
         bid
         n
         (getD ranked f 0)
         (record {
           some = o .some f l .0;
           most = o .some f l .1;
-          able = first .here l;
+          is-eligible = first .here l;
           first = λ b s m e.
               let p = stands b s m e in
-              subst (λ (u : ℕ). before bid (getD ranked f 0) u ≡ true) (p .2) (order-at f (p .0) (p .3) (p .1));
+              subst (λ (u : ℕ). ranksNoLower bid (getD ranked f 0) u ≡ true) (p .2) (order-at f (p .0) (p .3) (p .1));
         })
 
-    module _ (l : f < n) (s : ℕ) (second : NextAt able ranked n (suc f) s) where
+    module _ (l : f < n) (s : ℕ) (second : NextAt eligible ranked n (suc f) s) where
       -- a rival of the winner stands at the next eligible index, or after that
-      rival-stands : (b : ℕ) → 0 < b → b ≤ n → able b ≡ true → (b ≡ getD ranked f 0 → ⊥) →
+      rival-stands : (b : ℕ) → 0 < b → b ≤ n → eligible b ≡ true → (b ≡ getD ranked f 0 → ⊥) →
           (i : ℕ) × (i < n) × (getD ranked i 0 ≡ b) × (s ≤ i)
       rival-stands b z m e d =
           let p = stands b z m e in
@@ -113,16 +113,16 @@ module _ (able : ℕ → Bool) (bid : ℕ → ℕ) (n : ℕ) (ranked : List ℕ)
           (λ (q : f ≡ i). absurd (d (sym (p .2) ∙ ap (λ (k : ℕ). getD ranked k 0) (sym q))))
           (λ (h : f < i).
           ⊎-elim
-          (λ (t : ltb i s ≡ true). absurd (not-both (ap able (p .2) ∙ e) (second .passed i (omega arith) (ltb-true i s t))))
+          (λ (t : ltb i s ≡ true). absurd (not-both (ap eligible (p .2) ∙ e) (second .passed i (omega arith) (ltb-true i s t))))
           (λ (t : ltb i s ≡ false). (i, p .1, p .2, ltb-false i s t))
           (holds-or-fails (ltb i s)))
           (eq-or-lt-of-le (p .3))
 
-      -- where there is none, nothing is asked
-      pub no-rival-asks : s ≡ n → mostAsked able bid (getD ranked f 0) n ≡ 0
-      no-rival-asks q =
+      -- where there is none, the critical bid is 0
+      pub no-rival-costs : s ≡ n → criticalBid eligible bid (getD ranked f 0) n ≡ 0
+      no-rival-costs q =
           let a =
-          asked-within able bid (getD ranked f 0) n 0
+          critical-within eligible bid (getD ranked f 0) n 0
           (λ b z m e d.
           let p = rival-stands b z m e d in
           let h : p .0 < n = p .1 in
@@ -130,17 +130,17 @@ module _ (able : ℕ → Bool) (bid : ℕ → ℕ) (n : ℕ) (ranked : List ℕ)
           absurd (omega arith)) in
           omega arith
 
-      -- and else the bidder there asks most
-      pub second-asks : s < n → mostAsked able bid (getD ranked f 0) n ≡ asks bid (getD ranked f 0) (getD ranked s 0)
-      second-asks h =
+      -- and else the bidder there sets it
+      pub second-sets : s < n → criticalBid eligible bid (getD ranked f 0) n ≡ criticalAgainst bid (getD ranked f 0) (getD ranked s 0)
+      second-sets h =
           let w = getD ranked f 0 in
           let v = getD ranked s 0 in
-          let most : mostAsked able bid w n ≤ asks bid w v =
-          asked-within able bid w n (asks bid w v)
+          let most : criticalBid eligible bid w n ≤ criticalAgainst bid w v =
+          critical-within eligible bid w n (criticalAgainst bid w v)
           (λ b z m e d.
           let p = rival-stands b z m e d in
-          asks-no-less bid w v b (subst (λ (u : ℕ). before bid v u ≡ true) (p .2) (order-at s (p .0) (p .3) (p .1)))) in
-          let least : asks bid w v ≤ mostAsked able bid w n =
-          asked-covers able bid w n v (o .some s h .0) (o .some s h .1) (second .here h)
+          asks-no-less bid w v b (subst (λ (u : ℕ). ranksNoLower bid v u ≡ true) (p .2) (order-at s (p .0) (p .3) (p .1)))) in
+          let least : criticalAgainst bid w v ≤ criticalBid eligible bid w n =
+          critical-covers eligible bid w n v (o .some s h .0) (o .some s h .1) (second .here h)
           (λ q. let k = second .low in o .order f s (omega arith) h .1 (sym q)) in
           omega arith

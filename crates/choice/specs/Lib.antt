@@ -1,4 +1,4 @@
 pub mod Winner
-pub mod Asks
+pub mod Critical
 pub mod Tables
 pub mod Ranking

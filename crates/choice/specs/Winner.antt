@@ -6,13 +6,13 @@ use lib.Dec.{eqb, ltb, leb}
 use Rattle.basis.specs.First.{_when_otherwise_, firstOver}
 use Rattle.basis.specs.Tests.{allBelow}
 
--- b goes before j: its bid is higher, or equal and its number is not above j's
-unfoldable pub before : (ℕ → ℕ) → ℕ → ℕ → Bool
-before bid b j = ltb (bid j) (bid b) || (eqb (bid j) (bid b) && leb b j)
+-- b ranks no lower than j: its bid is higher, or equal and its number is not above j's
+unfoldable pub ranksNoLower : (ℕ → ℕ) → ℕ → ℕ → Bool
+ranksNoLower bid b j = ltb (bid j) (bid b) || (eqb (bid j) (bid b) && leb b j)
 
--- b is eligible and goes before every eligible bidder
+-- b is eligible and ranks no lower than every eligible bidder
 unfoldable pub wins : (ℕ → Bool) → (ℕ → ℕ) → ℕ → ℕ → Bool
-wins eligible bid n b = eligible b && allBelow (λ i. not (eligible (suc i)) || before bid b (suc i)) n
+wins eligible bid n b = eligible b && allBelow (λ i. not (eligible (suc i)) || ranksNoLower bid b (suc i)) n
 
 -- the bidder that wins
 unfoldable pub winner : (ℕ → Bool) → (ℕ → ℕ) → ℕ → ℕ

@@ -13,11 +13,9 @@ use Rattle.sheet.specs.declared.Kind.{Kind}
 use Rattle.sheet.specs.declared.Kind.the-variants.{OwnSlot, OtherSlot, Pair}
 use Rattle.sheet.specs.declared.Constraint.{Constraint}
 use Rattle.sheet.specs.declared.Round.{Round}
-use Rattle.sheet.specs.Refusal.{refusalOf, Accepted}
+use Rattle.sheet.specs.Refusal.{refusalOf}
 use Rattle.sheet.specs.Sheet.{bidderCount}
-use Rattle.sheet.specs.Round.{bidder, slot, roundOf}
-use Rattle.auction.specs.Broken.{constraintAt}
-use Rattle.auction.specs.Proper.{Has}
+use Rattle.sheet.specs.Round.{bidder, slot, roundOf, constraintAt, Has}
 use Rattle.downward.specs.Downward.{ownSlot, oneLower, sameKind, listHas, asksLower, downward}
 use Rattle.downward.specs.Call.{testRefusal, testedFor, testedOf}
 use Rattle.downward.specs.declared.Tested.{Tested}
@@ -109,10 +107,10 @@ answer-yes zero s i e = (refl, ap (λ (x : Tested). x .yes) e)
 answer-yes (suc k) s i e = absurd (let z : suc k ≡ 0 = ap (λ (x : Tested). x .refusal) e in omega arith)
 
 -- so that the bidder is one of the sheet's
-pub tested-yes : (s : List ℕ) (i : ℕ) → testedOf s i ≡ record { refusal = 0; yes = true } → Accepted s →
+pub tested-yes : (s : List ℕ) (i : ℕ) → testedOf s i ≡ record { refusal = 0; yes = true } →
     (0 < i) × ((i ≤ bidderCount s) × (downward (roundOf s) i ≡ true))
 unfolding testedOf testRefusal
-tested-yes s i e ok =
+tested-yes s i e =
     let answer = answer-yes (testRefusal s i) s i e in
     let none = when-none 15 (eqb i 0 || ltb (bidderCount s) i) 0 (orElse-none (refusalOf s) _ (answer .0) .1) in
     let parts = or-none (eqb i 0) (ltb (bidderCount s) i) (none .0) in

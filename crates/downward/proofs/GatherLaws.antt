@@ -9,7 +9,7 @@ use native.Mathlib.Omega.{arith}
 use lib.ListN.{length, getD, set, length-set}
 use lib.Seq.{getD-set-same, getD-set-other}
 use Rattle.sheet.specs.declared.Round.{Round}
-use Rattle.auction.specs.Broken.{constraintAt}
+use Rattle.sheet.specs.Round.{constraintAt}
 use Rattle.downward.specs.Keys.{keyOf, Gathered}
 
 pub none-gathered : (r : Round) (i : ℕ) (keys : List ℕ) → length keys ≡ 1024 → Gathered r i 0 keys 0

@@ -12,9 +12,8 @@ use Rattle.basis.proofs.TestLaws.{same-tests, and-parts, any-at, any-where, all
 use Rattle.sheet.specs.declared.Kind.{Kind}
 use Rattle.sheet.specs.declared.Kind.the-variants.{OwnSlot, OtherSlot, Pair}
 use Rattle.sheet.specs.declared.Round.{Round}
-use Rattle.sheet.specs.Round.{bidder, slot}
-use Rattle.auction.specs.Broken.{constraintAt}
-use Rattle.auction.specs.Proper.{ProperKind, ProperRound}
+use Rattle.sheet.specs.Round.{bidder, slot, constraintAt}
+use Rattle.sheet.specs.Proper.{ProperKind, ProperRound}
 use Rattle.downward.specs.Downward.{ownSlot, oneLower, sameKind, listHas, asksLower, downward}
 use Rattle.downward.specs.Keys.{otherBidder, otherSlot, keyFor, keyOf, Gathered, keyIn, keyAsksLower, keysDownward}
 use Rattle.downward.proofs.DownwardLaws.{same-kind, kind-same, implied, implies, list-where, list-at, downward-at}
@@ -105,7 +104,7 @@ asks-some r a e z =
 
 module _ (r : Round) (i : ℕ) (keys : List ℕ) (count : ℕ) (ok : ProperRound r) (g : Gathered r i (r .used) keys count) where
   proper-at : (a : ℕ) → a < r .used → ProperKind (constraintAt r a .owner .0) (constraintAt r a .kind)
-  proper-at a l = ok .proper (constraintAt r a) (a, l, refl) .named
+  proper-at a l = ok .proper (constraintAt r a) (a, l, refl) .parts
 
   -- the next number stands among the numbers exactly when the list has the kind one lower
   next-listed : (a : ℕ) → a < r .used → (ownSlot (constraintAt r a .kind) ≡ 0 → ⊥) → keyIn keys count (suc (keyOf (constraintAt r a .kind))) ≡ true →

@@ -9,8 +9,7 @@ use Rattle.sheet.specs.declared.Kind.{Kind}
 use Rattle.sheet.specs.declared.Kind.the-variants.{OwnSlot, OtherSlot, Pair}
 use Rattle.sheet.specs.declared.Constraint.{Constraint}
 use Rattle.sheet.specs.declared.Round.{Round}
-use Rattle.sheet.specs.Round.{slot}
-use Rattle.auction.specs.Broken.{constraintAt}
+use Rattle.sheet.specs.Round.{slot, constraintAt}
 
 -- the own slot, 0 for any
 unfoldable pub ownSlot : Kind → ℕ

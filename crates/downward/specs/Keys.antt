@@ -9,7 +9,7 @@ use Rattle.basis.specs.Tests.{anyBelow, allBelow}
 use Rattle.sheet.specs.declared.Kind.{Kind}
 use Rattle.sheet.specs.declared.Kind.the-variants.{OwnSlot, OtherSlot, Pair}
 use Rattle.sheet.specs.declared.Round.{Round}
-use Rattle.auction.specs.Broken.{constraintAt}
+use Rattle.sheet.specs.Round.{constraintAt}
 use Rattle.downward.specs.Downward.{ownSlot}
 
 -- the other bidder, 0 for no other

@@ -7,7 +7,7 @@ ghost use mathlib.Core.Bool.{Bool};
 ghost use mathlib.Core.Path.{_≡_};
 ghost use Prim.Native.Nat.{_≤_};
 ghost use lib.ListN.{length};
-ghost use Rattle.auction.specs.Proper.{ProperRound};
+ghost use Rattle.sheet.specs.Proper.{ProperRound};
 ghost use Rattle.downward.specs.Downward.{downward};
 ghost use Rattle.downward.specs.Keys.{keyFor, keyOf, Gathered, keyIn, keyAsksLower, keysDownward};
 ghost use Rattle.downward.specs.Call.{testedOf};
@@ -128,7 +128,7 @@ pub fn is_downward(round: Round, bidder: Bidder) -> bool
 pub fn test(sheet: &[u8], bidder: u32) -> Tested
     ensures { λ r. ⌜ r ≡ testedOf (now (sheet .entry)) bidder ⌝ }
 {
-    let reading = sheet::read(sheet);
+    let reading = sheet_read::read(sheet);
     let refusal = reading.refusal;
     if refusal != 0 {
         return Tested {

@@ -16,10 +16,10 @@ use Rattle.sheet.specs.declared.Page.{Page}
 use Rattle.sheet.specs.declared.Round.{Round}
 use Rattle.sheet.specs.Sheet.{bidderCount, slotCount}
 use Rattle.sheet.specs.Refusal.{refusalOf, Accepted}
-use Rattle.sheet.specs.Round.{roundOf}
-use Rattle.auction.specs.Greedy.{effectOf, greedyPage}
+use Rattle.sheet.specs.Round.{roundOf, effectOf}
+use Rattle.auction.specs.Greedy.{greedyPage}
+use Rattle.sheet.specs.Proper.{ProperRound}
 use Rattle.auction.specs.Price.{price}
-use Rattle.auction.specs.Proper.{ProperRound}
 use Rattle.auction.proofs.GreedyLaws.{winner-bidder}
 use Rattle.auction.proofs.PriceLaws.{price-at-most-bid}
 use Rattle.greedy.specs.declared.Outcome.{Outcome}
@@ -27,8 +27,7 @@ use Rattle.greedy.specs.Outcome.{outcomeOf}
 use Rattle.gain.specs.Gain.{slotOf, breaksOwn, gainIf, gainAt, gainOf}
 use Rattle.gain.specs.Call.{laterRefusal, gainRefusal, gainedFor, gainedOf}
 use Rattle.gain.specs.declared.Gained.{Gained}
-use Rattle.gain.proofs.SlotLaws.{slot-found}
-use Rattle.gain.proofs.HonestyLaws.{slot-won}
+use Rattle.gain.proofs.SlotLaws.{slot-found, slot-won}
 
 -- a refused call
 for-refused : (k : ℕ) (s t : List ℕ) (i v : ℕ) → (k ≡ 0 → ⊥) → gainedFor k s t i v ≡ record { refusal = k; gain = pos 0 }
@@ -119,7 +118,7 @@ pub record LaterAccepted (s t : List ℕ) (i v : ℕ) : Type 0 where
   pub same-n : bidderCount t ≡ bidderCount s
   pub same-m : slotCount t ≡ slotCount s
   pub some : 0 < i
-  pub listed : i ≤ bidderCount s
+  pub in-range : i ≤ bidderCount s
   pub low : v ≤ 1_000_000_000
 
 pub later-accepted : (s t : List ℕ) (i v : ℕ) → laterRefusal s t i v ≡ 0 → LaterAccepted s t i v
@@ -136,6 +135,6 @@ later-accepted s t i v e =
       same-n = eqb-true (bidderCount t) (bidderCount s) (not-false (eqb (bidderCount t) (bidderCount s)) (both .0));
       same-m = eqb-true (slotCount t) (slotCount s) (not-false (eqb (slotCount t) (slotCount s)) (both .1));
       some = (let h = eqb-false i 0 (bounds .0) in omega arith);
-      listed = ltb-false (bidderCount s) i (bounds .1);
+      in-range = ltb-false (bidderCount s) i (bounds .1);
       low = ltb-false 1_000_000_000 v (seventeen .0);
     }

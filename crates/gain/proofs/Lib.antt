@@ -1,6 +1,3 @@
--- Where a bidder stands and what it gains, the cases of a call, and demand 3.
+-- Where a bidder stands and what it gains, and the cases of a call.
 pub mod SlotLaws
-pub mod BlockedLaws
-pub mod HonestyLaws
-pub mod Honesty
 pub mod CallLaws

@@ -17,9 +17,14 @@ use Rattle.sheet.specs.declared.Constraint.{Constraint}
 use Rattle.sheet.specs.declared.Page.{Page}
 use Rattle.sheet.specs.declared.Round.{Round}
 use Rattle.auction.specs.Page.{at, placed, Sized}
-use Rattle.auction.specs.Broken.{broken, constraintAt}
-use Rattle.auction.specs.Proper.{Has}
-use Rattle.auction.proofs.PageLaws.{same-or-not, placed-where, placed-at}
+use Rattle.auction.specs.Broken.{broken}
+use Rattle.auction.specs.Greedy.{winnerAt, pageUpTo, greedyPage}
+use Rattle.sheet.specs.Proper.{ProperRound}
+use Rattle.sheet.specs.Round.{constraintAt, Has}
+use Rattle.auction.proofs.PageLaws.{placed-where}
+use Rattle.auction.proofs.BrokenLaws.{breaks-none}
+use Rattle.auction.proofs.GreedyLaws.{upTo-later, slot-winner, nobody-twice, greedy-unbroken}
+use Rattle.basis.proofs.NumberLaws.{same-or-not, below-or-not}
 use Rattle.gain.specs.Gain.{slotOf, breaksOwn, gainIf}
 
 abbrev pub seen : Page → ℕ → ℕ → ℕ
@@ -141,3 +146,35 @@ minus-size (suc n) = omega arith
 -- a product of two numbers in range is in range
 pub product-fits : (a b m n : ℕ) → a ≤ m → b ≤ n → a * b ≤ m * n
 product-fits a b m n h k = mul-le-mul h k
+
+-- The slot where a bidder stands on the greedy page is the one that it wins.
+module _ (r : Round) (c : ProperRound r) (i : ℕ) (some : 0 < i) where
+  pub slot-won : (k : ℕ) → slotOf (greedyPage r) i ≡ suc k → (k < r .slots) × (winnerAt r (pageUpTo r k) (suc k) ≡ i)
+  unfolding greedyPage
+  slot-won k e =
+      let here = slot-found (pageUpTo r (r .slots)) i k e .0 in
+      let inside : k < r .slots
+      = ⊎-elim
+      (λ (l : k < r .slots). l)
+      (λ (l : r .slots ≤ k). absurd (let z : i ≡ 0 = sym here ∙ upTo-later r (r .slots) (suc k) (omega arith) in omega arith))
+      (below-or-not k (r .slots)) in
+      (inside, sym (slot-winner r (c .most-slots) k inside) ∙ here)
+
+  pub won-slot : (k : ℕ) → k < r .slots → winnerAt r (pageUpTo r k) (suc k) ≡ i → slotOf (greedyPage r) i ≡ suc k
+  unfolding greedyPage
+  won-slot k inside won =
+      let page = pageUpTo r (r .slots) in
+      let few = c .most-slots in
+      let here : at page (suc k) ≡ i = slot-winner r few k inside ∙ won in
+      slot-here page i k (omega arith) here
+      (λ j l e.
+      let same = nobody-twice r (r .slots) (suc j) (suc k) few (λ z. absurd (let q : i ≡ 0 = sym e ∙ z in omega arith)) (e ∙ sym here) in
+      absurd (omega arith))
+
+  -- the greedy page breaks no true constraint of anybody
+  pub true-unbroken : breaksOwn r (greedyPage r) i ≡ false
+  true-unbroken =
+      fails (breaksOwn r (greedyPage r) i)
+      (λ t.
+      let w = breaks-own-where r (greedyPage r) i t in
+      not-both (w .2) (breaks-none r (greedyPage r) (greedy-unbroken r c) (w .0) (w .1)))

@@ -8,8 +8,9 @@ use Rattle.basis.specs.Tests.{anyBelow}
 use Rattle.sheet.specs.declared.Page.{Page}
 use Rattle.sheet.specs.declared.Round.{Round}
 use Rattle.auction.specs.Page.{at}
-use Rattle.auction.specs.Broken.{broken, constraintAt}
-use Rattle.auction.specs.Greedy.{effectOf, greedyPage}
+use Rattle.auction.specs.Broken.{broken}
+use Rattle.sheet.specs.Round.{constraintAt, effectOf}
+use Rattle.auction.specs.Greedy.{greedyPage}
 use Rattle.auction.specs.Price.{price}
 
 -- the slot where bidder i stands, 0 for none

@@ -1,3 +1,2 @@
 pub mod Gain
 pub mod Call
-pub mod Honesty

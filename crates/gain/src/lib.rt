@@ -8,7 +8,7 @@ ghost use lib.IntN.{pos, negℤ};
 ghost use lib.ListN.{length};
 ghost use Rattle.sheet.specs.Refusal.{Accepted};
 ghost use Rattle.sheet.specs.Sheet.{bidderCount, slotCount};
-ghost use Rattle.auction.specs.Proper.{Proper, ProperRound};
+ghost use Rattle.sheet.specs.Proper.{Proper, ProperRound};
 ghost use Rattle.gain.specs.Gain.{slotOf, breaksOwn, gainIf, gainOf};
 ghost use Rattle.gain.specs.Call.{laterRefusal, gainedOf};
 use sheet::Bidder;
@@ -125,7 +125,7 @@ fn later_refusal(played: &[u8], truth: &[u8], bidder: u32, worth: u32) -> u32
     requires { ⌜ Accepted (now played) ⌝ }
     ensures { λ r. ⌜ r ≡ laterRefusal (now (played .entry)) (now (truth .entry)) bidder worth ⌝ }
 {
-    if sheet::check(truth) != 0 {
+    if sheet_check::check(truth) != 0 {
         return 14;
     }
     if truth[5] != played[5] {
@@ -151,7 +151,7 @@ fn later_refusal(played: &[u8], truth: &[u8], bidder: u32, worth: u32) -> u32
 pub fn gain(played: &[u8], truth: &[u8], bidder: u32, worth: u32) -> Gained
     ensures { λ r. ⌜ r ≡ gainedOf (now (played .entry)) (now (truth .entry)) bidder worth ⌝ }
 {
-    let reading = sheet::read(played);
+    let reading = sheet_read::read(played);
     let refusal = reading.refusal;
     if refusal != 0 {
         return Gained { refusal, gain: 0 };
@@ -164,7 +164,7 @@ pub fn gain(played: &[u8], truth: &[u8], bidder: u32, worth: u32) -> Gained
         };
     }
     let round = reading.round;
-    let told = sheet::read(truth);
+    let told = sheet_read::read(truth);
     let true_round = told.round;
     Gained {
         refusal: 0,

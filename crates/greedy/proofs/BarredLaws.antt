@@ -33,24 +33,12 @@ use Rattle.sheet.specs.declared.Constraint.{Constraint}
 use Rattle.sheet.specs.declared.Page.{Page}
 use Rattle.sheet.specs.declared.Round.{Round}
 use Rattle.auction.specs.Page.{at, put, emptyPage, placed, Sized}
-use Rattle.auction.specs.Broken.{ownHolds, otherHolds, broken, constraintAt}
+use Rattle.auction.specs.Broken.{ownHolds, otherHolds, broken}
+use Rattle.sheet.specs.Round.{constraintAt, Has}
+use Rattle.sheet.specs.Proper.{ProperKind, Proper, ProperRound}
 use Rattle.auction.specs.Greedy.{eligible}
-use Rattle.auction.specs.Proper.{ProperKind, Proper, Has, ProperRound}
-use Rattle.auction.proofs.PageLaws.{
-  same-or-not,
-  put-sized,
-  empty-sized,
-  at-put-same,
-  at-put-other,
-  at-empty,
-  placed-at,
-  placed-put,
-  put-placed,
-  Keeps,
-  put-keeps,
-  keeps-placed,
-  empty-placed,
-}
+use Rattle.auction.proofs.PageLaws.{put-sized, empty-sized, at-put-same, at-put-other, at-empty, placed-at, placed-put, put-placed, Keeps, put-keeps, keeps-placed, empty-placed}
+use Rattle.basis.proofs.NumberLaws.{same-or-not}
 use Rattle.auction.proofs.BrokenLaws.{broken-parts, parts-broken, broken-stays, eligible-unplaced, eligible-unbroken, unbroken-eligible}
 use Rattle.greedy.specs.Barred.{entryIs, barsOwn, barsOwner, barsOther, barsAfter, barredOwn, barredOwner, barredOther, barredAfter, openNext}
 
@@ -234,17 +222,17 @@ module _ (p : Page) (k w l b : ℕ) (s : Sized p) (k-some : 0 < k) (k-most : k �
   unfolding ownHolds otherHolds
   split owner (OwnSlot t) proper e =
       let parts = broken-parts two (record { owner = owner; kind = OwnSlot t }) e in
-      split-own owner t (proper .owned) (proper .named)
+      split-own owner t (proper .owned) (proper .parts)
       (at-source (t .0) (owner .0) (proper .owned) (eqb-true (at two (t .0)) (owner .0) (parts .0)))
   split owner (OtherSlot j x) proper e =
       let parts = broken-parts two (record { owner = owner; kind = OtherSlot j x }) e in
-      split-other owner j x (proper .owned) (proper .named)
-      (at-source (x .0) (j .0) (proper .named .0) (eqb-true (at two (x .0)) (j .0) (parts .1)))
+      split-other owner j x (proper .owned) (proper .parts)
+      (at-source (x .0) (j .0) (proper .parts .0) (eqb-true (at two (x .0)) (j .0) (parts .1)))
       (placed-source (owner .0) (parts .2))
   split owner (Pair j x t) proper e =
       let parts = broken-parts two (record { owner = owner; kind = Pair j x t }) e in
-      split-pair owner t j x (proper .owned) (proper .named)
-      (at-source (x .0) (j .0) (proper .named .0) (eqb-true (at two (x .0)) (j .0) (parts .1)))
+      split-pair owner t j x (proper .owned) (proper .parts)
+      (at-source (x .0) (j .0) (proper .parts .0) (eqb-true (at two (x .0)) (j .0) (parts .1)))
       (at-source (t .0) (owner .0) (proper .owned) (eqb-true (at two (t .0)) (owner .0) (parts .0)))
 
   entry-parts : (x y : ℕ) → entryIs x y l b ≡ true → (l ≡ x) × (b ≡ y)
@@ -307,7 +295,7 @@ module _ (p : Page) (k w l b : ℕ) (s : Sized p) (k-some : 0 < k) (k-most : k �
   pub eligible-after : (r : Round) → ProperRound r → eligible r p k w ≡ true →
       eligible r first l b ≡ ((eligible r p l b && not (eqb b w)) && not (barredAfter r w k (r .used) l b))
   unfolding barredAfter
-  eligible-after r c able =
+  eligible-after r c may-stand =
       same-tests (eligible r first l b) ((eligible r p l b && not (eqb b w)) && not (anyBelow bars (r .used)))
       (λ e.
       let unplaced = eligible-unplaced r first l b e in
@@ -340,7 +328,7 @@ module _ (p : Page) (k w l b : ℕ) (s : Sized p) (k-some : 0 < k) (k-most : k �
 
       ruled-out : (q : Constraint) (h : Has r q) → eligible r p l b ≡ true → bars (h .0) ≡ false → Split q → ⊥
       ruled-out q h e u (last t) = not-both t (eligible-unbroken r p l b s l-some l-most e q h)
-      ruled-out q h e u (earlier t) = not-both t (eligible-unbroken r p k w s k-some k-most able q h)
+      ruled-out q h e u (earlier t) = not-both t (eligible-unbroken r p k w s k-some k-most may-stand q h)
       ruled-out q h e u (old t) =
           not-both (subst (λ (x : Constraint). barsAfter w k (x .kind) (x .owner .0) l b ≡ true) (sym (h .2)) t) u
 
@@ -370,13 +358,13 @@ module _ (l b : ℕ) (l-some : 0 < l) (l-most : l ≤ 16) (b-some : b ≡ 0 → 
   only-broken owner (OtherSlot j x) proper e =
       let parts = broken-parts only (record { owner = owner; kind = OtherSlot j x }) e in
       absurd
-      (proper .named .1
-      (sym (only-at (x .0) (j .0) (proper .named .0) (parts .1) .1) ∙ only-placed (owner .0) (proper .owned) (parts .2)))
+      (proper .parts .1
+      (sym (only-at (x .0) (j .0) (proper .parts .0) (parts .1) .1) ∙ only-placed (owner .0) (proper .owned) (parts .2)))
   only-broken owner (Pair j x t) proper e =
       let parts = broken-parts only (record { owner = owner; kind = Pair j x t }) e in
       absurd
-      (proper .named .1
-      (sym (only-at (x .0) (j .0) (proper .named .0) (parts .1) .1) ∙ only-placed (owner .0) (proper .owned) (parts .2)))
+      (proper .parts .1
+      (sym (only-at (x .0) (j .0) (proper .parts .0) (parts .1) .1) ∙ only-placed (owner .0) (proper .owned) (parts .2)))
 
   own-broken : (owner : Bidder) (kind : Kind) → barsOwn kind (owner .0) l b ≡ true → broken only (record { owner = owner; kind = kind }) ≡ true
   unfolding ownHolds otherHolds barsOwn

@@ -18,9 +18,9 @@ use Rattle.basis.proofs.TestLaws.{same-tests, and-holds, and-parts, or-left, or
 use Rattle.sheet.specs.declared.Kind.{Kind}
 use Rattle.sheet.specs.declared.Kind.the-variants.{OwnSlot, OtherSlot, Pair}
 use Rattle.sheet.specs.declared.Round.{Round}
-use Rattle.auction.specs.Broken.{constraintAt}
-use Rattle.auction.specs.Proper.{ProperKind, Proper, ProperRound}
-use Rattle.auction.proofs.PageLaws.{same-or-not}
+use Rattle.sheet.specs.Round.{constraintAt}
+use Rattle.sheet.specs.Proper.{ProperKind, Proper, ProperRound}
+use Rattle.basis.proofs.NumberLaws.{same-or-not}
 use Rattle.greedy.specs.Barred.{openAt, entryIs, barsOwner, barsOther, barredOwner, barredOther}
 use Rattle.greedy.specs.Chains.{
   standing,
@@ -334,7 +334,7 @@ module _ (w k l b : ℕ) (w-some : 0 < w) (w-most : w ≤ 64) (k-most : k ≤ 16
         (λ i. barsOwner w k (constraintAt r i .kind) (constraintAt r i .owner .0) l b) (r .used)
         (λ i below.
         let proper = c .proper (constraintAt r i) (i, below, refl) in
-        owner-side (constraintAt r i .owner .0) (constraintAt r i .kind) (proper .owned) (proper .listed) (proper .named))
+        owner-side (constraintAt r i .owner .0) (constraintAt r i .kind) (proper .owned) (proper .in-range) (proper .parts))
 
     -- in the chain of b at l are all the constraints of w that name b there
     others-barred : someOwner r (standing b l) (λ y. bars y k w) (r .used) ≡ barredOther r w k (r .used) l b
@@ -344,7 +344,7 @@ module _ (w k l b : ℕ) (w-some : 0 < w) (w-most : w ≤ 64) (k-most : k ≤ 16
         (λ i. barsOther w k (constraintAt r i .kind) (constraintAt r i .owner .0) l b) (r .used)
         (λ i below.
         let proper = c .proper (constraintAt r i) (i, below, refl) in
-        other-side (constraintAt r i .owner .0) (constraintAt r i .kind) (proper .owned) (proper .listed) (proper .named))
+        other-side (constraintAt r i .owner .0) (constraintAt r i .kind) (proper .owned) (proper .in-range) (proper .parts))
 
     -- who is named once w stands at k
     module _ (held held′ : List ℕ) (f : (y : ℕ) → isHeld held′ y ≡ (isHeld held y || bars y k w)) where

@@ -17,14 +17,16 @@ use Rattle.sheet.specs.declared.Round.{Round}
 use Rattle.choice.specs.Winner.{winner}
 use Rattle.choice.specs.Tables.{bidIn}
 use Rattle.choice.proofs.WinnerLaws.{winner-same}
-use Rattle.choice.proofs.AsksLaws.{asked-same, asked-nobody}
+use Rattle.choice.proofs.CriticalLaws.{critical-same, critical-nobody}
 use Rattle.auction.specs.Page.{at, put, emptyPage, placed, Sized}
-use Rattle.auction.specs.Greedy.{bidOf, eligible, winnerAt, pageUpTo, greedyPage}
+use Rattle.auction.specs.Greedy.{eligible, winnerAt, pageUpTo, greedyPage}
+use Rattle.sheet.specs.Round.{bidOf}
+use Rattle.sheet.specs.Proper.{ProperRound}
 use Rattle.auction.specs.Price.{price}
-use Rattle.auction.specs.Proper.{ProperRound}
-use Rattle.auction.proofs.PageLaws.{same-or-not, put-nobody}
+use Rattle.auction.proofs.PageLaws.{put-nobody}
+use Rattle.basis.proofs.NumberLaws.{same-or-not}
 use Rattle.auction.proofs.GreedyLaws.{bid-listed, upTo-next, upTo-sized, upTo-later, slot-winner, winner-eligible, winner-bidder, empty-nobody}
-use Rattle.auction.proofs.PriceLaws.{price-asked, empty-costs-nothing}
+use Rattle.auction.proofs.PriceLaws.{price-critical, empty-costs-nothing}
 use Rattle.greedy.specs.Barred.{openAt, barredOwn, barredOwner, barredOther, openNext}
 use Rattle.greedy.specs.Chains.{standing, isHeld, heldNext, named, free, Awarded}
 use Rattle.greedy.proofs.BarredLaws.{eligible-start, eligible-after, by-sides, open-nobody, open-somebody}
@@ -103,20 +105,20 @@ module _ (r : Round) (c : ProperRound r) (k : ℕ) (inside : k < r .slots) (tabl
   -- what is paid is the price of document 01
   pub paid-price : paid ≡ price r (suc k)
   paid-price =
-      let asked = asked-same (free r table held (suc k)) (eligible r p (suc k)) (bidIn (r .bids)) (bidOf r) (r .bidders) w
+      let critical = critical-same (free r table held (suc k)) (eligible r p (suc k)) (bidIn (r .bids)) (bidOf r) (r .bidders) w
       (λ j d s m. free-eligible j s m) (λ j d s m. bid-listed r j) in
       let here = slot-winner r few k inside in
       ⊎-elim
       (λ (z : w ≡ 0).
       awarded .paid-as
-      ∙ asked
-      ∙ asked-nobody (eligible r p (suc k)) (bidOf r) w (r .bidders) (empty-nobody r p (suc k) (sym won-slot ∙ z))
+      ∙ critical
+      ∙ critical-nobody (eligible r p (suc k)) (bidOf r) w (r .bidders) (empty-nobody r p (suc k) (sym won-slot ∙ z))
       ∙ sym (empty-costs-nothing r (suc k) (here ∙ sym won-slot ∙ z)))
       (λ (s : w ≡ 0 → ⊥).
       let most = winner-bidder r p (suc k) in
       let listed : w ≤ length (r .bids)
       = (let e = won-slot in let h = c .sized-bids in let m = c .most-bidders in omega arith) in
-      awarded .paid-as ∙ asked ∙ sym (price-asked r k w few inside listed (omega arith) (sym won-slot)))
+      awarded .paid-as ∙ critical ∙ sym (price-critical r k w few inside listed (omega arith) (sym won-slot)))
       (same-or-not w 0)
 
   next-page : put page (suc k) w ≡ pageUpTo r (suc k)
@@ -156,7 +158,7 @@ module _ (r : Round) (c : ProperRound r) (k : ℕ) (inside : k < r .slots) (tabl
         (eligible-after p (suc k) w l b (upTo-sized r k) (omega arith) room (omega arith) l-most (λ e. absurd (omega arith))
         (upTo-later r k (suc k) (omega arith)) (upTo-later r k l (omega arith)) s (λ e. absurd (omega arith)) r c
         (subst (λ (v : ℕ). eligible r p (suc k) v ≡ true) (sym won-slot)
-        (winner-eligible r p (suc k) (λ e. s (won-slot ∙ e)) .able)))
+        (winner-eligible r p (suc k) (λ e. s (won-slot ∙ e)) .is-eligible)))
         ∙ ap (λ (q : Page). eligible r q l b) (sym next)
 
   pub filled-next : w ≤ 64 → (table′ held′ : List ℕ) → length table′ ≡ 1024 → length held′ ≡ 1089 →

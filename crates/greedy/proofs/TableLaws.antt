@@ -11,7 +11,7 @@ use lib.Dec.{eqb, leb}
 use lib.ListN.{length, getD, set}
 use lib.Seq.{getD-set-same, getD-set-other}
 use Rattle.basis.proofs.TestLaws.{same-tests, or-parts, or-left, or-right}
-use Rattle.auction.proofs.PageLaws.{same-or-not}
+use Rattle.basis.proofs.NumberLaws.{same-or-not}
 use Rattle.greedy.specs.Barred.{openAt, entryIs}
 
 -- an entry that is not (x, y)

@@ -12,9 +12,9 @@ use Rattle.sheet.specs.declared.Kind.{Kind}
 use Rattle.sheet.specs.declared.Kind.the-variants.{OwnSlot, OtherSlot, Pair}
 use Rattle.sheet.specs.declared.Constraint.{Constraint}
 use Rattle.sheet.specs.declared.Round.{Round}
-use Rattle.auction.specs.Broken.{constraintAt}
+use Rattle.sheet.specs.Round.{constraintAt}
 use Rattle.choice.specs.Winner.{winner}
-use Rattle.choice.specs.Asks.{mostAsked}
+use Rattle.choice.specs.Critical.{criticalBid}
 use Rattle.greedy.specs.Barred.{openAt}
 
 -- bidder b stands at slot l, or at any slot where l is 0
@@ -96,6 +96,6 @@ unfoldable pub free : Round → List ℕ → List ℕ → ℕ → ℕ → Bool
 free r table held l b = openAt table l b && not (named r held (standing b l) (r .used))
 
 -- a slot's winner and price, from who may have it and the bids
-pub record Awarded (able : ℕ → Bool) (bid : ℕ → ℕ) (n won paid : ℕ) : Type 0 where
-  pub won-by : won ≡ winner able bid n
-  pub paid-as : paid ≡ mostAsked able bid won n
+pub record Awarded (eligible : ℕ → Bool) (bid : ℕ → ℕ) (n won paid : ℕ) : Type 0 where
+  pub won-by : won ≡ winner eligible bid n
+  pub paid-as : paid ≡ criticalBid eligible bid won n

@@ -14,8 +14,8 @@ ghost use mathlib.Core.Path.{_≡_};
 ghost use Prim.Native.Nat.{ℕ, suc, _*_, _<_, _≤_};
 ghost use lib.Dec.{eqb};
 ghost use lib.ListN.{length, getD};
-ghost use Rattle.auction.specs.Broken.{constraintAt};
-ghost use Rattle.auction.specs.Proper.{Proper, ProperRound};
+ghost use Rattle.sheet.specs.Round.{constraintAt};
+ghost use Rattle.sheet.specs.Proper.{Proper, ProperRound};
 ghost use Rattle.greedy.specs.Outcome.{outcomeOf};
 ghost use Rattle.greedy.specs.Barred.{openAt, entryIs, barsOwn, barredOwn, barredOwner, openNext};
 ghost use Rattle.greedy.specs.Chains.{standing, bars, ownerKey, otherKey, Falling, Chained, barredAlong, isHeld, heldNext, named, free, Awarded};
@@ -329,7 +329,7 @@ fn award_slot(
     let winner = placing.winner;
     Award {
         winner,
-        price: placing.asked,
+        price: placing.critical,
     }
 }
 

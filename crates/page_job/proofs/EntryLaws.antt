@@ -15,9 +15,10 @@ use Rattle.basis.proofs.RowLaws.{length-joined}
 use Rattle.basis.proofs.TestLaws.{least-at-most}
 use Rattle.sheet.specs.declared.Round.{Round}
 use Rattle.auction.specs.Page.{at}
-use Rattle.auction.specs.Greedy.{bidOf, greedyPage}
+use Rattle.auction.specs.Greedy.{greedyPage}
+use Rattle.sheet.specs.Round.{bidOf}
+use Rattle.sheet.specs.Proper.{ProperRound}
 use Rattle.auction.specs.Price.{winsWith, priceFor, price}
-use Rattle.auction.specs.Proper.{ProperRound}
 use Rattle.play.specs.Play.{slotEntry, playedBuffer}
 
 -- lists of one length c one after another, and any rest: byte j of the k-th

@@ -14,7 +14,7 @@ use Rattle.sheet.specs.Sheet.{slotCount}
 use Rattle.sheet.specs.Refusal.{refusalOf, Accepted}
 use Rattle.sheet.specs.Round.{roundOf}
 use Rattle.sheet.proofs.AcceptedLaws.{accepted-sheet}
-use Rattle.auction.proofs.AcceptedLaws.{round-proper}
+use Rattle.sheet.proofs.RoundLaws.{round-proper}
 use Rattle.play.specs.Play.{playRefusal, playedBuffer, bufferAfter, Played}
 use Rattle.page_lines.specs.Lines.{line, refusedLine, resultLine, resultLines}
 use Rattle.page_job.specs.PageText.{slotLine, textFor, pageText}

@@ -1,4 +1,4 @@
--- Demand 3 at the C edge: what the places hold is what the calls below return, of which `honesty` speaks. Assumes nothing.
+-- Demand 3 at the C edge: what the answers' memory holds is what the calls below return, of which `honesty` speaks. Assumes nothing.
 use Prim.Native.Nat.{ℕ, suc}
 use mathlib.Core.Bool.{Bool, true, false, cond}
 use mathlib.Core.List.{List}
@@ -6,21 +6,17 @@ use mathlib.Core.Path.{_≡_, refl, sym, _∙_, ap, subst₂}
 use native.Mathlib.Omega.{arith}
 use lib.IntN.{ℤ}
 use lib.Signed.{_≤ℤ_}
+use Rattle.basis.proofs.FirstLaws.{answered-gives}
 use Rattle.sheet.specs.Round.{roundOf}
 use Rattle.downward.specs.Downward.{downward}
 use Rattle.downward.specs.Call.{testRefusal, testedFor, testedOf}
 use Rattle.gain.specs.Gain.{gainOf}
 use Rattle.gain.specs.Call.{gainRefusal, gainedOf}
-use Rattle.gain.specs.Honesty.{Honesty}
-use Rattle.gain.proofs.Honesty.{honesty}
-use Rattle.pas.specs.Calls.{placeAfter, yesNumber, DownwardGiven, GainGiven}
+use Rattle.honesty.specs.Honesty.{Honesty}
+use Rattle.honesty.proofs.Honesty.{honesty}
+use Rattle.pas.specs.Calls.{yesNumber, DownwardGiven, GainGiven}
 use Rattle.pas.specs.Honest.{HonestyGiven}
-use Rattle.pas.proofs.PlaceLaws.{gain-number, gain-answer}
-
--- a place that was written
-written : {A : Type 0} (k : ℕ) (answer before after : A) → k ≡ 0 → after ≡ placeAfter k answer before → after ≡ answer
-unfolding placeAfter
-written k answer before after z e = e ∙ ap (λ (n : ℕ). placeAfter n answer before) z
+use Rattle.pas.proofs.AnswerLaws.{gain-number, gain-answer}
 
 -- 1 is yes
 one-yes : (t : Bool) → 1 ≡ yesNumber t → t ≡ true
@@ -34,7 +30,7 @@ unfolding testedOf testedFor
 answered-yes s i before given =
     let number = sym (given .number) in
     ap (λ (k : ℕ). testedFor k s i) number
-    ∙ (λ j. record { refusal = 0; yes = one-yes (downward (roundOf s) i) (written (testRefusal s i) (yesNumber (downward (roundOf s) i)) before 1 number (given .place)) j })
+    ∙ (λ j. record { refusal = 0; yes = one-yes (downward (roundOf s) i) (given .written ∙ sym (answered-gives (testRefusal s i) (yesNumber (downward (roundOf s) i)) before number)) j })
 
 -- the gain call below was not refused, so its gain is what was written
 gain-given : (s t : List ℕ) (i worth : ℕ) (before : ℤ) (answer : ℕ) (after : ℤ) → GainGiven s t i worth before answer after →
@@ -43,13 +39,13 @@ gain-given s t i worth before answer after given none =
     let number : gainRefusal s t i worth ≡ 0 = sym (gain-number s t i worth before (gainedOf s t i worth) refl) ∙ none in (
       given .number ∙ number,
       gain-answer s t i worth before (gainedOf s t i worth) refl number
-          ∙ sym (written (gainRefusal s t i worth) (gainOf (roundOf s) (roundOf t) i worth) before after number (given .place)),
+          ∙ sym (given .written ∙ sym (answered-gives (gainRefusal s t i worth) (gainOf (roundOf s) (roundOf t) i worth) before number)),
     )
 
 pub honesty-given : HonestyGiven
 unfolding HonestyGiven Honesty
-honesty-given honest other b worth ok ok′ d before test low most x y n n′ g g′ first second =
-    let pays = honesty honest other b worth ok ok′ d (answered-yes other (suc b) before test) low most in
-    let one = gain-given honest honest (suc b) worth x n g first (pays .0) in
-    let two = gain-given other honest (suc b) worth y n′ g′ second (pays .1) in
+honesty-given honest other i worth ok ok′ d before test low most x y n n′ g g′ first second =
+    let pays = honesty honest other i worth ok ok′ d (answered-yes other i before test) low most in
+    let one = gain-given honest honest i worth x n g first (pays .0) in
+    let two = gain-given other honest i worth y n′ g′ second (pays .1) in
     (one .0, two .0, subst₂ (λ (v w : ℤ). v ≤ℤ w) (two .1) (one .1) (pays .2))

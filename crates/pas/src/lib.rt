@@ -1,6 +1,6 @@
 // The five calls by the C convention, for programs that link the static library (include/pas.h is their manual).
 //
-// Each returns 0 or the number of the first rule that the call breaks. On a refusal nothing lent changes, the answer's own place
+// Each returns 0 or the number of the first rule that the call breaks. On a refusal nothing lent changes, the answer's own memory
 // included.
 ghost use mathlib.Core.Path.{_≡_};
 ghost use Rattle.sheet.specs.Refusal.{refusalOf};
@@ -12,7 +12,7 @@ ghost use Rattle.pas.specs.Calls.{DownwardGiven, GainGiven, BestPageGive
 pub extern "C" fn pas_check(sheet: &[u8]) -> u32
     ensures { λ r. ⌜ r ≡ refusalOf (now (sheet .entry)) ⌝ }
 {
-    sheet::check(sheet)
+    sheet_check::check(sheet)
 }
 
 // 1 to 13 or 19; or 0, with 5 bytes a slot in the buffer, the bidder and the price low byte first, and every later byte as it was.

@@ -1,11 +1,11 @@
 -- Playing a round over a lent sheet and a lent result buffer.
-use Prim.Native.Nat.{ℕ, zero, suc, _*_}
-use mathlib.Core.List.{List, [], _∷_, _++_}
+use Prim.Native.Nat.{ℕ, suc, _*_}
+use mathlib.Core.List.{List, _∷_, _++_}
 use mathlib.Core.Path.{_≡_}
 use lib.Dec.{ltb}
-use lib.ListN.{length, getD, drop}
+use lib.ListN.{length, drop}
 use Rattle.basis.specs.Bytes.{bytes32}
-use Rattle.basis.specs.First.{_when_otherwise_, orElse}
+use Rattle.basis.specs.First.{_when_otherwise_, orElse, unlessRefused}
 use Rattle.basis.specs.Rows.{joined}
 use Rattle.sheet.specs.declared.Round.{Round}
 use Rattle.sheet.specs.Sheet.{slotCount}
@@ -19,20 +19,15 @@ use Rattle.auction.specs.Price.{price}
 unfoldable pub playRefusal : List ℕ → List ℕ → ℕ
 playRefusal s out = orElse (refusalOf s) (19 when ltb (length out) (5 * slotCount s) otherwise 0)
 
--- 5 bytes for slot k + 1: "bidder (0 if empty) and 4 bytes of price"
+-- 5 bytes for slot k: "bidder (0 if empty) and 4 bytes of price"
 unfoldable pub slotEntry : Round → ℕ → List ℕ
-slotEntry r k = at (greedyPage r) (suc k) ∷ bytes32 (price r (suc k))
+slotEntry r k = at (greedyPage r) k ∷ bytes32 (price r k)
 
--- "Playing writes 5 bytes a place to the result buffer." "Bytes after 5 × m are untouched."
+-- "Playing writes 5 bytes a place to the result buffer", slots 1 to m. "Bytes after 5 × m are untouched."
 unfoldable pub playedBuffer : Round → List ℕ → List ℕ
-playedBuffer r out = joined (slotEntry r) (r .slots) ++ drop (5 * r .slots) out
+playedBuffer r out = joined (λ k. slotEntry r (suc k)) (r .slots) ++ drop (5 * r .slots) out
 
--- the buffer after the call: a refused one leaves every byte
-unfoldable pub bufferAfter : ℕ → List ℕ → List ℕ → List ℕ
-bufferAfter zero s out = playedBuffer (roundOf s) out
-bufferAfter (suc k) s out = out
-
--- All that the call returns and leaves: the first number that applies, or 0, and each byte of the buffer.
+-- All that the call returns and leaves: the first number that applies, or 0, and each byte of the buffer; a refused call leaves every byte.
 pub record Played (s out : List ℕ) (answer : ℕ) (out′ : List ℕ) : Type 0 where
   pub number : answer ≡ playRefusal s out
-  pub buffer : out′ ≡ bufferAfter (playRefusal s out) s out
+  pub buffer : out′ ≡ unlessRefused (playRefusal s out) (playedBuffer (roundOf s) out) out

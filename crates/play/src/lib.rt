@@ -13,7 +13,7 @@ use greedy::Outcome;
 pub fn play(sheet: &[u8], result: &mut [u8]) -> u32
     ensures { λ r. ⌜ Played (now (sheet .entry)) (now (result .entry)) r (now (result .exit)) ⌝ }
 {
-    let reading = sheet::read(sheet);
+    let reading = sheet_read::read(sheet);
     let refusal = reading.refusal;
     if refusal != 0 {
         return refusal;

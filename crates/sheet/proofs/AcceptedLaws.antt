@@ -1,15 +1,19 @@
--- What acceptance implies: the ranges of document 01, once, for every crate above. Assumes nothing.
-use Rattle.basis.proofs.TestLaws.{or-none, and-parts}
+-- What acceptance means: an accepted sheet has every fact of specs/Accepted.antt, and a sheet with these facts is accepted. Rule by rule,
+-- a test that fails says its fact, and a fact makes its test fail. Assumes nothing.
 use Prim.Native.Nat.{ℕ, zero, suc, _+_, _*_, _<_, _≤_}
-use borrow.Author.Tests.{eqb-true, eqb-false, ltb-false, eq-eqb, not-true, not-false}
-use mathlib.Core.Bool.{Bool, true, false, not, _&&_, _||_, false≢true}
+use borrow.Author.Tests.{eqb-true, eqb-false, ltb-false, eq-eqb, ne-eqb, le-ltb, not-true, not-false}
+use mathlib.Core.Bool.{Bool, true, false, not, _&&_, _||_, and-false, false≢true}
 use mathlib.Core.List.{List}
+use mathlib.Core.Logic.{⊎-elim}
 use mathlib.Core.Path.{_≡_, refl, sym, _∙_, ap, ap₂}
+use native.Mathlib.Nat.{not-suc-le-zero}
 use native.Mathlib.Omega.{arith}
 use lib.Dec.{eqb, ltb}
 use lib.ListN.{length}
 use Rattle.basis.specs.First.{_when_otherwise_, orElse, firstOver}
-use Rattle.basis.proofs.FirstLaws.{orElse-none, when-none, first-none}
+use Rattle.basis.proofs.FirstLaws.{orElse-none, orElse-right, when-none, first-none, first-all-none}
+use Rattle.basis.proofs.NumberLaws.{same-or-not}
+use Rattle.basis.proofs.TestLaws.{or-none}
 use Rattle.sheet.specs.Sheet.{
   version,
   bidderCount,
@@ -36,11 +40,9 @@ use Rattle.sheet.specs.Refusal.{
   refusalOf,
   Accepted,
 }
+use Rattle.sheet.specs.Accepted.{Form, Counts, EffectAccepted, BidAccepted, ConstraintAccepted, AcceptedSheet}
 
-pub record Form (s : List ℕ) : Type 0 where
-  pub header : 9 ≤ length s
-  pub first : version s ≡ 1
-
+-- 1 to 3
 pub form-accepted : (s : List ℕ) → formRefusal s ≡ 0 → Form s
 unfolding formRefusal
 form-accepted s e =
@@ -49,20 +51,20 @@ form-accepted s e =
     let three = when-none 2 (not (eqb (version s) 1)) 0 (two .1) in
     record {
       header = ltb-false (length s) 9 (one .0);
+      mark = not-false (marked s) (two .0);
       first = eqb-true (version s) 1 (not-false (eqb (version s) 1) (three .0));
     }
 
--- 4 to 7: the counts and the length of an accepted sheet
-pub record Counts (s : List ℕ) : Type 0 where
-  pub some-bidders : 0 < bidderCount s
-  pub most-bidders : bidderCount s ≤ 64
-  pub some-slots : 0 < slotCount s
-  pub most-slots : slotCount s ≤ 16
-  pub most-constraints : constraintCount s ≤ 1024
-  pub whole : length s ≡ sheetLength s
+form-back : (s : List ℕ) → Form s → formRefusal s ≡ 0
+unfolding formRefusal
+form-back s f = simp (le-ltb (length s) 9 (f .header), f .mark, eq-eqb (version s) 1 (f .first))
 
+-- 4 to 7
 positive : (x : ℕ) → eqb x 0 ≡ false → 0 < x
 positive x e = let h = eqb-false x 0 e in omega arith
+
+not-zero : (x : ℕ) → 0 < x → eqb x 0 ≡ false
+not-zero x l = ne-eqb x 0 (omega arith)
 
 pub counts-accepted : (s : List ℕ) → countsRefusal s ≡ 0 → Counts s
 unfolding countsRefusal
@@ -82,12 +84,19 @@ counts-accepted s e =
       whole = eqb-true (length s) (sheetLength s) (not-false (eqb (length s) (sheetLength s)) (seven .0));
     }
 
--- 8: an effect is 1 to 1,000,000, and none is larger than the one before
-pub record EffectAccepted (s : List ℕ) (k : ℕ) : Type 0 where
-  pub some : 0 < effectField s k
-  pub most : effectField s k ≤ 1_000_000
-  pub no-rise : effectField s k ≤ effectBefore s k
+counts-back : (s : List ℕ) → Counts s → countsRefusal s ≡ 0
+unfolding countsRefusal
+counts-back s c =
+    simp (
+      not-zero (bidderCount s) (c .some-bidders),
+      le-ltb 64 (bidderCount s) (c .most-bidders),
+      not-zero (slotCount s) (c .some-slots),
+      le-ltb 16 (slotCount s) (c .most-slots),
+      le-ltb 1024 (constraintCount s) (c .most-constraints),
+      eq-eqb (length s) (sheetLength s) (c .whole),
+    )
 
+-- 8
 effect-of : (s : List ℕ) (k : ℕ) → effectRefusal s k ≡ 0 → EffectAccepted s k
 unfolding effectRefusal
 effect-of s k e =
@@ -100,23 +109,25 @@ effect-of s k e =
       no-rise = ltb-false (effectBefore s k) (effectField s k) (above-or .1);
     }
 
-bid-of : (s : List ℕ) (i : ℕ) → bidRefusal s i ≡ 0 → bidField s i ≤ 1_000_000_000
+effect-back : (s : List ℕ) (k : ℕ) → EffectAccepted s k → effectRefusal s k ≡ 0
+unfolding effectRefusal
+effect-back s k f =
+    simp (
+      not-zero (effectField s k) (f .some),
+      le-ltb 1_000_000 (effectField s k) (f .most),
+      le-ltb (effectBefore s k) (effectField s k) (f .no-rise),
+    )
+
+-- 9
+bid-of : (s : List ℕ) (i : ℕ) → bidRefusal s i ≡ 0 → BidAccepted s i
 unfolding bidRefusal
-bid-of s i e = ltb-false 1_000_000_000 (bidField s i) (when-none 8 (ltb 1_000_000_000 (bidField s i)) 0 e .0)
+bid-of s i e = record { most = ltb-false 1_000_000_000 (bidField s i) (when-none 8 (ltb 1_000_000_000 (bidField s i)) 0 e .0) }
 
--- 10 to 13: owner and other in range and different, both slots in range, other and other's slot there together, and not all of
--- own slot, other and other's slot 0
-pub record ConstraintAccepted (n m owner own other others : ℕ) : Type 0 where
-  pub some-owner : 0 < owner
-  pub most-owner : owner ≤ n
-  pub most-other : other ≤ n
-  pub most-own : own ≤ m
-  pub most-others : others ≤ m
-  pub different : other ≡ owner → ⊥
-  pub together : other ≡ 0 → others ≡ 0
-  pub together-back : others ≡ 0 → other ≡ 0
-  pub not-empty : own ≡ 0 → other ≡ 0 → ⊥
+bid-back : (s : List ℕ) (i : ℕ) → BidAccepted s i → bidRefusal s i ≡ 0
+unfolding bidRefusal
+bid-back s i f = simp (le-ltb 1_000_000_000 (bidField s i) (f .most))
 
+-- 10 to 13
 same-test : (a b : Bool) → (a && not b || not a && b) ≡ false → a ≡ b
 same-test true true e = refl
 same-test true false e = absurd (false≢true (sym e))
@@ -161,31 +172,82 @@ fields-of n m owner own other others e =
           ∙ ap₂ _&&_ (eq-eqb own 0 p) (ap₂ _&&_ (eq-eqb other 0 q) (sym both ∙ eq-eqb other 0 q)));
     }
 
+fields-back : (n m owner own other others : ℕ) → ConstraintAccepted n m owner own other others → fieldsRefusal n m owner own other others ≡ 0
+unfolding fieldsRefusal inRange
+fields-back n m owner own other others f =
+    let owned = not-zero owner (f .some-owner) in
+    let owner-low = le-ltb n owner (f .most-owner) in
+    let other-low = le-ltb n other (f .most-other) in
+    let own-low = le-ltb m own (f .most-own) in
+    let others-low = le-ltb m others (f .most-others) in
+    let apart = ne-eqb other owner (f .different) in
+    ⊎-elim
+    (λ (z : other ≡ 0).
+    simp (
+      owned,
+      owner-low,
+      other-low,
+      own-low,
+      others-low,
+      apart,
+      eq-eqb other 0 z,
+      eq-eqb others 0 (f .together z),
+      ne-eqb own 0 (λ q. f .not-empty q z),
+    ))
+    (λ (h : other ≡ 0 → ⊥).
+    simp (
+      owned,
+      owner-low,
+      other-low,
+      own-low,
+      others-low,
+      apart,
+      ne-eqb other 0 h,
+      ne-eqb others 0 (λ z. h (f .together-back z)),
+      and-false (eqb own 0),
+    ))
+    (same-or-not other 0)
+
 constraint-of : (s : List ℕ) (k : ℕ) → constraintRefusal s k ≡ 0 →
     ConstraintAccepted (bidderCount s) (slotCount s) (ownerField s k) (ownSlotField s k) (otherField s k) (otherSlotField s k)
 unfolding constraintRefusal
 constraint-of s k e = fields-of (bidderCount s) (slotCount s) (ownerField s k) (ownSlotField s k) (otherField s k) (otherSlotField s k) e
 
--- All that acceptance implies.
-pub record AcceptedSheet (s : List ℕ) : Type 0 where
-  pub form : Form s
-  pub counts : Counts s
-  pub effects : (k : ℕ) → k < slotCount s → EffectAccepted s k
-  pub bids : (i : ℕ) → i < bidderCount s → bidField s i ≤ 1_000_000_000
-  pub constraints : (k : ℕ) → k < constraintCount s →
-      ConstraintAccepted (bidderCount s) (slotCount s) (ownerField s k) (ownSlotField s k) (otherField s k) (otherSlotField s k)
+constraint-back : (s : List ℕ) (k : ℕ) →
+    ConstraintAccepted (bidderCount s) (slotCount s) (ownerField s k) (ownSlotField s k) (otherField s k) (otherSlotField s k) →
+    constraintRefusal s k ≡ 0
+unfolding constraintRefusal
+constraint-back s k f = fields-back (bidderCount s) (slotCount s) (ownerField s k) (ownSlotField s k) (otherField s k) (otherSlotField s k) f
 
+-- what holds of each number below n, counted from 1, holds of each from 1 to n
+from-one : (P : ℕ → Type 0) (n : ℕ) → ((i : ℕ) → i < n → P (suc i)) → (k : ℕ) → 0 < k → k ≤ n → P k
+from-one P n h zero l m = absurd (not-suc-le-zero l)
+from-one P n h (suc i) l m = h i m
+
+-- An accepted sheet has the facts,
 pub accepted-sheet : (s : List ℕ) → Accepted s → AcceptedSheet s
 unfolding refusalOf
 accepted-sheet s e =
     let a = orElse-none (formRefusal s) _ e in
     let b = orElse-none (countsRefusal s) _ (a .1) in
-    let c = orElse-none (firstOver (effectRefusal s) (slotCount s)) _ (b .1) in
-    let d = orElse-none (firstOver (bidRefusal s) (bidderCount s)) _ (c .1) in
+    let c = orElse-none (firstOver (λ k. effectRefusal s (suc k)) (slotCount s)) _ (b .1) in
+    let d = orElse-none (firstOver (λ i. bidRefusal s (suc i)) (bidderCount s)) _ (c .1) in
     record {
       form = form-accepted s (a .0);
       counts = counts-accepted s (b .0);
-      effects = λ k l. effect-of s k (first-none (effectRefusal s) (slotCount s) (c .0) k l);
-      bids = λ i l. bid-of s i (first-none (bidRefusal s) (bidderCount s) (d .0) i l);
+      effects = from-one (EffectAccepted s) (slotCount s) (λ k l. effect-of s (suc k) (first-none (λ k. effectRefusal s (suc k)) (slotCount s) (c .0) k l));
+      bids = from-one (BidAccepted s) (bidderCount s) (λ i l. bid-of s (suc i) (first-none (λ i. bidRefusal s (suc i)) (bidderCount s) (d .0) i l));
       constraints = λ k l. constraint-of s k (first-none (constraintRefusal s) (constraintCount s) (d .1) k l);
     }
+
+-- and a sheet with the facts is accepted.
+pub sheet-accepted : (s : List ℕ) → AcceptedSheet s → Accepted s
+unfolding refusalOf
+sheet-accepted s f =
+    orElse-right (formRefusal s) _ (form-back s (f .form))
+    ∙ orElse-right (countsRefusal s) _ (counts-back s (f .counts))
+    ∙ orElse-right (firstOver (λ k. effectRefusal s (suc k)) (slotCount s)) _
+    (first-all-none (λ k. effectRefusal s (suc k)) (slotCount s) (λ k l. effect-back s (suc k) (f .effects (suc k) (omega arith) l)))
+    ∙ orElse-right (firstOver (λ i. bidRefusal s (suc i)) (bidderCount s)) _
+    (first-all-none (λ i. bidRefusal s (suc i)) (bidderCount s) (λ i l. bid-back s (suc i) (f .bids (suc i) (omega arith) l)))
+    ∙ first-all-none (constraintRefusal s) (constraintCount s) (λ k l. constraint-back s k (f .constraints k l))

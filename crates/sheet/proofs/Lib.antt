@@ -1,6 +1,3 @@
--- Laws of the sheet: which number a field's fault gives, what the quick pass rests on, and what acceptance implies.
-pub mod RefusalLaws
-pub mod FaultLaws
+-- What acceptance means, both ways, and what an accepted sheet's round has.
 pub mod AcceptedLaws
-pub mod KindLaws
-pub mod ReadingLaws
+pub mod RoundLaws

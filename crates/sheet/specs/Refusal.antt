@@ -42,10 +42,11 @@ countsRefusal s =
     7 when not (eqb (length s) (sheetLength s)) otherwise
     0
 
--- the effect before that of slot k + 1; before the first stands the largest that any may have
+-- the effect before that of slot k; before the first stands the largest that any may have
 abbrev pub effectBefore : List ℕ → ℕ → ℕ
 effectBefore s zero = 1_000_000
-effectBefore s (suc k) = effectField s k
+effectBefore s (suc zero) = 1_000_000
+effectBefore s (suc (suc k)) = effectField s (suc k)
 
 -- 8. An effect is 0, above 1,000,000 or above the one before it.
 unfoldable pub effectRefusal : List ℕ → ℕ → ℕ
@@ -78,13 +79,13 @@ unfoldable pub constraintRefusal : List ℕ → ℕ → ℕ
 constraintRefusal s k =
     fieldsRefusal (bidderCount s) (slotCount s) (ownerField s k) (ownSlotField s k) (otherField s k) (otherSlotField s k)
 
--- The first number that applies. "Conditions are taken in sheet order, each through 10 to 13."
+-- The first number that applies: effects of slots 1 to m, bids of bidders 1 to n. "Conditions are taken in sheet order, each through 10 to 13."
 unfoldable pub refusalOf : List ℕ → ℕ
 refusalOf s =
     orElse (formRefusal s)
     (orElse (countsRefusal s)
-    (orElse (firstOver (effectRefusal s) (slotCount s))
-    (orElse (firstOver (bidRefusal s) (bidderCount s))
+    (orElse (firstOver (λ k. effectRefusal s (suc k)) (slotCount s))
+    (orElse (firstOver (λ i. bidRefusal s (suc i)) (bidderCount s))
     (firstOver (constraintRefusal s) (constraintCount s)))))
 
 -- "A sheet is accepted when the check gives it no number."

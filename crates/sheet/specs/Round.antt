@@ -1,7 +1,8 @@
 -- The round that a sheet's bytes say, in the types of the source.
-use Prim.Native.Nat.{ℕ, zero, suc, _+_, _*_}
+use Prim.Native.Nat.{ℕ, zero, suc, _<_}
 use mathlib.Core.List.{List}
-use lib.ListN.{replicate}
+use mathlib.Core.Path.{_≡_}
+use lib.ListN.{getD}
 use Rattle.basis.specs.Rows.{padded}
 use Rattle.sheet.specs.Sheet.{
   bidderCount,
@@ -14,14 +15,12 @@ use Rattle.sheet.specs.Sheet.{
   otherField,
   otherSlotField,
 }
-use Rattle.sheet.specs.Refusal.{refusalOf}
 use Rattle.sheet.specs.declared.Bidder.{Bidder}
 use Rattle.sheet.specs.declared.Slot.{Slot}
 use Rattle.sheet.specs.declared.Kind.{Kind}
 use Rattle.sheet.specs.declared.Kind.the-variants.{OwnSlot, OtherSlot, Pair}
 use Rattle.sheet.specs.declared.Constraint.{Constraint}
 use Rattle.sheet.specs.declared.Round.{Round}
-use Rattle.sheet.specs.declared.Reading.{Reading}
 
 abbrev pub bidder : ℕ → Bidder
 bidder k = record { 0 = k }
@@ -52,27 +51,29 @@ roundOf s =
       bidders = bidderCount s;
       slots = slotCount s;
       used = constraintCount s;
-      effects = padded (effectField s) (slotCount s) 16 0;
-      bids = padded (bidField s) (bidderCount s) 64 0;
+      effects = padded (λ k. effectField s (suc k)) (slotCount s) 16 0;
+      bids = padded (λ i. bidField s (suc i)) (bidderCount s) 64 0;
       constraints = padded (constraintField s) (constraintCount s) 1024 blank;
     }
 
--- no bidder, no slot, no constraint: what stands beside a refusal
-abbrev pub blankRound : Round
-blankRound =
-    record {
-      bidders = 0;
-      slots = 0;
-      used = 0;
-      effects = replicate 16 0;
-      bids = replicate 64 0;
-      constraints = replicate 1024 blank;
-    }
+-- the bid of bidder b in a round
+unfoldable pub bidOf : Round → ℕ → ℕ
+bidOf r zero = 0
+bidOf r (suc i) = getD (r .bids) i 0
 
--- what reading gives: the number 0 with the round of an accepted sheet, or the refusal's number with the blank round
-abbrev pub readingFor : ℕ → List ℕ → Reading
-readingFor zero s = record { refusal = 0; round = roundOf s }
-readingFor (suc k) s = record { refusal = suc k; round = blankRound }
+-- the effect of slot k in a round
+unfoldable pub effectOf : Round → ℕ → ℕ
+effectOf r zero = 0
+effectOf r (suc k) = getD (r .effects) k 0
 
-unfoldable pub readingOf : List ℕ → Reading
-readingOf s = readingFor (refusalOf s) s
+-- the round's constraint at index i
+unfoldable pub constraintAt : Round → ℕ → Constraint
+constraintAt r i = getD (r .constraints) i blank
+
+-- the round has the constraint q: all that the laws see of the list, so that order and repeats never come up
+abbrev pub Has : Round → Constraint → Type 0
+Has r q = (i : ℕ) × (i < r .used) × (constraintAt r i ≡ q)
+
+-- the sheet has the constraint q
+abbrev pub SheetHas : List ℕ → Constraint → Type 0
+SheetHas s q = (i : ℕ) × (i < constraintCount s) × (constraintField s i ≡ q)

@@ -1,6 +1,6 @@
 -- The bid sheet of document 01: which bytes hold which field.
 -- Everything that depends on where a field stands goes through the three starts below.
-use Prim.Native.Nat.{ℕ, _+_, _*_}
+use Prim.Native.Nat.{ℕ, zero, suc, _+_, _*_}
 use mathlib.Core.List.{List}
 use lib.ListN.{length}
 use Rattle.basis.specs.Bytes.{byteAt, word16At, word32At}
@@ -37,15 +37,17 @@ constraintsStart s = bidsStart s + 4 * bidderCount s
 abbrev pub sheetLength : List ℕ → ℕ
 sheetLength s = effectsStart s + 4 * (slotCount s + bidderCount s + constraintCount s)
 
--- the effect of slot k + 1
+-- the effect of slot k; slots and bidders are counted from 1
 unfoldable pub effectField : List ℕ → ℕ → ℕ
-effectField s k = word32At s (effectsStart s + 4 * k)
+effectField s zero = 0
+effectField s (suc k) = word32At s (effectsStart s + 4 * k)
 
--- the bid of bidder i + 1
+-- the bid of bidder i
 unfoldable pub bidField : List ℕ → ℕ → ℕ
-bidField s i = word32At s (bidsStart s + 4 * i)
+bidField s zero = 0
+bidField s (suc i) = word32At s (bidsStart s + 4 * i)
 
--- the four bytes of constraint k + 1: "owner, own place, other bidder, other's place, one byte each"
+-- the four bytes of the constraint at index k of the sheet: "owner, own place, other bidder, other's place, one byte each"
 unfoldable pub ownerField : List ℕ → ℕ → ℕ
 ownerField s k = byteAt s (constraintsStart s + 4 * k)
 

@@ -1,12 +1,4 @@
-// The bid sheet of document 01: its types, the check that gives a refused sheet its number, and the reader.
-ghost use mathlib.Core.Path.{_≡_};
-ghost use Rattle.sheet.specs.Refusal.{refusalOf};
-ghost use Rattle.sheet.specs.Round.{readingOf};
-use basis::word16;
-
-mod refusals;
-mod rounds;
-
+// The bid sheet of document 01: the types of a round. What its bytes say, which sheets are accepted and what that means are in specs/.
 // "n, bidders, 1 to 64"
 pub const MAX_BIDDERS: usize = 64;
 // "m, places, 1 to 16"
@@ -49,58 +41,4 @@ pub struct Round {
 // The page: for each slot its bidder, or nobody.
 pub struct Page {
     pub bidders: [Bidder; 16],
-}
-
-// What reading a sheet gives: 0 and its round, or the refusal's number and a blank round.
-pub struct Reading {
-    pub refusal: u32,
-    pub round: Round,
-}
-
-// The number of the first rule that the sheet breaks, 1 to 13, or 0 for an accepted sheet.
-pub fn check(sheet: &[u8]) -> u32
-    ensures { λ r. ⌜ r ≡ refusalOf (now (sheet .entry)) ⌝ }
-{
-    let form = refusals::form_refusal(sheet);
-    if form != 0 {
-        return form;
-    }
-    let counts = refusals::counts_refusal(sheet);
-    if counts != 0 {
-        return counts;
-    }
-    let bidders = sheet[5];
-    let slots = sheet[6];
-    let constraints = word16(sheet, 7) as usize;
-    let effects = refusals::effects_refusal(sheet, slots as usize);
-    if effects != 0 {
-        return effects;
-    }
-    let bids_start = 9 + 4 * (slots as usize);
-    let bids = refusals::bids_refusal(sheet, bids_start, bidders as usize);
-    if bids != 0 {
-        return bids;
-    }
-    let constraints_start = bids_start + 4 * (bidders as usize);
-    // The slice is made anew for the call: one lent on as it came is first copied in one piece, where the caller wrote its two halves,
-    // and the machine waits for that.
-    let whole = &sheet[0..];
-    refusals::constraints_refusal(whole, constraints_start, bidders, slots, constraints)
-}
-
-// The round of an accepted sheet with the number 0, or a refused sheet's number with a blank round.
-pub fn read(sheet: &[u8]) -> Reading
-    ensures { λ r. ⌜ r ≡ readingOf (now (sheet .entry)) ⌝ }
-{
-    let refusal = check(sheet);
-    if refusal != 0 {
-        return Reading {
-            refusal,
-            round: rounds::blank_round(),
-        };
-    }
-    Reading {
-        refusal: 0,
-        round: rounds::accepted_round(sheet),
-    }
 }

@@ -18,36 +18,20 @@ use Rattle.sheet.specs.Refusal.{
   constraintRefusal,
   refusalOf,
 }
-use Rattle.sheet.specs.Round.{kindOf, constraintField, roundOf}
-use Rattle.choice.specs.Winner.{before, wins, winner}
+use Rattle.sheet.specs.Round.{kindOf, constraintField, roundOf, constraintAt, bidOf, effectOf}
+use Rattle.choice.specs.Winner.{ranksNoLower, wins, winner}
 use Rattle.auction.specs.Page.{at, put, emptyPage, placed}
-use Rattle.auction.specs.Broken.{ownHolds, otherHolds, broken, constraintAt, breaks}
-use Rattle.auction.specs.Greedy.{bidOf, effectOf, concerns, eligible, winnerAt, fillSlot, pageUpTo, greedyPage}
+use Rattle.auction.specs.Broken.{ownHolds, otherHolds, broken, breaks}
+use Rattle.sheet.specs.Encoded.{words, quads, sheetOf}
+use Rattle.auction.specs.Greedy.{concerns, eligible, winnerAt, fillSlot, pageUpTo, greedyPage}
 use Rattle.auction.specs.Price.{withBid, winsWith, priceFor, price}
 use Rattle.downward.specs.Downward.{ownSlot, oneLower, sameKind, listHas, asksLower, downward}
 use Rattle.gain.specs.Gain.{slotOf, breaksOwn, gainIf, gainAt, gainOf}
-use Rattle.best_search.specs.Best.{totalUpTo, total}
-use Rattle.best_search.specs.BestPage.{nobodyTwice, isAllowed, keep, eachChoice, tryAll, bestPage}
-use Rattle.test_worked_rounds.specs.Sheets.{
-  words,
-  quads,
-  sheetOf,
-  A,
-  B,
-  C,
-  D,
-  E,
-  F,
-  F-true,
-  G,
-  H,
-  H-longer,
-  earlier-winner,
-  overbid,
-  overbid-barred,
-}
+use Rattle.auction.specs.Allowed.{totalUpTo, total}
+use Rattle.best_page.specs.BestPage.{nobodyTwice, isAllowed, keep, eachChoice, tryAll, bestPage}
+use Rattle.test_worked_rounds.specs.Sheets.{A, B, C, D, E, F, F-true, G, H, H-longer, earlier-winner, overbid, overbid-barred}
 use Rattle.test_worked_rounds.specs.Worked.{bySlot, Worked, asked, rounds}
 
 pub rounds-hold : map asked rounds ≡ map (λ (w : Worked). w .said) rounds
-unfolding word16At word32At bytes32 firstOver row padded anyBelow allBelow least effectField bidField ownerField ownSlotField otherField otherSlotField formRefusal countsRefusal effectRefusal bidRefusal inRange fieldsRefusal constraintRefusal refusalOf kindOf constraintField roundOf before wins winner at put emptyPage placed ownHolds otherHolds broken constraintAt bidOf effectOf concerns eligible winnerAt fillSlot pageUpTo greedyPage withBid winsWith priceFor price ownSlot oneLower sameKind listHas asksLower downward slotOf breaksOwn gainIf gainAt gainOf breaks totalUpTo total nobodyTwice isAllowed keep eachChoice tryAll bestPage bySlot words quads sheetOf A B C D E F F-true G H H-longer earlier-winner overbid overbid-barred asked rounds
+unfolding word16At word32At bytes32 firstOver row padded anyBelow allBelow least effectField bidField ownerField ownSlotField otherField otherSlotField formRefusal countsRefusal effectRefusal bidRefusal inRange fieldsRefusal constraintRefusal refusalOf kindOf constraintField roundOf ranksNoLower wins winner at put emptyPage placed ownHolds otherHolds broken constraintAt bidOf effectOf concerns eligible winnerAt fillSlot pageUpTo greedyPage withBid winsWith priceFor price ownSlot oneLower sameKind listHas asksLower downward slotOf breaksOwn gainIf gainAt gainOf breaks totalUpTo total nobodyTwice isAllowed keep eachChoice tryAll bestPage bySlot words quads sheetOf A B C D E F F-true G H H-longer earlier-winner overbid overbid-barred asked rounds
 rounds-hold = refl

@@ -12,8 +12,8 @@ use Rattle.auction.specs.Greedy.{greedyPage}
 use Rattle.auction.specs.Price.{price}
 use Rattle.downward.specs.Downward.{downward}
 use Rattle.gain.specs.Gain.{gainOf}
-use Rattle.best_search.specs.Best.{total}
-use Rattle.best_search.specs.BestPage.{bestPage}
+use Rattle.auction.specs.Allowed.{total}
+use Rattle.best_page.specs.BestPage.{bestPage}
 use Rattle.test_worked_rounds.specs.Sheets.{A, B, C, D, E, F, F-true, G, H, H-longer, earlier-winner, overbid, overbid-barred}
 
 -- a page's bidder numbers by slot, 0 for an empty one

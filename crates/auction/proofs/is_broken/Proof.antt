@@ -2,7 +2,7 @@
 use mathlib.Core.Path.{sym, _∙_, ap, subst}
 use Rattle.sheet.specs.declared.Kind.{Kind}
 use Rattle.auction.specs.Broken.{broken}
-use Rattle.auction.specs.Proper.{ProperKind}
+use Rattle.sheet.specs.Proper.{ProperKind}
 use Rattle.auction.proofs.BrokenLaws.{own-slot-broken, other-slot-broken, other-elsewhere, pair-broken, pair-elsewhere}
 use borrow.Author.Needs.{needs}
 use Rattle.auction.proofs.is_broken.Statement.{statement}
@@ -20,7 +20,7 @@ enum-known-kind c = search needs
 stands-requires : tie.Need-stands-requires
 stands-requires c κs =
     let owner = c .before .before .before .before .args .constraint .owner in
-    let named = subst (ProperKind (owner .0)) (c .before .kind .given .1) (c .before .before .before .before .pre .named) in
+    let named = subst (ProperKind (owner .0)) (c .before .kind .given .1) (c .before .before .before .before .pre .parts) in
     named
 
 -- src/lib.rt:73:25
@@ -31,7 +31,7 @@ enum-known-kind-2 c = search needs
 stands-requires-2 : tie.Need-stands-requires-2
 stands-requires-2 c κs =
     let owner = c .before .before .before .before .args .constraint .owner in
-    let named = subst (ProperKind (owner .0)) (c .before .kind2 .given .1) (c .before .before .before .before .pre .named) in
+    let named = subst (ProperKind (owner .0)) (c .before .kind2 .given .1) (c .before .before .before .before .pre .parts) in
     (named .3, named .4)
 
 -- src/lib.rt:75:17
@@ -42,7 +42,7 @@ is-placed-requires c κs = search needs
 returns : tie.Need-returns
 returns c =
     let owner = c .before .before .before .before .before .before .before .args .constraint .owner in
-    let named = subst (ProperKind (owner .0)) (c .before .before .before .before .kind2 .given .1) (c .before .before .before .before .before .before .before .pre .named) in
+    let named = subst (ProperKind (owner .0)) (c .before .before .before .before .kind2 .given .1) (c .before .before .before .before .before .before .before .pre .parts) in
     c .is-placed .ensures ∙ other-slot-broken (c .before .before .before .before .before .before .before .args .page) owner _ _ (sym (c .before .before .stands2 .ensures) ∙ c .before .if1 .taken) ∙ ap (λ (kind : Kind). broken (c .before .before .before .before .before .before .before .args .page) (record { owner = owner; kind = kind })) (sym (c .before .before .before .before .kind2 .given .1))
 
 -- src/lib.rt:79:20
@@ -53,42 +53,42 @@ enum-known-kind-3 c = search needs
 stands-requires-3 : tie.Need-stands-requires-3
 stands-requires-3 c κs =
     let owner = c .before .before .before .before .args .constraint .owner in
-    let named = subst (ProperKind (owner .0)) (c .before .kind3 .given .1) (c .before .before .before .before .pre .named) in
+    let named = subst (ProperKind (owner .0)) (c .before .kind3 .given .1) (c .before .before .before .before .pre .parts) in
     (named .5, named .6)
 
 -- src/lib.rt:81:17
 stands-requires-4 : tie.Need-stands-requires-4
 stands-requires-4 c κs =
     let owner = c .before .before .before .before .before .before .args .constraint .owner in
-    let named = subst (ProperKind (owner .0)) (c .before .before .before .kind3 .given .1) (c .before .before .before .before .before .before .pre .named) in
+    let named = subst (ProperKind (owner .0)) (c .before .before .before .kind3 .given .1) (c .before .before .before .before .before .before .pre .parts) in
     (named .3, named .4)
 
 -- src/lib.rt:81:17
 returns-2 : tie.Need-returns-2
 returns-2 c =
     let owner = c .before .before .before .before .before .before .before .args .constraint .owner in
-    let named = subst (ProperKind (owner .0)) (c .before .before .before .before .kind3 .given .1) (c .before .before .before .before .before .before .before .pre .named) in
+    let named = subst (ProperKind (owner .0)) (c .before .before .before .before .kind3 .given .1) (c .before .before .before .before .before .before .before .pre .parts) in
     c .stands4 .ensures ∙ pair-broken (c .before .before .before .before .before .before .before .args .page) owner _ _ _ (named .5) (named .6) (sym (c .before .before .stands3 .ensures) ∙ c .before .if2 .taken) ∙ ap (λ (kind : Kind). broken (c .before .before .before .before .before .before .before .args .page) (record { owner = owner; kind = kind })) (sym (c .before .before .before .before .kind3 .given .1))
 
 -- src/lib.rt:65:1
 returns-3 : tie.Need-returns-3
 returns-3 c =
     let owner = c .before .before .before .before .before .args .constraint .owner in
-    let named = subst (ProperKind (owner .0)) (c .before .before .kind .given .1) (c .before .before .before .before .before .pre .named) in
+    let named = subst (ProperKind (owner .0)) (c .before .before .kind .given .1) (c .before .before .before .before .before .pre .parts) in
     c .stands .ensures ∙ own-slot-broken (c .before .before .before .before .before .args .page) owner _ (named .0) (named .1) ∙ ap (λ (kind : Kind). broken (c .before .before .before .before .before .args .page) (record { owner = owner; kind = kind })) (sym (c .before .before .kind .given .1))
 
 -- src/lib.rt:65:1
 returns-4 : tie.Need-returns-4
 returns-4 c =
     let owner = c .before .before .before .before .before .before .args .constraint .owner in
-    let named = subst (ProperKind (owner .0)) (c .before .before .before .kind2 .given .1) (c .before .before .before .before .before .before .pre .named) in
+    let named = subst (ProperKind (owner .0)) (c .before .before .before .kind2 .given .1) (c .before .before .before .before .before .before .pre .parts) in
     sym (other-elsewhere (c .before .before .before .before .before .before .args .page) owner _ _ (sym (c .before .stands2 .ensures) ∙ c .if1 .left)) ∙ ap (λ (kind : Kind). broken (c .before .before .before .before .before .before .args .page) (record { owner = owner; kind = kind })) (sym (c .before .before .before .kind2 .given .1))
 
 -- src/lib.rt:65:1
 returns-5 : tie.Need-returns-5
 returns-5 c =
     let owner = c .before .before .before .before .before .before .args .constraint .owner in
-    let named = subst (ProperKind (owner .0)) (c .before .before .before .kind3 .given .1) (c .before .before .before .before .before .before .pre .named) in
+    let named = subst (ProperKind (owner .0)) (c .before .before .before .kind3 .given .1) (c .before .before .before .before .before .before .pre .parts) in
     sym (pair-elsewhere (c .before .before .before .before .before .before .args .page) owner _ _ _ (sym (c .before .stands3 .ensures) ∙ c .if2 .left)) ∙ ap (λ (kind : Kind). broken (c .before .before .before .before .before .before .args .page) (record { owner = owner; kind = kind })) (sym (c .before .before .before .kind3 .given .1))
 
 pub is-broken-spec : {M : Type 1} → statement M

@@ -16,7 +16,7 @@ use Rattle.basis.specs.Bits.{bitOf}
 use Rattle.basis.proofs.BitLaws.{bit-digit}
 use Rattle.basis.proofs.TestLaws.{holds-or-fails}
 use Rattle.choice.specs.Tables.{bidIn}
-use Rattle.best_bound.specs.Bound.{slotAfter, addAfter, liveIn, listed}
+use Rattle.best_bound.specs.Bound.{slotAfter, addAfter, eligibleIn, nth}
 use Rattle.best_bound.proofs.BoundLaws.{slot-taken, add-taken, slot-kept, add-kept}
 use Rattle.best_bound.proofs.most_added.Statement.{statement}
 use Rattle.best_bound.proofs.most_added.Tie as tie
@@ -42,14 +42,14 @@ word-holds-sum : (sum i x : ℕ) → sum ≤ i * 1000000000000000 → i < 8 → 
 word-holds-sum sum i x h l q = omega arith
 
 -- how often a bidder counts, by the bit that says that no slot is open to it
-times-live : (barred out b : ℕ) → 0 < b → bitOf out (b - 1) ≡ not (liveIn barred (suc (b - 1))) →
-    1 - out / 2 ^ (b - 1) % 2 ≡ cond (liveIn barred b) 1 0
+times-live : (barred out b : ℕ) → 0 < b → bitOf out (b - 1) ≡ not (eligibleIn barred (suc (b - 1))) →
+    1 - out / 2 ^ (b - 1) % 2 ≡ cond (eligibleIn barred b) 1 0
 times-live barred out b some e =
     let number : suc (b - 1) ≡ b = omega arith in
     ap (λ (d : ℕ). 1 - d) (bit-digit out (b - 1))
     ∙ ap (λ (t : Bool). 1 - cond t 1 0) e
-    ∙ by-test (liveIn barred (suc (b - 1)))
-    ∙ ap (λ (n : ℕ). cond (liveIn barred n) 1 0) number
+    ∙ by-test (eligibleIn barred (suc (b - 1)))
+    ∙ ap (λ (n : ℕ). cond (eligibleIn barred n) 1 0) number
   where
     by-test : (t : Bool) → 1 - cond (not t) 1 0 ≡ cond t 1 0
     by-test true = refl
@@ -57,8 +57,8 @@ times-live barred out b some e =
 
 -- `slot` is the next slot index after the first i ranked bidders, and `sum` what they add
 record Added (barred : ℕ) (ranked bids effects : List ℕ) (from sum slot i : ℕ) : Type 0 where
-  next-slot : slot ≡ slotAfter (liveIn barred) (listed ranked) from 16 i
-  so-far : sum ≡ addAfter (liveIn barred) (listed ranked) (bidIn bids) (listed effects) from 16 i
+  next-slot : slot ≡ slotAfter (eligibleIn barred) (nth ranked) from 16 i
+  so-far : sum ≡ addAfter (eligibleIn barred) (nth ranked) (bidIn bids) (nth effects) from 16 i
   near : slot ≤ from + i
   fits : sum ≤ i * 1000000000000000
   room : i ≤ length ranked
@@ -75,12 +75,12 @@ record Within (ranked bids effects : List ℕ) (slot i times : ℕ) : Type 0 whe
 
 module _ (barred : ℕ) (ranked bids effects : List ℕ) (from sum slot i times : ℕ)
     (h : Added barred ranked bids effects from sum slot i) (l : i < length ranked) (w : Within ranked bids effects slot i times)
-    (e : times ≡ cond (liveIn barred (getD ranked i 0)) 1 0) where
+    (e : times ≡ cond (eligibleIn barred (getD ranked i 0)) 1 0) where
   abbrev slotOf : ℕ → ℕ
-  slotOf = slotAfter (liveIn barred) (listed ranked) from 16
+  slotOf = slotAfter (eligibleIn barred) (nth ranked) from 16
 
   abbrev addOf : ℕ → ℕ
-  addOf = addAfter (liveIn barred) (listed ranked) (bidIn bids) (listed effects) from 16
+  addOf = addAfter (eligibleIn barred) (nth ranked) (bidIn bids) (nth effects) from 16
 
   abbrev Stepped : Type 0
   Stepped =
@@ -88,32 +88,32 @@ module _ (barred : ℕ) (ranked bids effects : List ℕ) (from sum slot i times 
       × (sum + times * (getD bids (getD ranked i 0 - 1) 0 * getD effects slot 0) ≡ addOf (suc i))
 
   -- a live bidder gets the next slot and adds its bid times that slot's effect,
-  live-steps : liveIn barred (getD ranked i 0) ≡ true → Stepped
-  unfolding listed
+  live-steps : eligibleIn barred (getD ranked i 0) ≡ true → Stepped
+  unfolding nth
   live-steps live =
       let one : times ≡ 1 = e ∙ ap (λ (t : Bool). cond t 1 0) live in
       let next = h .next-slot in
       let left : slotOf i < 16 = let r = w .left in omega arith in (
-        omega (arith, slot-taken (liveIn barred) (listed ranked) (bidIn bids) (listed effects) from 16 i live left),
+        omega (arith, slot-taken (eligibleIn barred) (nth ranked) (bidIn bids) (nth effects) from 16 i live left),
         ap₂ (λ (s t : ℕ). s + t * (getD bids (getD ranked i 0 - 1) 0 * getD effects slot 0)) (h .so-far) one
             ∙ ap₂ (λ (b j : ℕ). addOf i + 1 * (b * getD effects j 0)) (sym (bid-at bids (getD ranked i 0) (w .some))) next
-            ∙ omega (arith, add-taken (liveIn barred) (listed ranked) (bidIn bids) (listed effects) from 16 i live left),
+            ∙ omega (arith, add-taken (eligibleIn barred) (nth ranked) (bidIn bids) (nth effects) from 16 i live left),
       )
 
   -- another one nothing
-  barred-steps : liveIn barred (getD ranked i 0) ≡ false → Stepped
-  unfolding listed
+  barred-steps : eligibleIn barred (getD ranked i 0) ≡ false → Stepped
+  unfolding nth
   barred-steps dead =
       let none : times ≡ 0 = e ∙ ap (λ (t : Bool). cond t 1 0) dead in
       let next = h .next-slot in (
-        omega (arith, slot-kept (liveIn barred) (listed ranked) (bidIn bids) (listed effects) from 16 i (inl dead)),
+        omega (arith, slot-kept (eligibleIn barred) (nth ranked) (bidIn bids) (nth effects) from 16 i (inl dead)),
         ap₂ (λ (s t : ℕ). s + t * (getD bids (getD ranked i 0 - 1) 0 * getD effects slot 0)) (h .so-far) none
-            ∙ omega (arith, add-kept (liveIn barred) (listed ranked) (bidIn bids) (listed effects) from 16 i (inl dead)),
+            ∙ omega (arith, add-kept (eligibleIn barred) (nth ranked) (bidIn bids) (nth effects) from 16 i (inl dead)),
       )
 
   one-more : Added barred ranked bids effects from (sum + times * (getD bids (getD ranked i 0 - 1) 0 * getD effects slot 0)) (slot + times) (i + 1)
   one-more =
-      let stepped : Stepped = ⊎-elim live-steps barred-steps (holds-or-fails (liveIn barred (getD ranked i 0))) in
+      let stepped : Stepped = ⊎-elim live-steps barred-steps (holds-or-fails (eligibleIn barred (getD ranked i 0))) in
       record {
         next-slot = rw add-one (stepped .0);
         so-far = rw add-one (stepped .1);

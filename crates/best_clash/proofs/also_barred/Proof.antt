@@ -19,11 +19,11 @@ use Rattle.best_clash.proofs.also_barred.Tie as tie
 also-set : (x y : ℕ) (f : ℕ → Bool) → ((i : ℕ) → i < 64 → bitOf y i ≡ f i) → (i : ℕ) → i < 64 → bitOf (bitOr x y) i ≡ (bitOf x i || f i)
 also-set x y f h i l = bit-or x y i ∙ ap (λ (t : Bool). bitOf x i || t) (h i l)
 
-cast-place : tie.Need-cast-place
-cast-place c = search needs
+cast-slot-index : tie.Need-cast-slot-index
+cast-slot-index c = search needs
 
-sub-place : tie.Need-sub-place
-sub-place c = search needs
+sub-slot-index : tie.Need-sub-slot-index
+sub-slot-index c = search needs
 
 at-slot-requires : tie.Need-at-slot-requires
 at-slot-requires c κs = search needs
@@ -31,14 +31,14 @@ at-slot-requires c κs = search needs
 returns : tie.Need-returns
 returns c =
     let a = c .before .before .before .before .before .args in
-    let place = a .slot .0 - 1 in
+    let at-index = a .slot .0 - 1 in
     let settled = bitOr (a .barred) (c .before .before .at-slot .result) in
     λ k e.
-    let here : place ≡ k = omega arith in
+    let here : at-index ≡ k = omega arith in
     subst (λ (n : ℕ). BarredAlso (a .table .now) (a .barred) n (a .bidder .0) settled) here
-    (subst (λ (n : ℕ). BarredAlso (a .table .now) (a .barred) place n settled) (sym (c .if1 .taken))
-    (barred-nobody (a .table .now) (a .barred) settled place
-    (also-set (a .barred) (c .before .before .at-slot .result) (λ i. leb (8 * place) i && ltb i (8 * place + 8)) (c .before .before .at-slot .ensures))))
+    (subst (λ (n : ℕ). BarredAlso (a .table .now) (a .barred) at-index n settled) (sym (c .if1 .taken))
+    (barred-nobody (a .table .now) (a .barred) settled at-index
+    (also-set (a .barred) (c .before .before .at-slot .result) (λ i. leb (8 * at-index) i && ltb i (8 * at-index + 8)) (c .before .before .at-slot .ensures))))
 
 cast-index : tie.Need-cast-index
 cast-index c = search needs
@@ -65,18 +65,18 @@ returns-2 : tie.Need-returns-2
 returns-2 c =
     let slotted = c .before .before .before .before .before in
     let a = slotted .before .before .before .args in
-    let place = a .slot .0 - 1 in
+    let at-index = a .slot .0 - 1 in
     let index = a .bidder .0 - 1 in
     let settled = bitOr (a .barred) (slotted .at-slot .result) in
-    let word = getD (a .table .now) (8 * place + index) 0 in
+    let word = getD (a .table .now) (8 * at-index + index) 0 in
     let more = bitOr (bitOr settled word) (c .everywhere .result) in
     λ k e.
-    let here : place ≡ k = omega arith in
+    let here : at-index ≡ k = omega arith in
     let who : suc index ≡ a .bidder .0 = omega arith in
     subst (λ (n : ℕ). BarredAlso (a .table .now) (a .barred) n (a .bidder .0) more) here
-    (subst (λ (n : ℕ). BarredAlso (a .table .now) (a .barred) place n more) who
-    (barred-more (a .table .now) (a .barred) settled place
-    (also-set (a .barred) (slotted .at-slot .result) (λ i. leb (8 * place) i && ltb i (8 * place + 8)) (slotted .at-slot .ensures))
+    (subst (λ (n : ℕ). BarredAlso (a .table .now) (a .barred) at-index n more) who
+    (barred-more (a .table .now) (a .barred) settled at-index
+    (also-set (a .barred) (slotted .at-slot .result) (λ i. leb (8 * at-index) i && ltb i (8 * at-index + 8)) (slotted .at-slot .ensures))
     index more (omega arith)
     (λ i l.
     also-set (bitOr settled word) (c .everywhere .result) (λ n. eqb (n % 8) index) (c .everywhere .ensures) i l
@@ -86,8 +86,8 @@ pub also-barred-spec : {M : Type 1} → statement M
 also-barred-spec =
     tie.close
     (tie.spec
-    cast-place
-    sub-place
+    cast-slot-index
+    sub-slot-index
     at-slot-requires
     returns
     cast-index

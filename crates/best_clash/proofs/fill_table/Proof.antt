@@ -8,8 +8,8 @@ use native.Mathlib.Numerals.{add-one}
 use native.Mathlib.Omega.{arith}
 use lib.ListN.{length}
 use Rattle.sheet.specs.declared.Round.{Round}
-use Rattle.auction.specs.Broken.{constraintAt}
-use Rattle.auction.specs.Proper.{ProperRound}
+use Rattle.sheet.specs.Round.{constraintAt}
+use Rattle.sheet.specs.Proper.{ProperRound}
 use Rattle.best_clash.specs.Clash.{entryAt, TableOf}
 use Rattle.best_clash.specs.Marks.{Entry, marks}
 use Rattle.best_clash.proofs.MarkLaws.{someMarks, no-marks, marks-more, entry-twice, pairs-clash, alone-clash}

@@ -12,7 +12,7 @@ use lib.Dec.{eqb, ltb}
 use lib.ListN.{getD}
 use Rattle.basis.specs.Bits.{bitOf}
 use Rattle.basis.proofs.BitLaws.{bit-or, bit-and, bit-zero, bit-single}
-use Rattle.auction.proofs.PageLaws.{same-or-not, below-or-not}
+use Rattle.basis.proofs.NumberLaws.{same-or-not, below-or-not}
 use Rattle.best_clash.proofs.BarredLaws.{barred-start}
 use Rattle.best_clash.proofs.first_barred.Statement.{statement}
 use Rattle.best_clash.proofs.first_barred.Tie as tie

@@ -17,14 +17,14 @@ returns : tie.Need-returns
 returns c =
     let a = c .before .before .before .before .args in
     λ b k j l i.
-    first-left-out (c .before .before .number .result) (a .bidder .0) (a .slot .0) (a .other .0) (a .place .0) b k j l
+    first-left-out (c .before .before .number .result) (a .bidder .0) (a .slot .0) (a .other .0) (a .others .0) b k j l
     (entryAt (a .table .now) b k j l) (c .before .before .number .ensures) (c .if1 .taken) i
 
 returns-2 : tie.Need-returns-2
 returns-2 c =
     let a = c .before .before .before .before .before .args in
     λ b k j l i.
-    second-left-out (c .before .before .number2 .result) (a .bidder .0) (a .slot .0) (a .other .0) (a .place .0) b k j l
+    second-left-out (c .before .before .number2 .result) (a .bidder .0) (a .slot .0) (a .other .0) (a .others .0) b k j l
     (entryAt (a .table .now) b k j l) (c .before .before .number2 .ensures) (c .if2 .taken) i
 
 mul-table : tie.Need-mul-table
@@ -52,7 +52,7 @@ returns-3 c =
     let p = numbered .before .before .before .pre in
     let first = numbered .before .number .ensures .told (omega arith) in
     let second = numbered .number2 .ensures .told (omega arith) in
-    store-marks (a .table .now) (a .bidder .0) (a .slot .0) (a .other .0) (a .place .0) (numbered .before .number .result) (numbered .number2 .result)
+    store-marks (a .table .now) (a .bidder .0) (a .slot .0) (a .other .0) (a .others .0) (numbered .before .number .result) (numbered .number2 .result)
     (p .0) (p .1) (first .0) (p .2) (first .1) (p .3) (second .0) (p .4) (second .1) (first .2) (second .2)
 
 pub mark-spec : {M : Type 1} → statement M

@@ -19,17 +19,17 @@ record Going (table₀ : List ℕ) (x y t : ℕ) (table : List ℕ) (n : ℕ) : 
   added : (b k j l : ℕ) → Entry b k j l → entryAt table b k j l ≡ (entryAt table₀ b k j l || someSlots x y t n b k j l)
 
 abbrev Inv-loop : tie.InvT-loop
-Inv-loop table₀ bidder other place n₀ table n = Going table₀ (bidder .0) (other .0) (place .0) table n
+Inv-loop table₀ bidder other others n₀ table n = Going table₀ (bidder .0) (other .0) (others .0) table n
 
 abbrev μ-loop : tie.MeasureT-loop
-μ-loop table₀ bidder other place n₀ table n = 8 - n
+μ-loop table₀ bidder other others n₀ table n = 8 - n
 
 loop-holds : tie.Need-loop-holds Inv-loop μ-loop
 loop-holds c =
     record {
       few = omega arith;
       size = c .before .pre .0;
-      added = λ b k j l i. no-slots (entryAt (c .before .args .table .now) b k j l) (c .before .args .bidder .0) (c .before .args .other .0) (c .before .args .place .0) b k j l i;
+      added = λ b k j l i. no-slots (entryAt (c .before .args .table .now) b k j l) (c .before .args .bidder .0) (c .before .args .other .0) (c .before .args .others .0) b k j l i;
     }
 
 add-t10 : tie.Need-add-t10 Inv-loop μ-loop
@@ -52,7 +52,7 @@ loop-again c =
     let v = c .before .before .before .before .before .loop .inv in
     let x = c .before .before .before .before .before .before .before .args .bidder .0 in
     let y = c .before .before .before .before .before .before .before .args .other .0 in
-    let t = c .before .before .before .before .before .before .before .args .place .0 in
+    let t = c .before .before .before .before .before .before .before .args .others .0 in
     let n = c .before .before .before .before .before .loop .n in
     record {
       few = omega arith;
@@ -70,7 +70,7 @@ returns c =
     let v = c .before .loop .inv in
     λ b k j l i.
     v .added b k j l i
-    ∙ every-slot (entryAt (c .before .before .before .args .table .now) b k j l) (c .before .before .before .args .bidder .0) (c .before .before .before .args .other .0) (c .before .before .before .args .place .0) (c .before .loop .n) b k j l i (omega arith)
+    ∙ every-slot (entryAt (c .before .before .before .args .table .now) b k j l) (c .before .before .before .args .bidder .0) (c .before .before .before .args .other .0) (c .before .before .before .args .others .0) (c .before .loop .n) b k j l i (omega arith)
 
 pub mark-anywhere-spec : {M : Type 1} → statement M
 mark-anywhere-spec =

@@ -21,9 +21,9 @@ returns : tie.Need-returns
 returns c =
     λ b k j l i.
     c .before .before .mark2 .ensures b k j l i
-    ∙ ap (λ (t : Bool). t || bothAre (c .before .before .before .before .before .before .before .before .before .args .other .0) (c .before .before .before .before .before .before .before .before .before .args .place .0) (c .before .before .before .before .before .before .before .before .before .args .bidder .0) (c .before .before .before .before .before .before .before .before .before .args .slot .0) b k j l) (c .before .before .before .before .before .before .mark .ensures b k j l i)
-    ∙ marked-also (entryAt (c .before .before .before .before .before .before .before .before .before .args .table .now) b k j l) (bothAre (c .before .before .before .before .before .before .before .before .before .args .bidder .0) (c .before .before .before .before .before .before .before .before .before .args .slot .0) (c .before .before .before .before .before .before .before .before .before .args .other .0) (c .before .before .before .before .before .before .before .before .before .args .place .0) b k j l)
-    (bothAre (c .before .before .before .before .before .before .before .before .before .args .other .0) (c .before .before .before .before .before .before .before .before .before .args .place .0) (c .before .before .before .before .before .before .before .before .before .args .bidder .0) (c .before .before .before .before .before .before .before .before .before .args .slot .0) b k j l)
+    ∙ ap (λ (t : Bool). t || bothAre (c .before .before .before .before .before .before .before .before .before .args .other .0) (c .before .before .before .before .before .before .before .before .before .args .others .0) (c .before .before .before .before .before .before .before .before .before .args .bidder .0) (c .before .before .before .before .before .before .before .before .before .args .slot .0) b k j l) (c .before .before .before .before .before .before .mark .ensures b k j l i)
+    ∙ marked-also (entryAt (c .before .before .before .before .before .before .before .before .before .args .table .now) b k j l) (bothAre (c .before .before .before .before .before .before .before .before .before .args .bidder .0) (c .before .before .before .before .before .before .before .before .before .args .slot .0) (c .before .before .before .before .before .before .before .before .before .args .other .0) (c .before .before .before .before .before .before .before .before .before .args .others .0) b k j l)
+    (bothAre (c .before .before .before .before .before .before .before .before .before .args .other .0) (c .before .before .before .before .before .before .before .before .before .args .others .0) (c .before .before .before .before .before .before .before .before .before .args .bidder .0) (c .before .before .before .before .before .before .before .before .before .args .slot .0) b k j l)
 
 pub mark-both-spec : {M : Type 1} → statement M
 mark-both-spec = tie.close (tie.spec mark-requires mark-requires-2 same-length returns)

@@ -3,7 +3,7 @@ use mathlib.Core.Bool.{_||_}
 use mathlib.Core.Path.{sym, _∙_, ap, subst}
 use native.Mathlib.Omega.{arith}
 use Rattle.sheet.specs.declared.Kind.{Kind}
-use Rattle.auction.specs.Proper.{ProperKind}
+use Rattle.sheet.specs.Proper.{ProperKind}
 use Rattle.best_clash.specs.Clash.{entryAt}
 use Rattle.best_clash.specs.Marks.{marks}
 use borrow.Author.Needs.{needs}
@@ -17,7 +17,7 @@ mark-requires : tie.Need-mark-requires
 mark-requires c κs =
     let p = c .before .before .before .before .before .before .pre in
     let owned = p .1 .owned in
-    let named = subst (ProperKind (c .before .before .before .before .before .before .args .constraint .owner .0)) (c .before .before .kind .given .1) (p .1 .named) in
+    let named = subst (ProperKind (c .before .before .before .before .before .before .args .constraint .owner .0)) (c .before .before .kind .given .1) (p .1 .parts) in
     (p .0, omega arith, named .0, omega arith, named .0)
 
 enum-known-kind-2 : tie.Need-enum-known-kind-2
@@ -27,7 +27,7 @@ mark-anywhere-requires : tie.Need-mark-anywhere-requires
 mark-anywhere-requires c κs =
     let p = c .before .before .before .before .before .before .pre in
     let owned = p .1 .owned in
-    let named = subst (ProperKind (c .before .before .before .before .before .before .args .constraint .owner .0)) (c .before .before .kind2 .given .1) (p .1 .named) in
+    let named = subst (ProperKind (c .before .before .before .before .before .before .args .constraint .owner .0)) (c .before .before .kind2 .given .1) (p .1 .parts) in
     let some = named .0 in
     (p .0, omega arith, omega arith, named .3)
 
@@ -38,9 +38,9 @@ mark-both-requires : tie.Need-mark-both-requires
 mark-both-requires c κs =
     let p = c .before .before .before .before .before .before .pre in
     let owned = p .1 .owned in
-    let named = subst (ProperKind (c .before .before .before .before .before .before .args .constraint .owner .0)) (c .before .before .kind3 .given .1) (p .1 .named) in
+    let named = subst (ProperKind (c .before .before .before .before .before .before .args .constraint .owner .0)) (c .before .before .kind3 .given .1) (p .1 .parts) in
     let some = named .0 in
-    let place = named .3 in
+    let others = named .3 in
     let own = named .5 in
     (p .0, omega arith, omega arith, omega arith, omega arith)
 

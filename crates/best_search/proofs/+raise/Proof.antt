@@ -10,9 +10,9 @@ use native.Mathlib.Omega.{arith}
 use lib.ListN.{length, getD, List·getD-eq-default}
 use Rattle.sheet.specs.declared.Page.{Page}
 use Rattle.auction.specs.Page.{put}
-use Rattle.auction.proofs.PageLaws.{below-or-not}
+use Rattle.basis.proofs.NumberLaws.{below-or-not}
 use Rattle.best_search.specs.declared.Prospect.{Prospect}
-use Rattle.best_search.specs.Best.{Allowed, total}
+use Rattle.auction.specs.Allowed.{Allowed, total}
 use Rattle.best_search.specs.Node.{Node, openTo, Lent, Leads, Raised}
 use Rattle.best_search.proofs.NodeLaws.{leaf-total}
 use Rattle.best_search.proofs.ChoiceLaws.{led-node, product-low}

@@ -14,11 +14,11 @@ use Rattle.sheet.specs.declared.Round.{Round}
 use Rattle.auction.specs.Page.{at, put, Sized}
 use Rattle.auction.proofs.PageLaws.{put-sized, at-put-other}
 use Rattle.best_clash.specs.Clash.{BarredBy}
-use Rattle.best_search.specs.declared.Answer.{Answer}
+use Rattle.best_page.specs.declared.Answer.{Answer}
+use Rattle.best_page.specs.Search.{Searched, Agrees, Tried}
+use Rattle.best_page.proofs.TriedLaws.{none-tried, choice-tried, choice-nowhere, all-tried}
 use Rattle.best_search.specs.declared.Prospect.{Prospect}
-use Rattle.best_search.specs.Search.{Searched}
-use Rattle.best_search.specs.Node.{TablesOf, Node, Agrees, Tried, openTo, Lent, Leads, Attempt}
-use Rattle.best_search.proofs.StepLaws.{none-tried, choice-tried, choice-nowhere, all-tried}
+use Rattle.best_search.specs.Node.{TablesOf, Node, openTo, Lent, Leads, Attempt}
 use Rattle.best_search.proofs.ChoiceLaws.{settled-found, settled-small, led-node, led-small, led-nowhere, product-low}
 use borrow.Author.Needs.{needs}
 use borrow.Fn.Kinds.{In}

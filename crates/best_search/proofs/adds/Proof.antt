@@ -6,7 +6,7 @@ use native.Mathlib.Omega.{arith}
 use lib.ListN.{getD}
 use Rattle.choice.specs.Tables.{bidIn}
 use Rattle.choice.proofs.PlacingLaws.{bid-index}
-use Rattle.best_bound.specs.Bound.{listed}
+use Rattle.best_bound.specs.Bound.{nth}
 use borrow.Author.Needs.{needs}
 use Rattle.best_search.proofs.adds.Statement.{statement}
 use Rattle.best_search.proofs.adds.Tie as tie
@@ -18,7 +18,7 @@ returns : tie.Need-returns
 unfolding bidIn
 returns c =
     let e = c .if1 .taken in
-    sym (ap (λ (b : ℕ). bidIn (c .before .before .args .bids .now) b * listed (c .before .before .args .effects .now) (c .before .before .args .index)) e ∙ zero-mul _)
+    sym (ap (λ (b : ℕ). bidIn (c .before .before .args .bids .now) b * nth (c .before .before .args .effects .now) (c .before .before .args .index)) e ∙ zero-mul _)
 
 cast-i : tie.Need-cast-i
 cast-i c = search needs
@@ -50,7 +50,7 @@ mul-result-3 c =
     omega arith
 
 returns-2 : tie.Need-returns-2
-unfolding listed
+unfolding nth
 returns-2 c = ap (λ (x : ℕ). x * getD (c .before .before .before .before .before .args .effects .now) (c .before .before .before .before .before .args .index) 0) (sym (bid-index (c .before .before .before .before .before .args .bids .now) (c .before .before .before .before .before .args .bidder .0) (let some = c .before .before .before .if1 .left in omega arith)))
 
 pub adds-spec : {M : Type 1} → statement M

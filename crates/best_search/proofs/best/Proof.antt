@@ -8,10 +8,10 @@ use Rattle.sheet.specs.declared.Round.{Round}
 use Rattle.sheet.specs.Sheet.{bidderCount, slotCount}
 use Rattle.sheet.specs.Refusal.{Accepted}
 use Rattle.sheet.specs.Round.{roundOf}
-use Rattle.sheet.proofs.ReadingLaws.{read-number, read-round}
-use Rattle.auction.specs.Proper.{ProperRound}
-use Rattle.auction.proofs.AcceptedLaws.{round-proper}
-use Rattle.best_search.proofs.BestPageLaws.{is-best-page}
+use Rattle.sheet_read.proofs.ReadingLaws.{read-number, read-round}
+use Rattle.sheet.specs.Proper.{ProperRound}
+use Rattle.sheet.proofs.RoundLaws.{round-proper}
+use Rattle.best_page.proofs.BestPageLaws.{is-best-page}
 use Rattle.best_search.proofs.CallLaws.{sheet-refused, bidders-many, slots-many, buffer-short, best-given}
 use borrow.Author.Needs.{needs}
 use Rattle.best_search.proofs.best.Statement.{statement}

@@ -5,7 +5,7 @@ use native.Mathlib.Numerals.{add-one}
 use native.Mathlib.Omega.{arith}
 use lib.ListN.{length}
 use Rattle.choice.specs.Tables.{bidIn}
-use Rattle.best_bound.specs.Bound.{addAfter, liveIn, listed}
+use Rattle.best_bound.specs.Bound.{addAfter, eligibleIn, nth}
 use Rattle.best_search.proofs.ChoiceLaws.{added-low, product-low}
 use borrow.Author.Needs.{needs}
 use Rattle.best_search.proofs.look_ahead.Statement.{statement}
@@ -59,7 +59,7 @@ add-most c =
     let few = p .0 .few-bidders in
     let low = subst (λ (n : ℕ). n ≤ 1_000_000_000_000_000) (sym (c .before .adds .ensures)) (product-low (a .bids .now) (a .effects .now) _ _ (p .0 .bids-low) (p .0 .effects-low)) in
     let d = c .most-added .ensures in
-    let most = added-low (liveIn (c .before .before .also-barred .result)) (listed (a .ranked .now)) (a .bids .now) (a .effects .now) (a .«from» + 1) 16 (length (a .ranked .now)) (p .0 .bids-low) (p .0 .effects-low) in
+    let most = added-low (eligibleIn (c .before .before .also-barred .result)) (nth (a .ranked .now)) (a .bids .now) (a .effects .now) (a .«from» + 1) 16 (length (a .ranked .now)) (p .0 .bids-low) (p .0 .effects-low) in
     omega arith
 
 returns : tie.Need-returns
@@ -71,7 +71,7 @@ returns c =
       most-is =
           ap (λ (n : ℕ). a .had + c .before .adds .result + n)
           (c .most-added .ensures
-          ∙ ap (λ (n : ℕ). addAfter (liveIn (c .before .before .also-barred .result)) (listed (a .ranked .now)) (bidIn (a .bids .now)) (listed (a .effects .now)) n 16 (length (a .ranked .now))) (add-one (a .«from»)));
+          ∙ ap (λ (n : ℕ). addAfter (eligibleIn (c .before .before .also-barred .result)) (nth (a .ranked .now)) (bidIn (a .bids .now)) (nth (a .effects .now)) n 16 (length (a .ranked .now))) (add-one (a .«from»)));
     }
 
 pub look-ahead-spec : {M : Type 1} → statement M

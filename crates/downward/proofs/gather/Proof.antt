@@ -7,7 +7,7 @@ use native.Mathlib.Nat.{le-antisymm}
 use native.Mathlib.Numerals.{add-one}
 use native.Mathlib.Omega.{arith}
 use lib.ListN.{length-replicate}
-use Rattle.auction.specs.Broken.{constraintAt}
+use Rattle.sheet.specs.Round.{constraintAt}
 use Rattle.downward.specs.Keys.{Gathered}
 use Rattle.downward.proofs.GatherLaws.{none-gathered, own-gathered, other-passed}
 use borrow.Author.Needs.{needs}

@@ -5,13 +5,14 @@ use mathlib.Core.Bool.{Bool}
 use mathlib.Core.List.{List}
 use mathlib.Core.Path.{_≡_, sym, _∙_, ap, subst}
 use native.Mathlib.Omega.{arith}
-use Rattle.sheet.specs.declared.Reading.{Reading}
+use Rattle.sheet_read.specs.declared.Reading.{Reading}
+use Rattle.sheet_read.specs.Reading.{readingOf}
+use Rattle.sheet_read.proofs.ReadingLaws.{read-number, read-round}
+use Rattle.sheet.specs.Proper.{ProperRound}
+use Rattle.sheet.proofs.RoundLaws.{round-proper}
 use Rattle.sheet.specs.declared.Round.{Round}
 use Rattle.sheet.specs.Refusal.{refusalOf, Accepted}
-use Rattle.sheet.specs.Round.{roundOf, readingOf}
-use Rattle.sheet.proofs.ReadingLaws.{read-number, read-round}
-use Rattle.auction.specs.Proper.{ProperRound}
-use Rattle.auction.proofs.AcceptedLaws.{round-proper}
+use Rattle.sheet.specs.Round.{roundOf}
 use Rattle.downward.specs.Downward.{downward}
 use Rattle.downward.proofs.CallLaws.{sheet-refused, no-bidder, bidder-above, list-tested}
 use borrow.Author.Needs.{needs}

@@ -8,7 +8,8 @@ use native.Mathlib.Omega.{arith}
 use lib.Dec.{eqb}
 use Rattle.basis.specs.Tests.{anyBelow}
 use Rattle.basis.proofs.TestLaws.{any-at, or-fails}
-use Rattle.auction.specs.Broken.{broken, constraintAt}
+use Rattle.auction.specs.Broken.{broken}
+use Rattle.sheet.specs.Round.{constraintAt}
 use Rattle.gain.specs.Gain.{breaksOwn}
 use Rattle.gain.proofs.breaks_own.Statement.{statement}
 use Rattle.gain.proofs.breaks_own.Tie as tie

@@ -6,9 +6,9 @@ use native.Mathlib.Omega.{arith}
 use Rattle.sheet.specs.declared.Round.{Round}
 use Rattle.sheet.specs.Refusal.{Accepted}
 use Rattle.sheet.proofs.AcceptedLaws.{accepted-sheet}
-use Rattle.sheet.proofs.ReadingLaws.{read-number, read-round}
-use Rattle.auction.specs.Proper.{ProperRound}
-use Rattle.auction.proofs.AcceptedLaws.{round-proper}
+use Rattle.sheet_read.proofs.ReadingLaws.{read-number, read-round}
+use Rattle.sheet.specs.Proper.{ProperRound}
+use Rattle.sheet.proofs.RoundLaws.{round-proper}
 use Rattle.gain.specs.Gain.{gainOf}
 use Rattle.gain.specs.Call.{laterRefusal}
 use Rattle.gain.proofs.CallLaws.{played-refused, later-refused, later-accepted, gained}

@@ -5,7 +5,7 @@ use mathlib.Core.Bool.{not, _&&_, and-true}
 use mathlib.Core.Path.{_≡_, sym, _∙_, ap, subst}
 use native.Mathlib.Omega.{arith}
 use Rattle.sheet.specs.declared.Kind.{Kind}
-use Rattle.auction.specs.Proper.{ProperKind}
+use Rattle.sheet.specs.Proper.{ProperKind}
 use Rattle.greedy.specs.Barred.{openAt, barsOwn}
 use Rattle.greedy.specs.Chains.{ownerOf, otherOf, ownerKey, otherKey}
 use Rattle.greedy.proofs.ChainLaws.{falling-more, chained-skip}
@@ -21,9 +21,9 @@ bar-requires c κs =
     let q = c .before .before .before .before .before .before .before .before .before .args .constraint in
     let p = c .before .before .before .before .before .before .before .before .before .pre in
     let e = c .before .before .kind .given .1 in
-    let named = subst (ProperKind (q .owner .0)) e (p .0 .1 .named) in
+    let named = subst (ProperKind (q .owner .0)) e (p .0 .1 .parts) in
     let owned = p .0 .1 .owned in
-    let listed = p .0 .1 .listed in
+    let listed = p .0 .1 .in-range in
     (p .0 .0, named, (omega arith, omega arith))
 
 enum-known-kind-2 : tie.Need-enum-known-kind-2
@@ -37,9 +37,9 @@ standing-key-requires-2 c κs =
     let q = c .before .before .before .before .before .before .before .before .before .args .constraint in
     let p = c .before .before .before .before .before .before .before .before .before .pre in
     let e = c .before .before .kind2 .given .1 in
-    let named = subst (ProperKind (q .owner .0)) e (p .0 .1 .named) in
+    let named = subst (ProperKind (q .owner .0)) e (p .0 .1 .parts) in
     let owned = p .0 .1 .owned in
-    let listed = p .0 .1 .listed in
+    let listed = p .0 .1 .in-range in
     let j-most = named .2 in
     let x-most = named .4 in
     (omega arith, omega arith)
@@ -49,9 +49,9 @@ link-requires c κs =
     let q = c .before .before .before .before .before .before .before .before .before .before .before .before .before .args .constraint in
     let p = c .before .before .before .before .before .before .before .before .before .before .before .before .before .pre in
     let e = c .before .before .before .before .before .before .kind2 .given .1 in
-    let named = subst (ProperKind (q .owner .0)) e (p .0 .1 .named) in
+    let named = subst (ProperKind (q .owner .0)) e (p .0 .1 .parts) in
     let owned = p .0 .1 .owned in
-    let listed = p .0 .1 .listed in
+    let listed = p .0 .1 .in-range in
     let one = c .before .before .before .before .standing-key .ensures in
     let two = c .before .before .before .standing-key2 .ensures in
     let j-most = named .2 in
@@ -66,9 +66,9 @@ standing-key-requires-3 c κs =
     let q = c .before .before .before .before .before .before .before .before .args .constraint in
     let p = c .before .before .before .before .before .before .before .before .pre in
     let e = c .before .kind3 .given .1 in
-    let named = subst (ProperKind (q .owner .0)) e (p .0 .1 .named) in
+    let named = subst (ProperKind (q .owner .0)) e (p .0 .1 .parts) in
     let owned = p .0 .1 .owned in
-    let listed = p .0 .1 .listed in
+    let listed = p .0 .1 .in-range in
     let j-most = named .2 in
     let x-most = named .4 in
     let t-most = named .6 in
@@ -79,9 +79,9 @@ standing-key-requires-4 c κs =
     let q = c .before .before .before .before .before .before .before .before .before .args .constraint in
     let p = c .before .before .before .before .before .before .before .before .before .pre in
     let e = c .before .before .kind3 .given .1 in
-    let named = subst (ProperKind (q .owner .0)) e (p .0 .1 .named) in
+    let named = subst (ProperKind (q .owner .0)) e (p .0 .1 .parts) in
     let owned = p .0 .1 .owned in
-    let listed = p .0 .1 .listed in
+    let listed = p .0 .1 .in-range in
     let j-most = named .2 in
     let x-most = named .4 in
     let t-most = named .6 in
@@ -92,9 +92,9 @@ link-requires-2 c κs =
     let q = c .before .before .before .before .before .before .before .before .before .before .before .before .before .args .constraint in
     let p = c .before .before .before .before .before .before .before .before .before .before .before .before .before .pre in
     let e = c .before .before .before .before .before .before .kind3 .given .1 in
-    let named = subst (ProperKind (q .owner .0)) e (p .0 .1 .named) in
+    let named = subst (ProperKind (q .owner .0)) e (p .0 .1 .parts) in
     let owned = p .0 .1 .owned in
-    let listed = p .0 .1 .listed in
+    let listed = p .0 .1 .in-range in
     let one = c .before .before .before .before .standing-key3 .ensures in
     let two = c .before .before .before .standing-key4 .ensures in
     let j-most = named .2 in
@@ -111,9 +111,9 @@ returns c =
     let q = c .before .before .before .before .before .before .before .before .before .before .before .before .args .constraint in
     let p = c .before .before .before .before .before .before .before .before .before .before .before .before .pre in
     let e = c .before .before .before .before .before .kind .given .1 in
-    let named = subst (ProperKind (q .owner .0)) e (p .0 .1 .named) in
+    let named = subst (ProperKind (q .owner .0)) e (p .0 .1 .parts) in
     let owned = p .0 .1 .owned in
-    let listed = p .0 .1 .listed in (
+    let listed = p .0 .1 .in-range in (
       (λ l b l-most b-most.
           c .before .before .bar .ensures l b l-most b-most
           ∙ ap (λ (kind : Kind). openAt (c .before .before .before .before .before .before .before .before .before .before .before .before .args .table .now) l b && not (barsOwn kind (q .owner .0) l b)) (sym e)),
@@ -139,9 +139,9 @@ returns-2 c =
     let q = c .before .before .before .before .before .before .before .before .before .before .before .before .before .before .before .before .before .before .before .before .args .constraint in
     let p = c .before .before .before .before .before .before .before .before .before .before .before .before .before .before .before .before .before .before .before .before .pre in
     let e = c .before .before .before .before .before .before .before .before .before .before .before .before .before .kind2 .given .1 in
-    let named = subst (ProperKind (q .owner .0)) e (p .0 .1 .named) in
+    let named = subst (ProperKind (q .owner .0)) e (p .0 .1 .parts) in
     let owned = p .0 .1 .owned in
-    let listed = p .0 .1 .listed in (
+    let listed = p .0 .1 .in-range in (
       λ l b l-most b-most.
           sym
           (ap (λ (kind : Kind). openAt (c .before .before .before .before .before .before .before .before .before .before .before .before .before .before .before .before .before .before .before .before .args .table .now) l b && not (barsOwn kind (q .owner .0) l b)) e
@@ -170,9 +170,9 @@ returns-3 c =
     let q = c .before .before .before .before .before .before .before .before .before .before .before .before .before .before .before .before .before .before .before .before .args .constraint in
     let p = c .before .before .before .before .before .before .before .before .before .before .before .before .before .before .before .before .before .before .before .before .pre in
     let e = c .before .before .before .before .before .before .before .before .before .before .before .before .before .kind3 .given .1 in
-    let named = subst (ProperKind (q .owner .0)) e (p .0 .1 .named) in
+    let named = subst (ProperKind (q .owner .0)) e (p .0 .1 .parts) in
     let owned = p .0 .1 .owned in
-    let listed = p .0 .1 .listed in (
+    let listed = p .0 .1 .in-range in (
       λ l b l-most b-most.
           sym
           (ap (λ (kind : Kind). openAt (c .before .before .before .before .before .before .before .before .before .before .before .before .before .before .before .before .before .before .before .before .args .table .now) l b && not (barsOwn kind (q .owner .0) l b)) e

@@ -9,7 +9,7 @@ use native.Mathlib.Omega.{arith}
 use lib.ListN.{length}
 use Rattle.basis.specs.Tests.{anyBelow}
 use Rattle.sheet.specs.declared.Round.{Round}
-use Rattle.auction.specs.Broken.{constraintAt}
+use Rattle.sheet.specs.Round.{constraintAt}
 use Rattle.greedy.specs.Barred.{openAt, barsOwn, barredOwn}
 use Rattle.greedy.specs.Chains.{Falling, Chained}
 use Rattle.greedy.proofs.TableLaws.{barred-also}

@@ -9,7 +9,7 @@ use borrow.Author.Tests.{eq-eqb, ne-eqb}
 use lib.Dec.{eqb}
 use lib.ListN.{length, getD, set, length-set}
 use lib.Seq.{getD-set-same, getD-set-other}
-use Rattle.auction.proofs.PageLaws.{same-or-not}
+use Rattle.basis.proofs.NumberLaws.{same-or-not}
 use Rattle.greedy.specs.Chains.{standing, bars, isHeld}
 use borrow.Author.Needs.{needs}
 use Rattle.greedy.proofs.hold.Statement.{statement}

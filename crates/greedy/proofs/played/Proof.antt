@@ -6,7 +6,8 @@ use Rattle.basis.specs.Rows.{padded}
 use Rattle.sheet.specs.declared.Round.{Round}
 use Rattle.choice.specs.Tables.{bidIn}
 use Rattle.choice.proofs.WinnerLaws.{winner-most}
-use Rattle.auction.specs.Greedy.{bidOf, pageUpTo, greedyPage}
+use Rattle.auction.specs.Greedy.{pageUpTo, greedyPage}
+use Rattle.sheet.specs.Round.{bidOf}
 use Rattle.auction.specs.Price.{price}
 use Prim.Native.Nat.{ℕ, suc, _+_, _-_, _≤_}
 use native.Mathlib.Nat.{le-antisymm}

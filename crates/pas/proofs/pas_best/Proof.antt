@@ -1,6 +1,6 @@
 -- `pas::pas_best` meets its contract: the best page's number decides whether its total is written; the buffer is what the search left.
 -- Assumes nothing.
-use Rattle.pas.proofs.PlaceLaws.{best-refused, best-answered}
+use Rattle.pas.proofs.AnswerLaws.{best-refused, best-answered}
 use borrow.Author.Needs.{needs}
 use Rattle.pas.proofs.pas_best.Statement.{statement}
 use Rattle.pas.proofs.pas_best.Tie as tie

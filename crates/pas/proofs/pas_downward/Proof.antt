@@ -1,5 +1,5 @@
 -- `pas::pas_downward` meets its contract: the test's number decides whether its answer is written. Assumes nothing.
-use Rattle.pas.proofs.PlaceLaws.{test-refused, test-answered}
+use Rattle.pas.proofs.AnswerLaws.{test-refused, test-answered}
 use borrow.Author.Needs.{needs}
 use Rattle.pas.proofs.pas_downward.Statement.{statement}
 use Rattle.pas.proofs.pas_downward.Tie as tie

@@ -1,7 +1,7 @@
 -- `pas::pas_gain` meets its contract: the gain call's number decides whether the gain is written. Assumes nothing.
 use mir.Facts.{toZ-ofZ}
 use mir.Syntax.{w64}
-use Rattle.pas.proofs.PlaceLaws.{gain-refused, gain-answered}
+use Rattle.pas.proofs.AnswerLaws.{gain-refused, gain-answered}
 use borrow.Author.Needs.{needs}
 use Rattle.pas.proofs.pas_gain.Statement.{statement}
 use Rattle.pas.proofs.pas_gain.Tie as tie

@@ -10,11 +10,11 @@ use Rattle.basis.proofs.RowLaws.{length-padded}
 use Rattle.sheet.specs.declared.Round.{Round}
 use Rattle.sheet.specs.Refusal.{Accepted}
 use Rattle.sheet.specs.Round.{roundOf}
-use Rattle.sheet.proofs.ReadingLaws.{read-number, read-round}
+use Rattle.sheet_read.proofs.ReadingLaws.{read-number, read-round}
+use Rattle.sheet.specs.Proper.{ProperRound}
+use Rattle.sheet.proofs.RoundLaws.{round-proper}
 use Rattle.auction.specs.Greedy.{greedyPage}
 use Rattle.auction.specs.Price.{price}
-use Rattle.auction.specs.Proper.{ProperRound}
-use Rattle.auction.proofs.AcceptedLaws.{round-proper}
 use Rattle.auction.proofs.GreedyLaws.{upTo-sized}
 use Rattle.greedy.specs.declared.Outcome.{Outcome}
 use Rattle.greedy.specs.Outcome.{outcomeOf}

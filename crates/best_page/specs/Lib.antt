@@ -1,0 +1,3 @@
+pub mod Best
+pub mod BestPage
+pub mod Search

@@ -1,0 +1,33 @@
+-- Demand 3, over what the calls return.
+use Prim.Native.Nat.{ℕ, _<_, _≤_}
+use mathlib.Core.Bool.{true}
+use mathlib.Core.List.{List}
+use mathlib.Core.Path.{_≡_}
+use lib.Signed.{_≤ℤ_}
+use Rattle.sheet.specs.declared.Constraint.{Constraint}
+use Rattle.sheet.specs.Sheet.{bidderCount, slotCount, effectField, bidField}
+use Rattle.sheet.specs.Refusal.{Accepted}
+use Rattle.sheet.specs.Round.{SheetHas}
+use Rattle.downward.specs.Call.{testedOf}
+use Rattle.gain.specs.Call.{gainedOf}
+
+-- "Two sheets differ only in one bidder's list when n, m, effects, bids and, for each other owner, the set of conditions are equal."
+pub record DifferOnlyInList (i : ℕ) (s t : List ℕ) : Type 0 where
+  pub same-n : bidderCount s ≡ bidderCount t
+  pub same-m : slotCount s ≡ slotCount t
+  pub same-effects : (k : ℕ) → 0 < k → k ≤ slotCount s → effectField s k ≡ effectField t k
+  pub same-bids : (b : ℕ) → 0 < b → b ≤ bidderCount s → bidField s b ≡ bidField t b
+  pub there : (q : Constraint) → (q .owner .0 ≡ i → ⊥) → SheetHas s q → SheetHas t q
+  pub back : (q : Constraint) → (q .owner .0 ≡ i → ⊥) → SheetHas t q → SheetHas s q
+
+-- Let an honest sheet and another differ only in bidder i's list, and let the other's list be downward monotonic. At any worth from
+-- i's bid up, the gain with the other sheet played is at most the gain with the honest sheet played; the honest sheet tells the truth
+-- in both.
+unfoldable pub Honesty : Type 0
+Honesty =
+    (honest other : List ℕ) (i worth : ℕ) → Accepted honest → Accepted other → DifferOnlyInList i honest other →
+    testedOf other i ≡ record { refusal = 0; yes = true } →
+    bidField honest i ≤ worth → worth ≤ 1_000_000_000 →
+    (gainedOf honest honest i worth .refusal ≡ 0)
+    × (gainedOf other honest i worth .refusal ≡ 0)
+    × (gainedOf other honest i worth .gain ≤ℤ gainedOf honest honest i worth .gain)

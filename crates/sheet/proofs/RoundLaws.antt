@@ -1,0 +1,151 @@
+-- An accepted sheet's round has all that the laws ask of a round. Assumes nothing.
+use Prim.Native.Nat.{ℕ, zero, suc, _<_, _≤_}
+use mathlib.Core.List.{List}
+use mathlib.Core.Logic.{_⊎_, inl, inr, ⊎-elim}
+use mathlib.Core.Path.{_≡_, refl, sym, _∙_, ap, subst}
+use native.Mathlib.Nat.{not-suc-le-zero}
+use native.Mathlib.Omega.{arith}
+use lib.ListN.{length, getD}
+use Rattle.basis.specs.Rows.{padded}
+use Rattle.basis.proofs.RowLaws.{length-padded, getD-padded, getD-padded-after}
+use Rattle.sheet.specs.declared.Bidder.{Bidder}
+use Rattle.sheet.specs.declared.Constraint.{Constraint}
+use Rattle.sheet.specs.declared.Round.{Round}
+use Rattle.sheet.specs.Sheet.{
+  bidderCount,
+  slotCount,
+  constraintCount,
+  effectField,
+  bidField,
+  ownerField,
+  ownSlotField,
+  otherField,
+  otherSlotField,
+}
+use Rattle.sheet.specs.Refusal.{effectBefore, Accepted}
+use Rattle.sheet.specs.Round.{bidder, slot, kindOf, constraintField, blank, roundOf, bidOf, effectOf, constraintAt, Has, SheetHas}
+use Rattle.sheet.proofs.AcceptedLaws.{accepted-sheet}
+use Rattle.sheet.specs.Accepted.{ConstraintAccepted, AcceptedSheet}
+use Rattle.sheet.specs.Proper.{ProperKind, Proper, ProperRound}
+use Rattle.basis.proofs.NumberLaws.{below-or-not}
+
+proper-kind : (n m owner own other others : ℕ) → n ≤ 64 → m ≤ 16 → ConstraintAccepted n m owner own other others →
+    ProperKind owner (kindOf own other others)
+unfolding kindOf
+proper-kind n m owner own zero others x y a =
+    ((let h : own ≡ 0 → ⊥ = (λ z. a .not-empty z refl) in omega arith), (let h = a .most-own in omega arith))
+proper-kind n m owner zero (suc other) others x y a = (
+  λ e. absurd (omega arith),
+  a .different,
+  (let h = a .most-other in omega arith),
+  (let h : others ≡ 0 → ⊥ = (λ z. absurd (let e : suc other ≡ 0 = a .together-back z in omega arith)) in omega arith),
+  (let h = a .most-others in omega arith),
+)
+proper-kind n m owner (suc own) (suc other) others x y a = (
+  λ e. absurd (omega arith),
+  a .different,
+  (let h = a .most-other in omega arith),
+  (let h : others ≡ 0 → ⊥ = (λ z. absurd (let e : suc other ≡ 0 = a .together-back z in omega arith)) in omega arith),
+  (let h = a .most-others in omega arith),
+  omega arith,
+  (let h = a .most-own in omega arith),
+)
+
+module _ (s : List ℕ) (ok : Accepted s) where
+  facts : AcceptedSheet s
+  facts = accepted-sheet s ok
+
+  -- the round's constraint at an index is the sheet's
+  pub round-constraint : (i : ℕ) → i < constraintCount s → constraintAt (roundOf s) i ≡ constraintField s i
+  unfolding roundOf constraintAt
+  round-constraint i l = getD-padded (constraintField s) (constraintCount s) 1024 blank blank i l
+
+  -- so are its bids and effects
+  pub round-bid : (b : ℕ) → b ≤ bidderCount s → bidOf (roundOf s) b ≡ bidField s b
+  unfolding roundOf bidOf bidField
+  round-bid zero l = refl
+  round-bid (suc i) l = getD-padded (λ i. bidField s (suc i)) (bidderCount s) 64 0 0 i l
+
+  pub round-effect : (k : ℕ) → k ≤ slotCount s → effectOf (roundOf s) k ≡ effectField s k
+  unfolding roundOf effectOf effectField
+  round-effect zero l = refl
+  round-effect (suc k) l = getD-padded (λ k. effectField s (suc k)) (slotCount s) 16 0 0 k l
+
+  no-effect-after : (k : ℕ) → slotCount s < k → effectOf (roundOf s) k ≡ 0
+  unfolding roundOf effectOf
+  no-effect-after zero l = refl
+  no-effect-after (suc k) l = getD-padded-after (λ k. effectField s (suc k)) (slotCount s) 16 0 k (facts .counts .most-slots) (omega arith)
+
+  no-bid-after : (b : ℕ) → bidderCount s < b → bidOf (roundOf s) b ≡ 0
+  unfolding roundOf bidOf
+  no-bid-after zero l = refl
+  no-bid-after (suc i) l = getD-padded-after (λ i. bidField s (suc i)) (bidderCount s) 64 0 i (facts .counts .most-bidders) (omega arith)
+
+  low-bid : (b : ℕ) → bidOf (roundOf s) b ≤ 1_000_000_000
+  unfolding bidOf
+  low-bid zero = omega arith
+  low-bid (suc i) =
+      ⊎-elim
+      (λ (l : bidderCount s < suc i). let e = no-bid-after (suc i) l in omega arith)
+      (λ (l : suc i ≤ bidderCount s). let e = round-bid (suc i) l in let h = facts .bids (suc i) (omega arith) l .most in omega arith)
+      (below-or-not (bidderCount s) (suc i))
+
+  low-effect : (k : ℕ) → effectOf (roundOf s) k ≤ 1_000_000
+  unfolding effectOf
+  low-effect zero = omega arith
+  low-effect (suc k) =
+      ⊎-elim
+      (λ (l : slotCount s < suc k). let e = no-effect-after (suc k) l in omega arith)
+      (λ (l : suc k ≤ slotCount s). let e = round-effect (suc k) l in let h = facts .effects (suc k) (omega arith) l .most in omega arith)
+      (below-or-not (slotCount s) (suc k))
+
+  effects-fall : (k : ℕ) → 0 < k → effectOf (roundOf s) (suc k) ≤ effectOf (roundOf s) k
+  effects-fall zero l = absurd (not-suc-le-zero l)
+  effects-fall (suc k) p =
+      ⊎-elim
+      (λ (l : slotCount s < suc (suc k)). let e = no-effect-after (suc (suc k)) l in omega arith)
+      (λ (l : suc (suc k) ≤ slotCount s).
+      let e = round-effect (suc (suc k)) l in
+      let e′ = round-effect (suc k) (omega arith) in
+      let h : effectField s (suc (suc k)) ≤ effectField s (suc k) = facts .effects (suc (suc k)) (omega arith) l .no-rise in
+      omega arith)
+      (below-or-not (slotCount s) (suc (suc k)))
+
+  field-proper : (i : ℕ) → i < constraintCount s → Proper (constraintField s i)
+  unfolding constraintField
+  field-proper i l =
+      let a = facts .constraints i l in
+      record {
+        owned = λ e. absurd (let h = a .some-owner in omega arith);
+        in-range = (let h = a .most-owner in let t = facts .counts .most-bidders in omega arith);
+        parts =
+            proper-kind (bidderCount s) (slotCount s) (ownerField s i) (ownSlotField s i) (otherField s i) (otherSlotField s i)
+            (facts .counts .most-bidders) (facts .counts .most-slots) a;
+      }
+
+  pub round-proper : ProperRound (roundOf s)
+  unfolding roundOf
+  round-proper =
+      record {
+        some-bidders = facts .counts .some-bidders;
+        most-bidders = facts .counts .most-bidders;
+        some-slots = facts .counts .some-slots;
+        most-slots = facts .counts .most-slots;
+        most-used = facts .counts .most-constraints;
+        sized-effects = length-padded (λ k. effectField s (suc k)) (slotCount s) 16 0 (facts .counts .most-slots);
+        sized-bids = length-padded (λ i. bidField s (suc i)) (bidderCount s) 64 0 (facts .counts .most-bidders);
+        sized-constraints = length-padded (constraintField s) (constraintCount s) 1024 blank (facts .counts .most-constraints);
+        most-bid = low-bid;
+        most-effect = low-effect;
+        no-rise = effects-fall;
+        proper = λ q h. subst Proper (sym (round-constraint (h .0) (h .1)) ∙ h .2) (field-proper (h .0) (h .1));
+      }
+
+  -- what the sheet has is what its round has
+  pub sheet-round : (q : Constraint) → SheetHas s q → Has (roundOf s) q
+  unfolding roundOf
+  sheet-round q h = (h .0, h .1, round-constraint (h .0) (h .1) ∙ h .2)
+
+  pub round-sheet : (q : Constraint) → Has (roundOf s) q → SheetHas s q
+  unfolding roundOf
+  round-sheet q h = (h .0, h .1, sym (round-constraint (h .0) (h .1)) ∙ h .2)

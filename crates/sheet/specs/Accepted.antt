@@ -1,0 +1,68 @@
+-- All that is true of an accepted sheet, rule by rule. That an accepted sheet has these facts, and that a sheet with them is accepted,
+-- are laws (proofs/AcceptedLaws.antt): a new rule is a new field here.
+use Prim.Native.Nat.{ℕ, _<_, _≤_}
+use mathlib.Core.Bool.{true}
+use mathlib.Core.List.{List}
+use mathlib.Core.Path.{_≡_}
+use lib.ListN.{length}
+use Rattle.sheet.specs.Sheet.{
+  version,
+  bidderCount,
+  slotCount,
+  constraintCount,
+  sheetLength,
+  effectField,
+  bidField,
+  ownerField,
+  ownSlotField,
+  otherField,
+  otherSlotField,
+}
+use Rattle.sheet.specs.Refusal.{marked, effectBefore}
+
+-- 1 to 3: the header's length, the mark and the version
+pub record Form (s : List ℕ) : Type 0 where
+  pub header : 9 ≤ length s
+  pub mark : marked s ≡ true
+  pub first : version s ≡ 1
+
+-- 4 to 7: the counts and the length
+pub record Counts (s : List ℕ) : Type 0 where
+  pub some-bidders : 0 < bidderCount s
+  pub most-bidders : bidderCount s ≤ 64
+  pub some-slots : 0 < slotCount s
+  pub most-slots : slotCount s ≤ 16
+  pub most-constraints : constraintCount s ≤ 1024
+  pub whole : length s ≡ sheetLength s
+
+-- 8: the effect of slot k is 1 to 1,000,000, and not larger than the one before
+pub record EffectAccepted (s : List ℕ) (k : ℕ) : Type 0 where
+  pub some : 0 < effectField s k
+  pub most : effectField s k ≤ 1_000_000
+  pub no-rise : effectField s k ≤ effectBefore s k
+
+-- 9: the bid of bidder i is at most 1,000,000,000
+pub record BidAccepted (s : List ℕ) (i : ℕ) : Type 0 where
+  pub most : bidField s i ≤ 1_000_000_000
+
+-- 10 to 13: owner and other in range and different, both slots in range, other and other's slot there together, and not all of
+-- own slot, other and other's slot 0
+pub record ConstraintAccepted (n m owner own other others : ℕ) : Type 0 where
+  pub some-owner : 0 < owner
+  pub most-owner : owner ≤ n
+  pub most-other : other ≤ n
+  pub most-own : own ≤ m
+  pub most-others : others ≤ m
+  pub different : other ≡ owner → ⊥
+  pub together : other ≡ 0 → others ≡ 0
+  pub together-back : others ≡ 0 → other ≡ 0
+  pub not-empty : own ≡ 0 → other ≡ 0 → ⊥
+
+-- All that acceptance means.
+pub record AcceptedSheet (s : List ℕ) : Type 0 where
+  pub form : Form s
+  pub counts : Counts s
+  pub effects : (k : ℕ) → 0 < k → k ≤ slotCount s → EffectAccepted s k
+  pub bids : (i : ℕ) → 0 < i → i ≤ bidderCount s → BidAccepted s i
+  pub constraints : (k : ℕ) → k < constraintCount s →
+      ConstraintAccepted (bidderCount s) (slotCount s) (ownerField s k) (ownSlotField s k) (otherField s k) (otherSlotField s k)

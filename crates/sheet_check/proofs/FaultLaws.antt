@@ -1,0 +1,58 @@
+-- What the quick pass over the constraints rests on: tests that each find nothing leave no rule broken, and a constraint's four bytes
+-- are the remainders of the number that they make. Assumes nothing.
+use Prim.Native.Nat.{ℕ, _+_, _*_, _/_, _%_, _<_}
+use mathlib.Core.Bool.{Bool, true, false, not, _&&_, _||_, Bool·beq, and-false, false≢true}
+use mathlib.Core.List.{List}
+use mathlib.Core.Path.{_≡_, refl, sym}
+use native.Mathlib.Omega.{arith}
+use lib.Dec.{eqb, ltb}
+use Rattle.basis.specs.Bytes.{byteAt, word32At}
+use Rattle.basis.proofs.TestLaws.{or-none}
+use Rattle.sheet.specs.Sheet.{bidderCount, slotCount, constraintsStart, ownerField, ownSlotField, otherField, otherSlotField}
+use Rattle.sheet.specs.Refusal.{inRange, fieldsRefusal, constraintRefusal}
+
+-- all that the quick pass tests of one constraint
+abbrev pub anyFault : (n m owner own other others : ℕ) → Bool
+anyFault n m owner own other others =
+    (((((((eqb owner 0 || ltb n owner) || ltb n other) || ltb m own) || ltb m others) || eqb other owner)
+    || not (Bool·beq (eqb other 0) (eqb others 0)))
+    || (eqb own 0 && eqb other 0))
+
+-- the rules 12 and 13 over the three tests that they are made of
+rest-none : (own other others : Bool) → not (Bool·beq other others) ≡ false → (own && other) ≡ false →
+    ((other && not others || not other && others) ≡ false) × ((own && (other && others)) ≡ false)
+rest-none own true true e f = (refl, f)
+rest-none own true false e f = absurd (false≢true (sym e))
+rest-none own false true e f = absurd (false≢true (sym e))
+rest-none own false false e f = (refl, and-false own)
+
+pub no-fault : (n m owner own other others : ℕ) → anyFault n m owner own other others ≡ false → fieldsRefusal n m owner own other others ≡ 0
+unfolding fieldsRefusal inRange
+no-fault n m owner own other others e =
+    let a = or-none _ (eqb own 0 && eqb other 0) e in
+    let b = or-none _ (not (Bool·beq (eqb other 0) (eqb others 0))) (a .0) in
+    let c = or-none _ (eqb other owner) (b .0) in
+    let d = or-none _ (ltb m others) (c .0) in
+    let f = or-none _ (ltb m own) (d .0) in
+    let g = or-none _ (ltb n other) (f .0) in
+    let h = or-none (eqb owner 0) (ltb n owner) (g .0) in
+    let r = rest-none (eqb own 0) (eqb other 0) (eqb others 0) (b .1) (a .1) in
+    simp (h .0, h .1, g .1, f .1, d .1, c .1, r .0, r .1)
+
+-- the four bytes that make a number, low byte first, are what divisions leave of it
+word-bytes : (a b c d : ℕ) → a < 256 → b < 256 → c < 256 → d < 256 →
+    let w = a + 256 * b + 65536 * c + 16777216 * d in
+    (w % 256 ≡ a) × ((w / 256 % 256 ≡ b) × ((w / 65536 % 256 ≡ c) × (w / 16777216 ≡ d)))
+word-bytes a b c d ha hb hc hd = (omega arith, (omega arith, (omega arith, omega arith)))
+
+-- a constraint read as one number is refused as its four fields are
+pub word-refusal : (s : List ℕ) → ((i : ℕ) → byteAt s i < 256) → (start n m w k : ℕ) →
+    start ≡ constraintsStart s → n ≡ bidderCount s → m ≡ slotCount s → w ≡ word32At s (start + 4 * k) →
+    fieldsRefusal n m (w % 256) (w / 256 % 256) (w / 65536 % 256) (w / 16777216) ≡ constraintRefusal s k
+unfolding constraintRefusal ownerField ownSlotField otherField otherSlotField word32At
+word-refusal s low start n m w k p q r e =
+    let at = start + 4 * k in
+    let bytes =
+    word-bytes (byteAt s at) (byteAt s (at + 1)) (byteAt s (at + 2)) (byteAt s (at + 3))
+    (low at) (low (at + 1)) (low (at + 2)) (low (at + 3)) in
+    rw (e, bytes .0, bytes .1 .0, bytes .1 .1 .0, bytes .1 .1 .1, p, q, r)

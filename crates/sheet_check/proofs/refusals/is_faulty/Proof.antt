@@ -1,0 +1,13 @@
+-- `sheet_check::refusals::is_faulty` meets its contract: tests that each find nothing leave no rule broken. Assumes nothing.
+use Prim.Native.Nat.{_/_, _%_}
+use Rattle.sheet_check.proofs.FaultLaws.{no-fault}
+use Rattle.sheet_check.proofs.refusals.is_faulty.Statement.{statement}
+use Rattle.sheet_check.proofs.refusals.is_faulty.Tie as tie
+
+returns : tie.Need-returns
+returns c =
+    let w = c .args .constraint in
+    no-fault (c .args .bidders) (c .args .slots) (w % 256) (w / 256 % 256) (w / 65536 % 256) (w / 16777216)
+
+pub is-faulty-spec : {M : Type 1} → statement M
+is-faulty-spec = tie.close (tie.spec returns)

@@ -1,0 +1,37 @@
+// The check that gives a refused sheet its number.
+ghost use mathlib.Core.Path.{_≡_};
+ghost use Rattle.sheet.specs.Refusal.{refusalOf};
+use basis::word16;
+
+mod refusals;
+
+// The number of the first rule that the sheet breaks, 1 to 13, or 0 for an accepted sheet.
+pub fn check(sheet: &[u8]) -> u32
+    ensures { λ r. ⌜ r ≡ refusalOf (now (sheet .entry)) ⌝ }
+{
+    let form = refusals::form_refusal(sheet);
+    if form != 0 {
+        return form;
+    }
+    let counts = refusals::counts_refusal(sheet);
+    if counts != 0 {
+        return counts;
+    }
+    let bidders = sheet[5];
+    let slots = sheet[6];
+    let constraints = word16(sheet, 7) as usize;
+    let effects = refusals::effects_refusal(sheet, slots as usize);
+    if effects != 0 {
+        return effects;
+    }
+    let bids_start = 9 + 4 * (slots as usize);
+    let bids = refusals::bids_refusal(sheet, bids_start, bidders as usize);
+    if bids != 0 {
+        return bids;
+    }
+    let constraints_start = bids_start + 4 * (bidders as usize);
+    // The slice is made anew for the call: one lent on as it came is first copied in one piece, where the caller wrote its two halves,
+    // and the machine waits for that.
+    let whole = &sheet[0..];
+    refusals::constraints_refusal(whole, constraints_start, bidders, slots, constraints)
+}

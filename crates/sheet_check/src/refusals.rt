@@ -1,0 +1,256 @@
+// The refusals 1 to 13, each part over the fields that it reads.
+ghost use mathlib.Core.Path.{_≡_};
+ghost use mathlib.Core.Bool.{Bool, false, _||_};
+ghost use Prim.Native.Nat.{suc, _+_, _*_, _/_, _%_, _≤_};
+ghost use lib.Dec.{eqb, ltb};
+ghost use lib.ListN.{length};
+ghost use Rattle.basis.specs.First.{firstOver, orElse};
+ghost use Rattle.basis.specs.Tests.{anyBelow};
+ghost use Rattle.sheet.specs.Sheet.{bidderCount, slotCount, constraintCount, effectsStart, bidsStart, constraintsStart, sheetLength, effectField, bidField};
+ghost use Rattle.sheet.specs.Refusal.{formRefusal, countsRefusal, effectBefore, effectRefusal, bidRefusal, constraintRefusal, inRange, fieldsRefusal};
+use basis::wide;
+use basis::word16;
+use basis::word32;
+use sheet::MAX_BIDDERS;
+use sheet::MAX_CONSTRAINTS;
+use sheet::MAX_SLOTS;
+
+// "1 to 1,000,000"
+const MAX_EFFECT: u32 = 1000000;
+// "0 to 1,000,000,000"
+const MAX_BID: u32 = 1000000000;
+
+// 1 to 3: the header's length, the mark and the version.
+pub fn form_refusal(sheet: &[u8]) -> u32
+    ensures { λ r. ⌜ r ≡ formRefusal (now (sheet .entry)) ⌝ }
+{
+    if sheet.len() < 9 {
+        return 1;
+    }
+    if sheet[0] != b'P' {
+        return 2;
+    }
+    if sheet[1] != b'A' {
+        return 2;
+    }
+    if sheet[2] != b'S' {
+        return 2;
+    }
+    let version = word16(sheet, 3);
+    if version != 1 {
+        return 3;
+    }
+    0
+}
+
+// 4 to 7: the counts and the length.
+pub fn counts_refusal(sheet: &[u8]) -> u32
+    requires { ⌜ 9 ≤ length (now sheet) ⌝ }
+    ensures { λ r. ⌜ r ≡ countsRefusal (now (sheet .entry)) ⌝ }
+{
+    let bidders = wide(sheet[5]) as usize;
+    let slots = wide(sheet[6]) as usize;
+    let constraints = word16(sheet, 7) as usize;
+    if bidders == 0 {
+        return 4;
+    }
+    if MAX_BIDDERS < bidders {
+        return 4;
+    }
+    if slots == 0 {
+        return 5;
+    }
+    if MAX_SLOTS < slots {
+        return 5;
+    }
+    if MAX_CONSTRAINTS < constraints {
+        return 6;
+    }
+    if sheet.len() != 9 + 4 * (slots + bidders + constraints) {
+        return 7;
+    }
+    0
+}
+
+// Whether any effect is 0 or above the one before it, the first against the largest that any may have. No fault ends the pass, so that
+// the machine tests several effects at once.
+fn any_effect_faulty(sheet: &[u8], slots: usize) -> bool
+    requires { ⌜ effectsStart (now sheet) + 4 * slots ≤ length (now sheet) ⌝ }
+    ensures { λ r. ⌜ r ≡ anyBelow (λ k. eqb (effectField (now (sheet .entry)) (suc k)) 0 || ltb (effectBefore (now (sheet .entry)) (suc k)) (effectField (now (sheet .entry)) (suc k))) slots ⌝ }
+{
+    let mut before = MAX_EFFECT;
+    let mut found = false;
+    let mut k = 0;
+    while k < slots {
+        let effect = word32(sheet, 9 + 4 * k);
+        found = found | ((effect == 0) | (before < effect));
+        before = effect;
+        k += 1;
+    }
+    found
+}
+
+// 8: the effects.
+pub fn effects_refusal(sheet: &[u8], slots: usize) -> u32
+    requires { ⌜ effectsStart (now sheet) + 4 * slots ≤ length (now sheet) ⌝ }
+    ensures { λ r. ⌜ r ≡ firstOver (λ k. effectRefusal (now (sheet .entry)) (suc k)) slots ⌝ }
+{
+    if any_effect_faulty(sheet, slots) {
+        return 8;
+    }
+    0
+}
+
+// Whether any bid is above the limit, again in a pass that no bid ends.
+fn any_bid_high(sheet: &[u8], start: usize, bidders: usize) -> bool
+    requires { ⌜ (start ≡ bidsStart (now sheet)) × (start + 4 * bidders ≤ length (now sheet)) ⌝ }
+    ensures { λ r. ⌜ r ≡ anyBelow (λ i. ltb 1_000_000_000 (bidField (now (sheet .entry)) (suc i))) bidders ⌝ }
+{
+    let mut found = false;
+    let mut i = 0;
+    while i < bidders {
+        let bid = word32(sheet, start + 4 * i);
+        found = found | (MAX_BID < bid);
+        i += 1;
+    }
+    found
+}
+
+// 9: the bids.
+pub fn bids_refusal(sheet: &[u8], start: usize, bidders: usize) -> u32
+    requires { ⌜ (start ≡ bidsStart (now sheet)) × (start + 4 * bidders ≤ length (now sheet)) ⌝ }
+    ensures { λ r. ⌜ r ≡ firstOver (λ i. bidRefusal (now (sheet .entry)) (suc i)) bidders ⌝ }
+{
+    if any_bid_high(sheet, start, bidders) {
+        return 9;
+    }
+    0
+}
+
+// Whether a constraint's numbers are in range: owner 1 to n, the other bidder at most n, both slots at most m.
+fn in_range(bidders: u8, slots: u8, owner: u8, own: u8, other: u8, others: u8) -> bool
+    ensures { λ r. ⌜ r ≡ inRange bidders slots owner own other others ⌝ }
+{
+    if owner == 0 {
+        return false;
+    }
+    if bidders < owner {
+        return false;
+    }
+    if bidders < other {
+        return false;
+    }
+    if slots < own {
+        return false;
+    }
+    if slots < others {
+        return false;
+    }
+    true
+}
+
+// 10 to 13: one constraint's four bytes.
+fn constraint_refusal(bidders: u8, slots: u8, owner: u8, own: u8, other: u8, others: u8) -> u32
+    ensures { λ r. ⌜ r ≡ fieldsRefusal bidders slots owner own other others ⌝ }
+{
+    if !in_range(bidders, slots, owner, own, other, others) {
+        return 10;
+    }
+    if other == owner {
+        return 11;
+    }
+    if other == 0 {
+        if others != 0 {
+            return 12;
+        }
+        if own == 0 {
+            return 13;
+        }
+        return 0;
+    }
+    if others == 0 {
+        return 12;
+    }
+    0
+}
+
+// 10 to 13: the first number over the constraints in sheet order.
+fn first_refusal(sheet: &[u8], start: usize, bidders: u8, slots: u8, constraints: usize) -> u32
+    requires { ⌜ (start ≡ constraintsStart (now sheet)) × (start + 4 * constraints ≤ length (now sheet)) ⌝ }
+    requires { ⌜ (bidders ≡ bidderCount (now sheet)) × (slots ≡ slotCount (now sheet)) ⌝ }
+    ensures { λ r. ⌜ r ≡ firstOver (constraintRefusal (now (sheet .entry))) constraints ⌝ }
+{
+    let mut k = 0;
+    while k < constraints {
+        let at = start + 4 * k;
+        let refusal = constraint_refusal(
+            bidders,
+            slots,
+            sheet[at],
+            sheet[at + 1],
+            sheet[at + 2],
+            sheet[at + 3],
+        );
+        if refusal != 0 {
+            return refusal;
+        }
+        k += 1;
+    }
+    0
+}
+
+// Whether a constraint, its four bytes as one number, breaks any of 10 to 13. Every rule is tested and none ends the test early:
+// no machine can foretell which kind of constraint comes next, and so there is no branch.
+fn is_faulty(bidders: u32, slots: u32, constraint: u32) -> bool
+    ensures { λ r. ⌜ (r ≡ false → fieldsRefusal bidders slots (constraint % 256) (constraint / 256 % 256) (constraint / 65536 % 256) (constraint / 16777216) ≡ 0) ⌝ }
+{
+    let owner = constraint % 256;
+    let own = constraint / 256 % 256;
+    let other = constraint / 65536 % 256;
+    let others = constraint / 16777216;
+    (owner == 0)
+        | (bidders < owner)
+        | (bidders < other)
+        | (slots < own)
+        | (slots < others)
+        | (other == owner)
+        | ((other == 0) != (others == 0))
+        | ((own == 0) & (other == 0))
+}
+
+// Whether any constraint breaks any of 10 to 13. Each is read as one number and none ends the pass, so that the machine tests several
+// at once.
+fn any_faulty(sheet: &[u8], start: usize, bidders: u8, slots: u8, constraints: usize) -> bool
+    requires { ⌜ (start ≡ constraintsStart (now sheet)) × (start + 4 * constraints ≤ length (now sheet)) ⌝ }
+    requires { ⌜ (bidders ≡ bidderCount (now sheet)) × (slots ≡ slotCount (now sheet)) ⌝ }
+    ensures { λ r. ⌜ (r ≡ false → firstOver (constraintRefusal (now (sheet .entry))) constraints ≡ 0) ⌝ }
+{
+    let most_bidder = wide(bidders);
+    let most_slot = wide(slots);
+    let mut found = false;
+    let mut seen = 0;
+    while seen < constraints {
+        let constraint = word32(sheet, start + 4 * seen);
+        found = found | is_faulty(most_bidder, most_slot, constraint);
+        seen += 1;
+    }
+    found
+}
+
+// 10 to 13: each constraint, in sheet order. An accepted sheet costs the quick pass alone; only a fault has its number looked for.
+pub fn constraints_refusal(
+    sheet: &[u8],
+    start: usize,
+    bidders: u8,
+    slots: u8,
+    constraints: usize,
+) -> u32
+    requires { ⌜ (start ≡ constraintsStart (now sheet)) × (start + 4 * constraints ≤ length (now sheet)) ⌝ }
+    requires { ⌜ (bidders ≡ bidderCount (now sheet)) × (slots ≡ slotCount (now sheet)) ⌝ }
+    ensures { λ r. ⌜ r ≡ firstOver (constraintRefusal (now (sheet .entry))) constraints ⌝ }
+{
+    if any_faulty(sheet, start, bidders, slots, constraints) {
+        return first_refusal(sheet, start, bidders, slots, constraints);
+    }
+    0
+}
