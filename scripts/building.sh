@@ -1,5 +1,6 @@
 # What show-page and build-library share: their messages, and proving and building what is stale. It is read by them and not run. They
 # set `root`, the repository's folder, `script`, the name that a message starts with, and `usage`.
+# shellcheck shell=bash disable=SC2154
 
 # Where standard error is closed the messages are dropped, and the work goes on.
 { : 3>&2; } 2>/dev/null || exec 2>/dev/null
