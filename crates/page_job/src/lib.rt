@@ -23,7 +23,7 @@ pub fn page_text(sheet: &[u8], text: &mut [u8; TEXT_ROOM]) -> usize
         return page_lines::refused_line(refusal, text);
     }
     let slots = sheet[6] as usize;
-    page_lines::page_lines(&result, slots, text)
+    page_lines::slot_lines(&result, slots, text)
 }
 
 // The sheet on standard input, to its end or its first error, and its text on standard output.
