@@ -2,4 +2,5 @@
 pub mod EntryLaws
 pub mod PageTextLaws
 pub mod LongInputLaws
+pub mod InputLaws
 pub mod PrintedTexts
