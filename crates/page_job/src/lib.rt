@@ -23,7 +23,7 @@ const RESULT_ROOM: usize = 5 * MAX_SLOTS;
 const TEXT_ROOM: usize = page_lines::LONGEST_LINE * MAX_SLOTS;
 
 // What reading standard input gives: how many bytes stand at the front of the room, or that a read failed.
-pub enum Input {
+enum Input {
     Bytes(usize),
     Failed,
 }
@@ -47,8 +47,8 @@ fn input_text(room: &[u8; SHEET_ROOM], count: usize, text: &mut [u8; TEXT_ROOM])
     requires { ⌜ count ≤ length (now room) ⌝ }
     ensures { λ r. ⌜ TextOfInput (now (room .entry)) count (now (text .entry)) r (now (text .exit)) ⌝ }
 {
-    let whole: &[u8] = room;
-    page_text(&whole[..count], text)
+    let bytes: &[u8] = room;
+    page_text(&bytes[..count], text)
 }
 
 // Standard input to its end, or until the room is full.
