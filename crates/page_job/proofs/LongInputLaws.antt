@@ -1,5 +1,5 @@
--- The first 4,426 bytes of a longer input are refused with the number of the whole: the header's tests read 9 bytes, and no length
--- that rule 7 asks for, at most 4,425, is that of either. Assumes nothing.
+-- The first 4,426 or more bytes of a longer input are refused with the number of the whole: the header's tests read 9 bytes, and no
+-- length that rule 7 asks for, at most 4,425, is that of either. Assumes nothing.
 use Prim.Native.Nat.{ℕ, _+_, _*_, _<_, _≤_}
 use borrow.Author.Tests.{le-ltb, ltb-true, ltb-false, ne-eqb}
 use mathlib.Core.Bool.{Bool, true, false, not, _||_}
@@ -41,18 +41,18 @@ counts-refused t more e =
     let whole = counts .whole in
     omega arith
 
-module _ (s : List ℕ) (long : 4426 ≤ length s) where
-  front-length : length (take 4426 s) ≡ 4426
-  front-length = length-take-le 4426 s long
+module _ (room : ℕ) (enough : 4426 ≤ room) (s : List ℕ) (long : room ≤ length s) where
+  front-length : length (take room s) ≡ room
+  front-length = length-take-le room s long
 
-  same-byte : (i : ℕ) → i < 9 → byteAt (take 4426 s) i ≡ byteAt s i
-  same-byte i l = getD-take 4426 s i 0 (omega arith)
+  same-byte : (i : ℕ) → i < 9 → byteAt (take room s) i ≡ byteAt s i
+  same-byte i l = getD-take room s i 0 (omega arith)
 
-  same-word : (i : ℕ) → i < 8 → word16At (take 4426 s) i ≡ word16At s i
+  same-word : (i : ℕ) → i < 8 → word16At (take room s) i ≡ word16At s i
   unfolding word16At
   same-word i l = ap₂ (λ (a b : ℕ). a + 256 * b) (same-byte i (omega arith)) (same-byte (i + 1) (omega arith))
 
-  same-form : formRefusal (take 4426 s) ≡ formRefusal s
+  same-form : formRefusal (take room s) ≡ formRefusal s
   unfolding formRefusal
   same-form =
       let a = same-byte 0 (omega arith) in
@@ -60,25 +60,25 @@ module _ (s : List ℕ) (long : 4426 ≤ length s) where
       let d = same-byte 2 (omega arith) in
       let v = same-word 3 (omega arith) in
       let size = front-length in
-      let here : ltb (length (take 4426 s)) 9 ≡ ltb (length s) 9
-      = le-ltb (length (take 4426 s)) 9 (omega arith) ∙ sym (le-ltb (length s) 9 (omega arith)) in
+      let here : ltb (length (take room s)) 9 ≡ ltb (length s) 9
+      = le-ltb (length (take room s)) 9 (omega arith) ∙ sym (le-ltb (length s) 9 (omega arith)) in
       cc
 
   -- where rules 4 to 6 hold, neither length is the one that rule 7 asks for
-  same-counts : countsRefusal (take 4426 s) ≡ countsRefusal s
+  same-counts : countsRefusal (take room s) ≡ countsRefusal s
   unfolding countsRefusal
   same-counts =
       let n = same-byte 5 (omega arith) in
       let m = same-byte 6 (omega arith) in
       let w = same-word 7 (omega arith) in
       let size = front-length in
-      let asked : sheetLength (take 4426 s) ≡ sheetLength s
+      let asked : sheetLength (take room s) ≡ sheetLength s
       = ap₂ (λ (a b : ℕ). 9 + 4 * (a + b)) (ap₂ (λ (a b : ℕ). a + b) m n) w in
       _∙_ {b =
       4 when eqb (bidderCount s) 0 || ltb 64 (bidderCount s) otherwise
       5 when eqb (slotCount s) 0 || ltb 16 (slotCount s) otherwise
       6 when ltb 1024 (constraintCount s) otherwise
-      7 when not (eqb (length (take 4426 s)) (sheetLength s)) otherwise
+      7 when not (eqb (length (take room s)) (sheetLength s)) otherwise
       0}
       (cc)
       (last-test _ _ _ _ _
@@ -87,35 +87,35 @@ module _ (s : List ℕ) (long : 4426 ≤ length s) where
       let slots = ltb-false 16 (slotCount s) (or-none (eqb (slotCount s) 0) _ b .1) in
       let constraints = ltb-false 1024 (constraintCount s) c in
       ap not
-      (ne-eqb (length (take 4426 s)) (sheetLength s) (λ e. absurd (omega arith))
+      (ne-eqb (length (take room s)) (sheetLength s) (λ e. absurd (omega arith))
       ∙ sym (ne-eqb (length s) (sheetLength s) (λ e. absurd (omega arith))))))
 
   -- so the two numbers are one
-  same-refusal : refusalOf (take 4426 s) ≡ refusalOf s
+  same-refusal : refusalOf (take room s) ≡ refusalOf s
   unfolding refusalOf
   same-refusal =
       let size = front-length in
       ap₂ orElse same-form
-      (orElse-left (countsRefusal (take 4426 s)) _ (counts-refused (take 4426 s) (omega arith))
+      (orElse-left (countsRefusal (take room s)) _ (counts-refused (take room s) (omega arith))
       ∙ same-counts
-      ∙ sym (orElse-left (countsRefusal s) _ (counts-refused s long)))
+      ∙ sym (orElse-left (countsRefusal s) _ (counts-refused s (omega arith))))
 
   is-refused : refusalOf s ≡ 0 → ⊥
   unfolding refusalOf
   is-refused e =
       let later = orElse-none (formRefusal s) _ e .1 in
-      counts-refused s long (orElse-none (countsRefusal s) _ later .0)
+      counts-refused s (omega arith) (orElse-none (countsRefusal s) _ later .0)
 
-  same-text : pageText (take 4426 s) ≡ pageText s
+  same-text : pageText (take room s) ≡ pageText s
   unfolding pageText
   same-text =
-      refused-for (refusalOf (take 4426 s)) (roundOf (take 4426 s)) (λ e. is-refused (sym same-refusal ∙ e))
+      refused-for (refusalOf (take room s)) (roundOf (take room s)) (λ e. is-refused (sym same-refusal ∙ e))
       ∙ ap refusedLine same-refusal
       ∙ sym (refused-for (refusalOf s) (roundOf s) is-refused)
 
 pub first-bytes-decide : FirstBytesDecide
-first-bytes-decide s =
+first-bytes-decide room s enough =
     ⊎-elim
-    (λ (t : ltb (length s) 4426 ≡ true). ap pageText (take-all 4426 s (let h = ltb-true (length s) 4426 t in omega arith)))
-    (λ (t : ltb (length s) 4426 ≡ false). same-text s (ltb-false (length s) 4426 t))
-    (holds-or-fails (ltb (length s) 4426))
+    (λ (t : ltb (length s) room ≡ true). ap pageText (take-all room s (let h = ltb-true (length s) room t in omega arith)))
+    (λ (t : ltb (length s) room ≡ false). same-text room enough s (ltb-false (length s) room t))
+    (holds-or-fails (ltb (length s) room))

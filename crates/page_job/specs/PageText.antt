@@ -1,5 +1,5 @@
 -- What the page program prints for a sheet: "one line a place: place, bidder, price", or a refused sheet's one line instead.
-use Prim.Native.Nat.{ℕ, zero, suc}
+use Prim.Native.Nat.{ℕ, zero, suc, _≤_}
 use mathlib.Core.List.{List}
 use mathlib.Core.Path.{_≡_}
 use lib.ListN.{take}
@@ -25,6 +25,6 @@ textFor (suc k) r = refusedLine (suc k)
 unfoldable pub pageText : List ℕ → List ℕ
 pageText s = textFor (refusalOf s) (roundOf s)
 
--- A longer input prints what its first 4,426 bytes print: no accepted sheet has more than 4,425.
+-- An input prints what its first bytes print, if these are 4,426 or more: no accepted sheet has more than 4,425.
 abbrev pub FirstBytesDecide : Type 0
-FirstBytesDecide = (s : List ℕ) → pageText (take 4426 s) ≡ pageText s
+FirstBytesDecide = (room : ℕ) (s : List ℕ) → 4426 ≤ room → pageText (take room s) ≡ pageText s

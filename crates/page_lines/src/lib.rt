@@ -45,7 +45,7 @@ fn put_line(text: &mut [u8], at: usize, slot: u32, bidder: u32, price: u32) -> u
 }
 
 // The lines of a played result's first slots at the front of the buffer, and how many bytes they are.
-pub fn page_lines(result: &[u8], slots: usize, text: &mut [u8]) -> usize
+pub fn slot_lines(result: &[u8], slots: usize, text: &mut [u8]) -> usize
     requires { ⌜ (slots ≤ 16) × (5 * slots ≤ length (now result)) × (18 * slots ≤ length (now text)) ⌝ }
     ensures { λ r. ⌜ Written (now (text .entry)) (resultLines (now (result .entry)) slots) r (now (text .exit)) ⌝ }
 {

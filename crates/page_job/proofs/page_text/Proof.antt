@@ -47,11 +47,11 @@ cast-slots c =
     let few = facts .counts .most-slots in
     omega arith
 
-slice-aggregate-page-lines : tie.Need-slice-aggregate-page-lines
-slice-aggregate-page-lines c = search needs
+slice-aggregate-slot-lines : tie.Need-slice-aggregate-slot-lines
+slice-aggregate-slot-lines c = search needs
 
-page-lines-requires : tie.Need-page-lines-requires
-page-lines-requires c κs =
+slot-lines-requires : tie.Need-slot-lines-requires
+slot-lines-requires c κs =
     let args = c .before .before .before .before .before .before .before .before .args in
     let play = c .before .before .before .before .before .play in
     let ok : Accepted (args .sheet .now)
@@ -64,9 +64,9 @@ returns-2 : tie.Need-returns-2
 returns-2 c =
     let args = c .before .before .before .before .before .before .before .before .before .args in
     let play = c .before .before .before .before .before .before .play in
-    subst (λ (bytes : List ℕ). Written (args .text .now) bytes (c .page-lines .result) (c .page-lines .last .1 .1 .0))
+    subst (λ (bytes : List ℕ). Written (args .text .now) bytes (c .slot-lines .result) (c .slot-lines .last .1 .1 .0))
     (text-played (args .sheet .now) _ (play .last .1 .0) (play .result) refl (play .ensures) (c .before .before .before .before .if1 .left))
-    (c .page-lines .ensures)
+    (c .slot-lines .ensures)
 
 pub page-text-spec : {M : Type 1} → statement M
 page-text-spec =
@@ -78,6 +78,6 @@ page-text-spec =
     returns
     shared-slice-read-slots
     cast-slots
-    slice-aggregate-page-lines
-    page-lines-requires
+    slice-aggregate-slot-lines
+    slot-lines-requires
     returns-2)

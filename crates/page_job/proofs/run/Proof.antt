@@ -1,35 +1,24 @@
--- `page_job::run` is safe: the text ends within its buffer. What is read and printed no contract can say; `page_text` says what is
--- printed of what was read. Assumes nothing.
-use mathlib.Core.Path.{sym}
+-- `page_job::run` is safe: the bytes read are within their room, and the text ends within its buffer. What is read and printed no
+-- contract can say; `input_text` says what is printed of what was read. Assumes nothing.
+use mathlib.Core.Path.{sym, subst}
 use lib.Seq.{length-take-le}
-use Rattle.page_lines.proofs.PutLaws.{written-within}
+use Rattle.page_job.specs.Input.{Within}
+use Rattle.page_job.proofs.InputLaws.{text-within}
 use borrow.Author.Needs.{needs}
 use Rattle.page_job.proofs.run.Statement.{statement}
 use Rattle.page_job.proofs.run.Tie as tie
 
-slice-aggregate-read-full : tie.Need-slice-aggregate-read-full
-slice-aggregate-read-full c = search needs
+read-sheet-requires : tie.Need-read-sheet-requires
+read-sheet-requires c κs = search needs
 
-read-full-requires : tie.Need-read-full-requires
-read-full-requires c κs = search needs
+enum-known-input : tie.Need-enum-known-input
+enum-known-input c = search needs
 
-array-share-prefix-sheet : tie.Need-array-share-prefix-sheet
-array-share-prefix-sheet c = search needs
-
-slice-aggregate-page-text : tie.Need-slice-aggregate-page-text
-slice-aggregate-page-text c = search needs
-
-page-text-requires : tie.Need-page-text-requires
-page-text-requires c κs = search needs
-
-array-share-prefix-text : tie.Need-array-share-prefix-text
-array-share-prefix-text c = written-within _ _ (c .page-text .last .1 .0) (c .page-text .result) (c .page-text .ensures)
+enum-told : tie.Need-enum-told
+enum-told c = search needs
 
 slice-aggregate-write-all : tie.Need-slice-aggregate-write-all
-slice-aggregate-write-all c =
-    sym
-    (length-take-le (c .before .page-text .result) (c .before .page-text .last .1 .0)
-    (written-within _ _ (c .before .page-text .last .1 .0) (c .before .page-text .result) (c .before .page-text .ensures)))
+slice-aggregate-write-all c = search needs
 
 write-all-requires : tie.Need-write-all-requires
 write-all-requires c κs = search needs
@@ -37,16 +26,49 @@ write-all-requires c κs = search needs
 returns : tie.Need-returns
 returns c = search needs
 
+input-text-requires : tie.Need-input-text-requires
+input-text-requires c κs =
+    subst (Within (c .before .before .before .before .before .read-sheet .last .0)) (c .before .before .before .input .given .1) (c .before .before .before .before .before .read-sheet .ensures)
+
+array-share-prefix-text : tie.Need-array-share-prefix-text
+array-share-prefix-text c = text-within _ _ _ (c .input-text .result) (c .input-text .last .1 .1 .0) (c .input-text .ensures)
+
+slice-aggregate-write-all-2 : tie.Need-slice-aggregate-write-all-2
+slice-aggregate-write-all-2 c =
+    sym
+    (length-take-le (c .before .input-text .result) (c .before .input-text .last .1 .1 .0)
+    (text-within _ _ _ (c .before .input-text .result) (c .before .input-text .last .1 .1 .0) (c .before .input-text .ensures)))
+
+write-all-requires-2 : tie.Need-write-all-requires-2
+write-all-requires-2 c κs = search needs
+
+slice-aggregate-write-all-3 : tie.Need-slice-aggregate-write-all-3
+slice-aggregate-write-all-3 c = search needs
+
+write-all-requires-3 : tie.Need-write-all-requires-3
+write-all-requires-3 c κs = search needs
+
+returns-2 : tie.Need-returns-2
+returns-2 c = search needs
+
+returns-3 : tie.Need-returns-3
+returns-3 c = search needs
+
 pub run-spec : {M : Type 1} → statement M
 run-spec =
     tie.close
     (tie.spec
-    slice-aggregate-read-full
-    read-full-requires
-    array-share-prefix-sheet
-    slice-aggregate-page-text
-    page-text-requires
-    array-share-prefix-text
+    read-sheet-requires
+    enum-known-input
+    enum-told
     slice-aggregate-write-all
     write-all-requires
-    returns)
+    returns
+    input-text-requires
+    array-share-prefix-text
+    slice-aggregate-write-all-2
+    write-all-requires-2
+    slice-aggregate-write-all-3
+    write-all-requires-3
+    returns-2
+    returns-3)

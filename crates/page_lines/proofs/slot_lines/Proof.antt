@@ -1,4 +1,4 @@
--- `page_lines::page_lines` meets its contract: after k turns the lines of the first k slots stand at the front, at most 18 bytes each,
+-- `page_lines::slot_lines` meets its contract: after k turns the lines of the first k slots stand at the front, at most 18 bytes each,
 -- so the next line has room, and it is put where they end. Assumes nothing.
 use Prim.Native.Nat.{ℕ, suc, _+_, _-_, _*_, _≤_}
 use mathlib.Core.List.{List}
@@ -13,8 +13,8 @@ use Rattle.page_lines.specs.Lines.{line, resultLine, resultLines}
 use Rattle.page_lines.specs.Put.{Put, Written}
 use Rattle.page_lines.proofs.LinesLaws.{line-short}
 use Rattle.page_lines.proofs.PutLaws.{put-nothing, put-after, put-in-front}
-use Rattle.page_lines.proofs.page_lines.Statement.{statement}
-use Rattle.page_lines.proofs.page_lines.Tie as tie
+use Rattle.page_lines.proofs.slot_lines.Statement.{statement}
+use Rattle.page_lines.proofs.slot_lines.Tie as tie
 
 -- the line that the code puts is the definition's
 line-read : (result : List ℕ) (k bidder price : ℕ) → bidder ≡ byteAt result (5 * k) → price ≡ word32At result (5 * k + 1) →
@@ -129,8 +129,8 @@ returns c =
     all-lines (args .result .now) (args .text .now) (c .before .loop .text) (c .before .loop .k) (args .slots) (c .before .loop .at)
     (v .some) (c .loop-test .left) (omega arith) (v .put)
 
-pub page-lines-spec : {M : Type 1} → statement M
-page-lines-spec =
+pub slot-lines-spec : {M : Type 1} → statement M
+slot-lines-spec =
     tie.close
     (tie.spec
     Inv-loop
