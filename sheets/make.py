@@ -1,5 +1,5 @@
 #!/usr/bin/env python3
-"""Writes the sheets of this folder from the numbers of the rounds that document 01 works by hand, and the page programs' inputs.
+"""Writes the sheets of this folder from the numbers of the worked rounds, and the page programs' inputs.
 
 A sheet is its header (mark, version, the counts of bidders, places and conditions), then the effects, the bids and the
 conditions, every number low byte first. Run with no argument, it writes the sheets beside itself and each program's input
@@ -63,14 +63,20 @@ FULL = sheet(
     ],
 )
 
+# The same size again, as it was drawn at random once; this file is kept and not written.
+LARGEST = (SHEETS_FOLDER / "largest.pas").read_bytes()
+
 # What each program of the gate reads.
 INPUTS = {
     "page": SHEETS["F"],
-    "page_refused": sheet([5, 6], [1], version=2),
-    "page_empty": SHEETS["G"],
-    "page_chain": SHEETS["H"],
-    # longer than any sheet: the largest right one, and then its bytes again
-    "page_long": FULL + FULL,
+    "test_page_refused": sheet([5, 6], [1], version=2),
+    "test_page_empty": SHEETS["G"],
+    "test_page_chain": SHEETS["H"],
+    # longer than any sheet: a sheet of the largest size, and then its bytes again
+    "test_page_long": FULL + FULL,
+    # a sheet of the largest size with a random round, and the same with one byte more
+    "test_page_largest": LARGEST,
+    "test_page_one_more": LARGEST + b"\n",
 }
 
 

@@ -12,13 +12,14 @@ use lib.Dec.{eqb}
 use lib.ListN.{length, getD, set}
 use lib.Seq.{getD-set-same, getD-set-other}
 use Rattle.basis.specs.Tests.{least}
-use Rattle.basis.proofs.TestLaws.{not-both, holds, fails, same-tests, holds-or-fails, least-is}
+use Rattle.basis.proofs.TestLaws.{not-both, holds, fails, same-tests, holds-or-fails, least-is, least-at-most}
 use Rattle.sheet.specs.declared.Constraint.{Constraint}
 use Rattle.sheet.specs.declared.Page.{Page}
 use Rattle.sheet.specs.declared.Round.{Round}
 use Rattle.choice.specs.Winner.{ranksNoLower, winner}
 use Rattle.choice.specs.Critical.{criticalBid}
 use Rattle.auction.specs.Page.{at, put, placed, Sized}
+use Rattle.sheet.specs.Proper.{ProperRound}
 use Rattle.sheet.specs.Round.{constraintAt, bidOf, Has}
 use Rattle.auction.specs.Greedy.{eligible, winnerAt, pageUpTo, greedyPage}
 use Rattle.auction.specs.Price.{withBid, winsWith, priceFor, price}
@@ -264,3 +265,16 @@ price-sets r r′ x few listed listed′ k inside =
     price-except r r′ k w (sets-except w r r′ x) few inside (omega arith) (omega arith) (omega arith) same refl
     (sym here′ ∙ ap (λ (p : Page). at p (suc k)) (sym page) ∙ here))
     (same-or-not (winnerAt r (pageUpTo r k) (suc k)) 0)
+
+-- a price is at most the largest bid, so four bytes hold it
+paid-low : (r : Round) (k w : ℕ) → ProperRound r → priceFor r k w ≤ 1_000_000_000
+unfolding priceFor
+paid-low r k zero proper = omega arith
+paid-low r k (suc i) proper =
+    let low = proper .most-bid (suc i) in
+    let most = least-at-most (winsWith r k (suc i)) (bidOf r (suc i)) in
+    omega arith
+
+pub price-low : (r : Round) (k : ℕ) → ProperRound r → price r k ≤ 1_000_000_000
+unfolding price
+price-low r k proper = paid-low r k (at (greedyPage r) k) proper

@@ -1,14 +1,17 @@
 -- What stands where after the four bytes of a number are written: the number itself at their offset, and elsewhere what stood there.
--- A run of stores changes no index before or after it, and gives the index at its j-th place its j-th value. Assumes nothing.
+-- A run of stores changes no index before or after it, and gives the index at its j-th place its j-th value.
+-- Last, a number by its four bytes, and a byte in lists of one length one after another. Assumes nothing.
 use Prim.Native.Nat.{ℕ, zero, suc, _+_, _*_, _/_, _%_, _^_, _<_, _≤_}
-use mathlib.Core.List.{List, [], _∷_}
+use mathlib.Core.List.{List, [], _∷_, _++_, append-assoc}
 use mathlib.Core.Logic.{_⊎_, inl, inr, ⊎-elim}
 use mathlib.Core.Path.{_≡_, refl, sym, _∙_, ap}
-use native.Mathlib.Nat.{add-zero, not-suc-le-zero, mod-eq-of-lt, mod-add-div, div-div-eq-div-mul}
+use native.Mathlib.Nat.{add-zero, eq-or-lt-of-le, le-of-suc-le-suc, not-suc-le-zero, mod-eq-of-lt, mod-add-div, div-div-eq-div-mul}
 use native.Mathlib.Omega.{arith}
-use lib.ListN.{length, set, length-set}
-use lib.Seq.{getD-set-same, getD-set-other, sets}
+use lib.ListN.{length, set, length-set, List·getD-append}
+use lib.Seq.{getD-set-same, getD-set-other, getD-append-add, sets}
 use Rattle.basis.specs.Bytes.{byteAt, word16At, word32At, bytes32}
+use Rattle.basis.specs.Rows.{joined}
+use Rattle.basis.proofs.RowLaws.{length-joined}
 
 -- a run of stores leaves each index before it,
 sets-before : (vs l : List ℕ) (at k : ℕ) → k < at → byteAt (sets l at vs) k ≡ byteAt l k
@@ -102,3 +105,40 @@ module _ (s : List ℕ) (at x : ℕ) where
       let d : byteAt (sets s at (bytes32 x)) (at + 3) ≡ x / 16777216 % 256 = byte-inside 3 fits (omega arith) in
       let sum = four-bytes x low in
       omega arith
+
+-- the four bytes that make a number, low byte first, are what divisions leave of it
+pub word-bytes : (a b c d : ℕ) → a < 256 → b < 256 → c < 256 → d < 256 →
+    let w = a + 256 * b + 65536 * c + 16777216 * d in
+    (w % 256 ≡ a) × ((w / 256 % 256 ≡ b) × ((w / 65536 % 256 ≡ c) × (w / 16777216 ≡ d)))
+word-bytes a b c d ha hb hc hd = (omega arith, (omega arith, (omega arith, omega arith)))
+
+-- four bytes that are x's say x
+pub word-is : (result : List ℕ) (i x : ℕ) → x < 2 ^ 32 →
+    ((j : ℕ) → j < 4 → byteAt result (i + j) ≡ byteAt (bytes32 x) j) → word32At result i ≡ x
+unfolding word32At bytes32
+word-is result i x low same =
+    let whole = word-of-bytes (0 ∷ 0 ∷ 0 ∷ 0 ∷ []) 0 x (omega arith) low in
+    let first : byteAt result i ≡ byteAt (bytes32 x) 0 = ap (byteAt result) (sym (add-zero i)) ∙ same 0 (omega arith) in
+    let second = same 1 (omega arith) in
+    let third = same 2 (omega arith) in
+    let fourth = same 3 (omega arith) in
+    omega arith
+
+-- lists of one length c one after another, and any rest: byte j of the k-th
+pub joined-byte : (f : ℕ → List ℕ) (c : ℕ) (each : (k : ℕ) → length (f k) ≡ c) (n k j : ℕ) (rest : List ℕ) → k < n → j < c →
+    byteAt (joined f n ++ rest) (c * k + j) ≡ byteAt (f k) j
+unfolding joined
+joined-byte f c each zero k j rest l b = absurd (not-suc-le-zero l)
+joined-byte f c each (suc n) k j rest l b =
+    ap (λ (s : List ℕ). byteAt s (c * k + j)) (append-assoc (joined f n) (f n) rest)
+    ∙ ⊎-elim
+    (λ (q : k ≡ n).
+    let front = length-joined f c each n in
+    let size = each n in
+    let e : c * k + j ≡ length (joined f n) + j = ap (λ (m : ℕ). c * m + j) q ∙ ap (λ (m : ℕ). m + j) (sym front) in
+    ap (byteAt (joined f n ++ (f n ++ rest))) e
+    ∙ getD-append-add (joined f n) (f n ++ rest) j 0
+    ∙ List·getD-append (f n) rest 0 j (omega arith)
+    ∙ ap (λ (m : ℕ). byteAt (f m) j) (sym q))
+    (λ (lt : k < n). joined-byte f c each n k j (f n ++ rest) lt b)
+    (eq-or-lt-of-le (le-of-suc-le-suc l))

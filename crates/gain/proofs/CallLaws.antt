@@ -20,8 +20,7 @@ use Rattle.sheet.specs.Round.{roundOf, effectOf}
 use Rattle.auction.specs.Greedy.{greedyPage}
 use Rattle.sheet.specs.Proper.{ProperRound}
 use Rattle.auction.specs.Price.{price}
-use Rattle.auction.proofs.GreedyLaws.{winner-bidder}
-use Rattle.auction.proofs.PriceLaws.{price-at-most-bid}
+use Rattle.auction.proofs.PriceLaws.{price-low}
 use Rattle.greedy.specs.declared.Outcome.{Outcome}
 use Rattle.greedy.specs.Outcome.{outcomeOf}
 use Rattle.gain.specs.Gain.{slotOf, breaksOwn, gainIf, gainAt, gainOf}
@@ -73,16 +72,11 @@ module _ (r t : Round) (i v : ℕ) (o : Outcome) (played : o ≡ outcomeOf r) wh
   stands-at c some k e =
       let here : slotOf (greedyPage r) i ≡ suc k = ap (λ (p : Page). slotOf p i) (sym page-of) ∙ e in
       let won = slot-won r c i some k here in
-      let sized = c .sized-bids in
-      let many = c .most-bidders in
-      let listed = subst (λ (w : ℕ). w ≤ r .bidders) (won .1) (winner-bidder r _ (suc k)) in
-      let cheap = price-at-most-bid r k i (c .most-slots) (won .0) (omega arith) some (won .1) in
-      let most = c .most-bid i in
       record {
         slot = here;
         inside = won .0;
         paid = ap (λ (x : Outcome). getD (x .prices) k 0) played ∙ getD-padded (λ j. price r (suc j)) (r .slots) 16 0 0 k (won .0);
-        low = omega arith;
+        low = price-low r (suc k) c;
       }
 
   pub gain-some : ProperRound r → 0 < i → (s : ℕ) → slotOf (o .page) i ≡ s → (s ≡ 0 → ⊥) →

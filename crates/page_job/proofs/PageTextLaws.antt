@@ -3,11 +3,12 @@
 use Prim.Native.Nat.{ℕ, zero, suc, _*_}
 use borrow.Author.Tests.{le-ltb}
 use mathlib.Core.List.{List}
-use mathlib.Core.Logic.{_⊎_, inl, inr, ⊎-elim}
+use mathlib.Core.Logic.{⊎-elim}
 use mathlib.Core.Path.{_≡_, refl, sym, _∙_, ap, ap₂}
 use native.Mathlib.Omega.{arith}
 use lib.ListN.{length}
-use Rattle.basis.proofs.FirstLaws.{orElse-left, orElse-right}
+use Rattle.basis.proofs.FirstLaws.{orElse-left, orElse-right, answered-gives}
+use Rattle.basis.proofs.NumberLaws.{same-or-not}
 use Rattle.basis.proofs.RowLaws.{joined-same}
 use Rattle.sheet.specs.declared.Round.{Round}
 use Rattle.sheet.specs.Sheet.{slotCount}
@@ -15,14 +16,10 @@ use Rattle.sheet.specs.Refusal.{refusalOf, Accepted}
 use Rattle.sheet.specs.Round.{roundOf}
 use Rattle.sheet.proofs.AcceptedLaws.{accepted-sheet}
 use Rattle.sheet.proofs.RoundLaws.{round-proper}
-use Rattle.play.specs.Play.{playRefusal, playedBuffer, bufferAfter, Played}
+use Rattle.play.specs.Play.{playRefusal, playedBuffer, Played}
 use Rattle.page_lines.specs.Lines.{line, refusedLine, resultLine, resultLines}
 use Rattle.page_job.specs.PageText.{slotLine, textFor, pageText}
 use Rattle.page_job.proofs.EntryLaws.{entry-bidder, entry-price}
-
-nought-or-more : (n : ℕ) → (n ≡ 0) ⊎ (n ≡ 0 → ⊥)
-nought-or-more zero = inl refl
-nought-or-more (suc n) = inr (λ e. absurd (let h : suc n ≡ 0 = e in omega arith))
 
 -- 80 bytes are enough for every accepted sheet: 19 never comes up
 room-enough : (s out : List ℕ) → length out ≡ 80 → playRefusal s out ≡ refusalOf s
@@ -33,7 +30,7 @@ room-enough s out size =
     let few = accepted-sheet s ok .counts .most-slots in
     orElse-right (refusalOf s) _ ok ∙ simp (le-ltb (length out) (5 * slotCount s) (omega arith)) (sym ok))
     (λ (h : refusalOf s ≡ 0 → ⊥). orElse-left (refusalOf s) _ h)
-    (nought-or-more (refusalOf s))
+    (same-or-not (refusalOf s) 0)
 
 -- a refused sheet's text
 pub refused-for : (n : ℕ) (r : Round) → (n ≡ 0 → ⊥) → textFor n r ≡ refusedLine n
@@ -49,19 +46,18 @@ module _ (s out out′ : List ℕ) (answer : ℕ) (size : length out ≡ 80) (pl
   unfolding pageText
   text-refused h = sym (refused-for answer (roundOf s) h) ∙ ap (λ (n : ℕ). textFor n (roundOf s)) number-is
 
-  pub sheet-accepted : answer ≡ 0 → Accepted s
-  sheet-accepted e = sym number-is ∙ e
+  pub answer-accepted : answer ≡ 0 → Accepted s
+  answer-accepted e = sym number-is ∙ e
 
   result-is : answer ≡ 0 → out′ ≡ playedBuffer (roundOf s) out
-  unfolding bufferAfter
-  result-is e = played .buffer ∙ ap (λ (n : ℕ). bufferAfter n s out) (sym (played .number) ∙ e)
+  result-is e = played .buffer ∙ sym (answered-gives (playRefusal s out) (playedBuffer (roundOf s) out) out (sym (played .number) ∙ e))
 
   pub text-played : answer ≡ 0 → resultLines out′ (slotCount s) ≡ pageText s
   unfolding pageText textFor resultLines resultLine slotLine roundOf
   text-played e =
-      let proper = round-proper s (sheet-accepted e) in
+      let proper = round-proper s (answer-accepted e) in
       let r = roundOf s in
       ap (λ (result : List ℕ). resultLines result (slotCount s)) (result-is e)
-      ∙ joined-same (resultLine (playedBuffer r out)) (slotLine r) (slotCount s)
+      ∙ joined-same (λ k. resultLine (playedBuffer r out) (suc k)) (λ k. slotLine r (suc k)) (slotCount s)
       (λ k l. ap₂ (λ (b p : ℕ). line (suc k) b p) (entry-bidder r out k l) (entry-price r out k l proper))
-      ∙ ap (λ (n : ℕ). textFor n r) (sym (sheet-accepted e))
+      ∙ ap (λ (n : ℕ). textFor n r) (sym (answer-accepted e))

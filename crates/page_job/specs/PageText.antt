@@ -12,13 +12,13 @@ use Rattle.auction.specs.Greedy.{greedyPage}
 use Rattle.auction.specs.Price.{price}
 use Rattle.page_lines.specs.Lines.{line, refusedLine}
 
--- the line of slot k + 1. "An empty place shows bidder 0 and price 0."
+-- the line of slot k. "An empty place shows bidder 0 and price 0."
 unfoldable pub slotLine : Round → ℕ → List ℕ
-slotLine r k = line (suc k) (at (greedyPage r) (suc k)) (price r (suc k))
+slotLine r k = line k (at (greedyPage r) k) (price r k)
 
--- the text for a refusal's number, 0 for an accepted sheet
+-- the text for a refusal's number, or for 0 the lines of slots 1 to m of an accepted sheet's round
 unfoldable pub textFor : ℕ → Round → List ℕ
-textFor zero r = joined (slotLine r) (r .slots)
+textFor zero r = joined (λ k. slotLine r (suc k)) (r .slots)
 textFor (suc k) r = refusedLine (suc k)
 
 -- all that the program prints for a sheet

@@ -7,6 +7,7 @@ use mathlib.Core.Path.{_≡_, refl, sym}
 use native.Mathlib.Omega.{arith}
 use lib.Dec.{eqb, ltb}
 use Rattle.basis.specs.Bytes.{byteAt, word32At}
+use Rattle.basis.proofs.BytesLaws.{word-bytes}
 use Rattle.basis.proofs.TestLaws.{or-none}
 use Rattle.sheet.specs.Sheet.{bidderCount, slotCount, constraintsStart, ownerField, ownSlotField, otherField, otherSlotField}
 use Rattle.sheet.specs.Refusal.{inRange, fieldsRefusal, constraintRefusal}
@@ -38,12 +39,6 @@ no-fault n m owner own other others e =
     let h = or-none (eqb owner 0) (ltb n owner) (g .0) in
     let r = rest-none (eqb own 0) (eqb other 0) (eqb others 0) (b .1) (a .1) in
     simp (h .0, h .1, g .1, f .1, d .1, c .1, r .0, r .1)
-
--- the four bytes that make a number, low byte first, are what divisions leave of it
-word-bytes : (a b c d : ℕ) → a < 256 → b < 256 → c < 256 → d < 256 →
-    let w = a + 256 * b + 65536 * c + 16777216 * d in
-    (w % 256 ≡ a) × ((w / 256 % 256 ≡ b) × ((w / 65536 % 256 ≡ c) × (w / 16777216 ≡ d)))
-word-bytes a b c d ha hb hc hd = (omega arith, (omega arith, (omega arith, omega arith)))
 
 -- a constraint read as one number is refused as its four fields are
 pub word-refusal : (s : List ℕ) → ((i : ℕ) → byteAt s i < 256) → (start n m w k : ℕ) →

@@ -1,8 +1,8 @@
 // What is read of a refused, a small and a full sheet. The bytes of each longer number differ, so that their order shows.
 use crate::show;
 use sheet::Kind;
-use sheet::Reading;
 use sheet::Round;
+use sheet_read::Reading;
 use test_edge_sheets::build;
 use test_edge_sheets::line;
 

@@ -1,12 +1,12 @@
 // The lines that the program writes.
-use sheet::Reading;
+use sheet_read::Reading;
 use test_edge_sheets::line::end;
 use test_edge_sheets::line::front;
 use test_edge_sheets::line::text;
 
 // The end of a line: the number that the check gives the first `length` bytes.
 pub fn verdict(buf: &[u8], length: usize) {
-    let refusal = sheet::check(front(buf, length));
+    let refusal = sheet_check::check(front(buf, length));
     end(refusal as u64);
 }
 
@@ -18,7 +18,7 @@ pub fn case(name: &[u8], buf: &[u8], length: usize) {
 
 // What is read of the first `length` bytes, and a line with its number.
 pub fn reading(name: &[u8], buf: &[u8], length: usize) -> Reading {
-    let reading = sheet::read(front(buf, length));
+    let reading = sheet_read::read(front(buf, length));
     let refusal = reading.refusal;
     text(name);
     end(refusal as u64);

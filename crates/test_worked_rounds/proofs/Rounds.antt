@@ -30,8 +30,8 @@ use Rattle.gain.specs.Gain.{slotOf, breaksOwn, gainIf, gainAt, gainOf}
 use Rattle.auction.specs.Allowed.{totalUpTo, total}
 use Rattle.best_page.specs.BestPage.{nobodyTwice, isAllowed, keep, eachChoice, tryAll, bestPage}
 use Rattle.test_worked_rounds.specs.Sheets.{A, B, C, D, E, F, F-true, G, H, H-longer, earlier-winner, overbid, overbid-barred}
-use Rattle.test_worked_rounds.specs.Worked.{bySlot, Worked, asked, rounds}
+use Rattle.test_worked_rounds.specs.Worked.{bySlot, Worked, given, rounds}
 
-pub rounds-hold : map asked rounds ≡ map (λ (w : Worked). w .said) rounds
-unfolding word16At word32At bytes32 firstOver row padded anyBelow allBelow least effectField bidField ownerField ownSlotField otherField otherSlotField formRefusal countsRefusal effectRefusal bidRefusal inRange fieldsRefusal constraintRefusal refusalOf kindOf constraintField roundOf ranksNoLower wins winner at put emptyPage placed ownHolds otherHolds broken constraintAt bidOf effectOf concerns eligible winnerAt fillSlot pageUpTo greedyPage withBid winsWith priceFor price ownSlot oneLower sameKind listHas asksLower downward slotOf breaksOwn gainIf gainAt gainOf breaks totalUpTo total nobodyTwice isAllowed keep eachChoice tryAll bestPage bySlot words quads sheetOf A B C D E F F-true G H H-longer earlier-winner overbid overbid-barred asked rounds
+pub rounds-hold : map given rounds ≡ map (λ (w : Worked). w .said) rounds
+unfolding word16At word32At bytes32 firstOver row padded anyBelow allBelow least effectField bidField ownerField ownSlotField otherField otherSlotField formRefusal countsRefusal effectRefusal bidRefusal inRange fieldsRefusal constraintRefusal refusalOf kindOf constraintField roundOf ranksNoLower wins winner at put emptyPage placed ownHolds otherHolds broken constraintAt bidOf effectOf concerns eligible winnerAt fillSlot pageUpTo greedyPage withBid winsWith priceFor price ownSlot oneLower sameKind listHas asksLower downward slotOf breaksOwn gainIf gainAt gainOf breaks totalUpTo total nobodyTwice isAllowed keep eachChoice tryAll bestPage bySlot words quads sheetOf A B C D E F F-true G H H-longer earlier-winner overbid overbid-barred given rounds
 rounds-hold = refl

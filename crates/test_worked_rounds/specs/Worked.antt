@@ -39,8 +39,8 @@ pub record Worked : Type 0 where
   pub said : Said
 
 -- what the definitions give
-unfoldable pub asked : Worked → Said
-asked w =
+unfoldable pub given : Worked → Said
+given w =
     let r = roundOf (w .sheet) in
     record {
       number = refusalOf (w .sheet);

@@ -7,7 +7,7 @@ use native.Mathlib.Omega.{arith}
 use Rattle.sheet.specs.Refusal.{Accepted}
 use Rattle.sheet.proofs.AcceptedLaws.{accepted-sheet}
 use Rattle.page_lines.specs.Put.{Written}
-use Rattle.page_job.proofs.PageTextLaws.{text-refused, sheet-accepted, text-played}
+use Rattle.page_job.proofs.PageTextLaws.{text-refused, answer-accepted, text-played}
 use borrow.Author.Needs.{needs}
 use Rattle.page_job.proofs.page_text.Statement.{statement}
 use Rattle.page_job.proofs.page_text.Tie as tie
@@ -33,7 +33,7 @@ shared-slice-read-slots : tie.Need-shared-slice-read-slots
 shared-slice-read-slots c =
     let args = c .before .before .before .before .before .before .args in
     let ok : Accepted (args .sheet .now)
-    = sheet-accepted (args .sheet .now) _ (c .before .before .before .play .last .1 .0) (c .before .before .before .play .result) refl (c .before .before .before .play .ensures) (c .before .if1 .left) in
+    = answer-accepted (args .sheet .now) _ (c .before .before .before .play .last .1 .0) (c .before .before .before .play .result) refl (c .before .before .before .play .ensures) (c .before .if1 .left) in
     let facts = accepted-sheet (args .sheet .now) ok in
     let header = facts .form .header in
     omega arith
@@ -42,7 +42,7 @@ cast-slots : tie.Need-cast-slots
 cast-slots c =
     let args = c .before .before .before .before .before .before .args in
     let ok : Accepted (args .sheet .now)
-    = sheet-accepted (args .sheet .now) _ (c .before .before .before .play .last .1 .0) (c .before .before .before .play .result) refl (c .before .before .before .play .ensures) (c .before .if1 .left) in
+    = answer-accepted (args .sheet .now) _ (c .before .before .before .play .last .1 .0) (c .before .before .before .play .result) refl (c .before .before .before .play .ensures) (c .before .if1 .left) in
     let facts = accepted-sheet (args .sheet .now) ok in
     let few = facts .counts .most-slots in
     omega arith
@@ -55,7 +55,7 @@ slot-lines-requires c κs =
     let args = c .before .before .before .before .before .before .before .before .args in
     let play = c .before .before .before .before .before .play in
     let ok : Accepted (args .sheet .now)
-    = sheet-accepted (args .sheet .now) _ (play .last .1 .0) (play .result) refl (play .ensures) (c .before .before .before .if1 .left) in
+    = answer-accepted (args .sheet .now) _ (play .last .1 .0) (play .result) refl (play .ensures) (c .before .before .before .if1 .left) in
     let facts = accepted-sheet (args .sheet .now) ok in
     let few = facts .counts .most-slots in
     (few, omega (arith, play .kept .1 .0), omega arith)

@@ -18,7 +18,7 @@ use Rattle.page_lines.proofs.slot_lines.Tie as tie
 
 -- the line that the code puts is the definition's
 line-read : (result : List ℕ) (k bidder price : ℕ) → bidder ≡ byteAt result (5 * k) → price ≡ word32At result (5 * k + 1) →
-    line (k + 1) bidder price ≡ resultLine result k
+    line (k + 1) bidder price ≡ resultLine result (suc k)
 unfolding resultLine
 line-read result k bidder price b p =
     ap (λ (n : ℕ). line n bidder price) (add-one k) ∙ ap₂ (λ (x y : ℕ). line (suc k) x y) b p
@@ -28,12 +28,12 @@ unfolding resultLines joined
 no-lines result text = put-nothing text 0
 
 -- the lines of k slots, and the next one where they end
-line-more : (result text₀ text text′ bytes : List ℕ) (k at end : ℕ) → bytes ≡ resultLine result k →
+line-more : (result text₀ text text′ bytes : List ℕ) (k at end : ℕ) → bytes ≡ resultLine result (suc k) →
     Put text₀ 0 (resultLines result k) at text → Put text at bytes end text′ → Put text₀ 0 (resultLines result (k + 1)) end text′
 unfolding resultLines joined
 line-more result text₀ text text′ bytes k at end e p q =
     subst (λ (n : ℕ). Put text₀ 0 (resultLines result n) end text′) (sym (add-one k))
-    (put-after (resultLines result k) (resultLine result k) text₀ text text′ 0 at end p
+    (put-after (resultLines result k) (resultLine result (suc k)) text₀ text text′ 0 at end p
     (subst (λ (l : List ℕ). Put text at l end text′) e q))
 
 -- all lines are written
