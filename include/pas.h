@@ -1,16 +1,17 @@
 /*
  * pas.h - position pages with bidders' conditions, the five calls of libpas.a
  *
- * A search page has a few paid places. Suppliers bid per click and list conditions (where they will not stand, beside
- * whom). The library fills the places from the top, charges each winner a second price, tests a supplier's list, works
- * out a supplier's gain and finds the best page of a small round. It is proved: each call meets the description below
- * for every input. It allocates nothing, keeps nothing between calls and calls nothing but memcpy and memset.
+ * A search page has a few paid places. Suppliers, the bidders, bid per click and list conditions (where they will not
+ * stand, beside whom). The library fills the places from the top, charges each winner a second price, tests a bidder's
+ * list, works out a bidder's gain and finds the best page of a small round. It is proved: each call meets its
+ * description below for every input. It allocates nothing, keeps nothing between calls and calls nothing but memcpy and
+ * memset.
  *
  * Build:   ./build-library            (proves, and gives target/staticlib/libpas.a, for x86-64 Linux)
  * Link:    cc program.c -I include target/staticlib/libpas.a
  *
  * docs/EMBEDDING.md maps the words of this file (place, condition, worth ...) to those of the Rust wrapper and of the
- * field, and has the reasons for what is asked of a caller. CHANGELOG.md has the versions.
+ * field, and has the reasons for what is asked of a caller. CHANGELOG.md has the versions, docs/PERFORMANCE.md times.
  *
  *
  * The sheet
@@ -31,7 +32,8 @@
  * and not that of the library (PAS_VERSION).
  *
  * Bidders and places are counted from 1; place 1 is the top of the page. There may be more places than bidders. A page
- * gives each place one bidder or none, and no bidder two places.
+ * gives each place one bidder or none, and no bidder two places. The effect of a place says how many clicks it brings,
+ * in any unit; bids, prices and worths are per click, in any currency.
  *
  * A condition binds only if its owner has a place. It is broken when both its parts are true: the owner is at the own
  * place (own place 0: any place), and the other bidder is at the other's place (other bidder 0 with other's place 0: no
@@ -39,7 +41,7 @@
  *
  *   (1, 2, 0, 0)   1 will not stand at place 2
  *   (1, 0, 3, 1)   1 will not stand on a page that has 3 at place 1
- *   (1, 2, 3, 1)   1 will not stand at place 2 below 3 at place 1
+ *   (1, 2, 3, 1)   1 will not stand at place 2 while 3 is at place 1
  *   (1, 2, 3, 2)   accepted, and never broken: no place has two bidders
  *
  *
@@ -57,8 +59,8 @@
  * - A pointer and its length are those of memory that is there. The length of a sheet is its own and not that of a
  *   larger buffer that it lies in (rule 7); a result may be longer than what is written.
  * - No pointer is null, also where the length is 0. The proofs speak of slices, and nothing in the toolchain says that
- *   null is one, so no answer is promised there. An empty std::vector has such a pointer: pas_to_read and pas_to_write
- *   below give another one in its place.
+ *   null is one, so no answer is promised there. An empty std::vector may have one: pas_to_read and pas_to_write below
+ *   give another pointer instead.
  * - Sheets, results and *answer are bytes and may lie at any address. *gain and *total must be aligned as int64_t and
  *   uint64_t are (8 bytes), which each variable of these types is.
  * - What a call writes overlaps neither what it reads nor another thing that it writes. The two sheets of pas_gain are
@@ -237,8 +239,8 @@ uint32_t pas_downward(const uint8_t *sheet, size_t sheet_len, uint32_t bidder, u
  * `played`. The two sheets may be the same memory.
  *
  * Proved of it: let `truth` be the sheet with the bidder's true conditions, and `other` one that differs from it in the
- * bidder's list alone, which pas_downward answers with 1. Then at any worth that is not below the bidder's bid the gain
- * with `truth` played is at least the gain with `other` played.
+ * bidder's list alone, which pas_downward answers with 1. Then, with `truth` as the truth sheet of both calls and at any
+ * worth that is not below the bidder's bid, the gain with `truth` played is at least the gain with `other` played.
  *
  * Refused with 1 to 13 for `played`, 14 for `truth`, 15, 16, or 17.
  */
