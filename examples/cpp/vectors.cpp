@@ -28,7 +28,8 @@ int main() {
     std::cout << "an empty sheet: " << check(none) << '\n';
     std::cout << "an empty result: " << play(sheet, none) << '\n';
     std::cout << "both empty: " << play(none, none) << '\n';
-    std::cout << "neither: " << play(sheet, result) << ", bidder " << int{result[0]} << " for " << int{result[1]} << '\n';
+    std::cout << "neither: " << play(sheet, result);
+    std::cout << ", bidder " << int{result[0]} << " for " << int{result[1]} << '\n';
 
     /* the pointers that the calls get: never null, and the vector's own where it has bytes */
     const bool kept = pas_to_read(sheet.data(), sheet.size()) == sheet.data() &&
