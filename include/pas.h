@@ -1,14 +1,17 @@
 /*
  * pas.h - position pages with bidders' conditions, the five calls of libpas.a
  *
- * A search page has a few paid places. Suppliers bid per click and list conditions (where they will not stand, beside
- * whom). The library fills the places from the top, charges each winner a second price, tests a supplier's list, works
- * out a supplier's gain and finds the best page of a small round. It is proved: each call meets the description below
- * for every input. It allocates nothing, keeps nothing between calls and calls nothing but memcpy and memset, so calls
- * may run in several threads at once.
+ * A search page has a few paid places. Suppliers, the bidders, bid per click and list conditions (where they will not
+ * stand, beside whom). The library fills the places from the top, charges each winner a second price, tests a bidder's
+ * list, works out a bidder's gain and finds the best page of a small round. It is proved: each call meets its
+ * description below for every input. It allocates nothing, keeps nothing between calls and calls nothing but memcpy and
+ * memset.
  *
  * Build:   ./build-library            (proves, and gives target/staticlib/libpas.a, for x86-64 Linux)
  * Link:    cc program.c -I include target/staticlib/libpas.a
+ *
+ * docs/EMBEDDING.md maps the words of this file (place, condition, worth ...) to those of the Rust wrapper and of the
+ * field, and has the reasons for what is asked of a caller. CHANGELOG.md has the versions, docs/PERFORMANCE.md times.
  *
  *
  * The sheet
@@ -25,24 +28,48 @@
  *   9 + 4m          4 each, n    bid of bidders 1 to n, 0 to 1,000,000,000
  *   9 + 4(m + n)    4 each, c    condition: owner, own place, other bidder, other's place, one byte each
  *
- * The length is exactly 9 + 4 (m + n + c): PAS_SHEET_LENGTH(n, m, c).
+ * The length is exactly 9 + 4 (m + n + c): PAS_SHEET_LENGTH(n, m, c). The version in the sheet is that of the format
+ * and not that of the library (PAS_VERSION).
+ *
+ * Bidders and places are counted from 1; place 1 is the top of the page. There may be more places than bidders. A page
+ * gives each place one bidder or none, and no bidder two places. The effect of a place says how many clicks it brings,
+ * in any unit; bids, prices and worths are per click, in any currency.
  *
  * A condition binds only if its owner has a place. It is broken when both its parts are true: the owner is at the own
  * place (own place 0: any place), and the other bidder is at the other's place (other bidder 0 with other's place 0: no
- * other). Conditions may come in any order and may repeat. So
+ * other, and this part is true). Conditions may come in any order and may repeat. So
  *
  *   (1, 2, 0, 0)   1 will not stand at place 2
  *   (1, 0, 3, 1)   1 will not stand on a page that has 3 at place 1
- *   (1, 2, 3, 1)   1 will not stand at place 2 below 3 at place 1
+ *   (1, 2, 3, 1)   1 will not stand at place 2 while 3 is at place 1
+ *   (1, 2, 3, 2)   accepted, and never broken: no place has two bidders
  *
  *
  * What holds for every call
  *
- * - It returns PAS_OK, or the number of the first rule that the call breaks, in the order of the numbers below.
- * - A refused call changes nothing that it was lent: no byte of a buffer, and not the answer's own place.
- * - No pointer may be null, also where the length is 0. A pointer and its length must be those of memory that is there.
- * - What a call writes must not overlap what it reads, nor another thing that it writes.
- * - Nothing else is asked of the caller: any bytes, any length and any numbers get their answer.
+ * - It returns PAS_OK (0), or the number of the first rule that the call breaks, in the order of the numbers below.
+ * - A refused call writes nothing: no byte of a result, and nothing to *answer, *gain or *total.
+ * - A call that is not refused writes what its description says and nothing else. It does not read what it writes to,
+ *   so that memory need not be set before.
+ * - The same bytes and numbers get the same answer, always.
+ *
+ *
+ * What is asked of the caller
+ *
+ * - A pointer and its length are those of memory that is there. The length of a sheet is its own and not that of a
+ *   larger buffer that it lies in (rule 7); a result may be longer than what is written.
+ * - No pointer is null, also where the length is 0. The proofs speak of slices, and nothing in the toolchain says that
+ *   null is one, so no answer is promised there. An empty std::vector may have one: pas_to_read and pas_to_write below
+ *   give another pointer instead.
+ * - Sheets, results and *answer are bytes and may lie at any address. *gain and *total must be aligned as int64_t and
+ *   uint64_t are (8 bytes), which each variable of these types is.
+ * - What a call writes overlaps neither what it reads nor another thing that it writes. The two sheets of pas_gain are
+ *   only read and may overlap.
+ * - While a call runs nobody else writes what it reads, nor touches what it writes. Otherwise calls may run in several
+ *   threads at once, on the same sheet too: the library has no variables of its own.
+ * - There is enough stack, see PAS_STACK_PLAY and the others below.
+ *
+ * Nothing else is asked: any bytes, any length and any numbers get their answer.
  */
 #ifndef PAS_H
 #define PAS_H
@@ -54,6 +81,14 @@
 extern "C" {
 #endif
 
+/* ---- Version ---- */
+
+/* The version of the library and of this file. CHANGELOG.md says what each one brought, and what a new number means. */
+#define PAS_VERSION "1.0.0"
+#define PAS_VERSION_MAJOR 1
+#define PAS_VERSION_MINOR 0
+#define PAS_VERSION_PATCH 0
+
 /* ---- Sizes ---- */
 
 #define PAS_MAX_BIDDERS 64u
@@ -63,18 +98,49 @@ extern "C" {
 #define PAS_MAX_BID 1000000000u
 #define PAS_MAX_WORTH 1000000000u
 
-/* bidders and places up to which the best page is found */
+/* most bidders and most places with which the best page is found */
 #define PAS_MAX_BEST_BIDDERS 8u
 #define PAS_MAX_BEST_PLACES 8u
 
-/* bytes of the sheet before the effects, of a sheet, and of the longest sheet */
+/* bytes of a sheet before its effects, of a sheet with n bidders, m places and c conditions, of the longest sheet */
 #define PAS_HEADER_LENGTH 9u
 #define PAS_SHEET_LENGTH(n, m, c) (9u + 4u * ((size_t)(m) + (size_t)(n) + (size_t)(c)))
 #define PAS_MAX_SHEET_LENGTH 4425u
 
-/* bytes that pas_play writes for each place (bidder, price) and for the longest page */
+/* bytes that pas_play writes for each place (bidder, price) and for the longest page; pas_best writes 1 a place */
 #define PAS_PLACE_LENGTH 5u
 #define PAS_MAX_RESULT_LENGTH 80u
+
+/* ---- Stack ---- */
+
+/*
+ * Bytes of stack that suffice for a call, counted from where its caller calls it.
+ *
+ *   call            measured    first call    figure below
+ *   pas_check            136           136           1,024
+ *   pas_play          22,136        22,136          28,672
+ *   pas_downward      24,824  about 27,900          32,768
+ *   pas_gain          33,272        33,272          40,960
+ *   pas_best          17,864  about 21,000          24,576
+ *
+ * These are measured and not proved: nothing in the toolchain bounds a stack. examples/c/stack measures them, on the
+ * largest sheets, on refused ones and on random ones, and fails where a call takes more than its figure. The table is
+ * for the archive that rattle-kit-5b makes of this version, with glibc 2.36. "First call" has what the dynamic linker
+ * takes where it looks up memcpy and memset in that call. The figures of the calls that use these two leave 4 KB and
+ * more above "measured", for that and for another C library.
+ *
+ * A thread with 64 KB of stack does for every call; one of 16 KB, PTHREAD_STACK_MIN, does for pas_check alone. A call
+ * that finds too little stack runs into the guard page and ends the program; where there is no guard page, as below
+ * many a coroutine's stack, it overwrites what lies there.
+ */
+#define PAS_STACK_CHECK 1024u
+#define PAS_STACK_PLAY 28672u
+#define PAS_STACK_DOWNWARD 32768u
+#define PAS_STACK_GAIN 40960u
+#define PAS_STACK_BEST 24576u
+
+/* the largest of the five */
+#define PAS_MAX_STACK PAS_STACK_GAIN
 
 /* ---- Numbers of a refused call, in checking order ---- */
 
@@ -103,7 +169,28 @@ enum {
     PAS_RESULT_TOO_SHORT = 19   /* The result buffer is shorter than the bytes to be written. */
 };
 
-/* Rules 10 to 13 are held against the conditions in sheet order: the first condition that breaks one decides. */
+/*
+ * Rules 10 to 13 are held against the conditions in sheet order: the first condition that breaks one of them decides,
+ * and for it the first of the four.
+ */
+
+/* ---- Pointers that may be null ---- */
+
+/*
+ * The pointer itself; where the length is 0, one that is not null, and through which nothing is read or written. For
+ * memory that may be empty, as a std::vector:
+ *
+ *   pas_check(pas_to_read(sheet.data(), sheet.size()), sheet.size())
+ */
+static inline const uint8_t *pas_to_read(const uint8_t *pointer, size_t length) {
+    static const uint8_t nothing = 0;
+    return length == 0 ? &nothing : pointer;
+}
+
+static inline uint8_t *pas_to_write(uint8_t *pointer, size_t length) {
+    static uint8_t nothing = 0;
+    return length == 0 ? &nothing : pointer;
+}
 
 /* ---- The calls ---- */
 
@@ -113,34 +200,47 @@ enum {
 uint32_t pas_check(const uint8_t *sheet, size_t sheet_len);
 
 /*
- * Plays the round: fills the places from 1 to m, each with the highest bid among the bidders that are eligible for it
- * (equal bids: the lower number), and prices each place per click: the smallest bid with which its winner, all else
- * unchanged, still wins that place.
+ * Plays the round: fills the places from 1 to m and prices each.
  *
- * Writes 5 bytes a place to the start of the result: the bidder (0 for an empty place) and 4 bytes of price, low byte
- * first (0 for an empty place). Bytes after 5 m stay as they were. A result of PAS_MAX_RESULT_LENGTH bytes always does.
+ * A bidder that has no place yet is eligible for place k if, with the places before k as they are filled and it at k,
+ * no condition is broken that is its own or an earlier winner's. The eligible bidder with the highest bid wins the
+ * place (equal bids: the lower number). A place for which nobody is eligible stays empty, and the next one is still
+ * tried.
+ *
+ * The price is per click: the smallest bid, from 0, with which the winner, all else unchanged, still wins that place.
+ *
+ * Writes 5 bytes a place to the start of the result: the bidder, and 4 bytes of price, low byte first. An empty place
+ * has bidder 0 and price 0; a winner's price may be 0 too. Bytes after 5 m stay as they were. A result of
+ * PAS_MAX_RESULT_LENGTH bytes always does.
  *
  * Refused with 1 to 13, or 19 where result_len is below 5 m.
  */
 uint32_t pas_play(const uint8_t *sheet, size_t sheet_len, uint8_t *result, size_t result_len);
 
 /*
- * Tests the list of one bidder, the conditions that it owns: *answer is 1 where the list is downward monotonic, which
- * is, for each of its conditions with own place k from 1 to m - 1, that the list has the same condition with own place
- * k + 1 too; and 0 where it is not. An empty list is.
+ * Tests the list of one bidder, the conditions that it owns: *answer is 1 where the list is downward monotonic and 0
+ * where it is not.
+ *
+ * A list is downward monotonic where for each of its conditions with own place k, from 1 to m - 1, it also has the
+ * condition with own place k + 1 and the same other bidder and other's place. Own place 0 asks for nothing further, and
+ * an empty list is downward monotonic.
  *
  * Refused with 1 to 13, or 16.
  */
 uint32_t pas_downward(const uint8_t *sheet, size_t sheet_len, uint32_t bidder, uint8_t *answer);
 
 /*
- * What a bidder gains where `played` is played and its true conditions are those that it owns in `truth`, at a worth per
- * click: with no place 0; at a place with effect e and price p, e * (worth - p) where none of its true conditions is
- * broken on the page, and -(e * p) where one is. The effects are those of `played`. The two sheets may be the same memory.
+ * What a bidder gains where `played` is played and its true conditions are those that it owns in `truth`, at a worth
+ * per click from 0 to PAS_MAX_WORTH. *gain is 0 where it has no place. At a place with effect e and price p it is
+ * e * (worth - p) where none of its true conditions is broken on the page, and -(e * p) where one is. It lies between
+ * -10^15 and 10^15.
+ *
+ * Of `truth` the bidder's own conditions count and nothing else, but it must be an accepted sheet with the n and m of
+ * `played`. The two sheets may be the same memory.
  *
  * Proved of it: let `truth` be the sheet with the bidder's true conditions, and `other` one that differs from it in the
- * bidder's list alone, which pas_downward answers with 1. Then at any worth that is not below the bidder's bid the gain
- * with `truth` played is at least the gain with `other` played.
+ * bidder's list alone, which pas_downward answers with 1. Then, with `truth` as the truth sheet of both calls and at
+ * any worth that is not below the bidder's bid, the gain with `truth` played is at least the gain with `other` played.
  *
  * Refused with 1 to 13 for `played`, 14 for `truth`, 15, 16, or 17.
  */
@@ -152,7 +252,8 @@ uint32_t pas_gain(const uint8_t *played, size_t played_len, const uint8_t *truth
  * largest total, the sum of bid times effect over filled places, and of those the one whose bidder numbers by place, 0
  * for an empty one, come first in dictionary order.
  *
- * Writes m bytes of bidder numbers to the start of the result, and the total to *total. Later bytes stay as they were.
+ * Writes m bytes of bidder numbers to the start of the result, and the total, at most 8 * 10^15, to *total. Later bytes
+ * stay as they were.
  *
  * Refused with 1 to 13, 18, or 19 where result_len is below m.
  */

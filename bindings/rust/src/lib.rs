@@ -1,16 +1,18 @@
 //! Position auctions with bidders' conditions: a safe wrapper of the proved library `libpas`.
 //!
-//! A page has slots ("places" in document 01) from the top down, each with an effect. Bidders bid per click and set constraints
-//! ("conditions"): slots where they will not stand, and bidders beside whom they will not stand. The library fills the page, charges
-//! each winner the smallest bid with which it would still have won its slot, tells whether a bidder's list is downward monotonic, works
-//! out what a bidder gains, and finds the best page of a small round. Its answers are proved, refusals included; this crate adds types
-//! and no judgement of its own.
+//! A page has slots from the top down, each with an effect. Bidders bid per click and set constraints: slots where they will not stand,
+//! and bidders beside whom they will not stand. The library fills the page, charges each winner the smallest bid with which it would still
+//! have won its slot, tells whether a bidder's list is downward monotonic, works out what a bidder gains, and finds the best page of a
+//! small round. Its answers are proved, refusals included; this crate adds types and no judgement of its own.
+//!
+//! The C header `include/pas.h` is the manual: the sheet's layout, the limits, what each call means. It says "place" for a slot and
+//! "condition" for a constraint, and so do the sentences of a [`Refusal`]; `docs/EMBEDDING.md` of the repository has the table of words.
 //!
 //! Build it with `cargo build`. It links `target/staticlib/libpas.a` of the repository, which `rt staticlib pas` writes (the build runs
 //! that command if the archive is not there), or the archive in the folder that the environment variable `PAS_LIB_DIR` names. It needs
 //! the standard library only.
 //!
-//! Bidder 1 wants to stand above 2, 2 above 3 and 3 above 4, while the bids rise (round H of document 01):
+//! Bidder 1 wants to stand above 2, 2 above 3 and 3 above 4, while the bids rise (round H of the repository's `sheets/`):
 //!
 //! ```
 //! use pas::{Bidder, Kind, Refusal, SheetBuilder, Slot};
@@ -34,16 +36,23 @@
 //!
 //! assert!(sheet.is_downward(Bidder(1))?);
 //! assert_eq!(sheet.gain(&sheet, Bidder(4), 40)?, 30_000);
+//! assert_eq!(sheet.bids(), [30, 32, 36, 40]);
 //! assert_eq!(pas::check(b"PAS"), Err(Refusal::SheetTooShort));
 //! # Ok::<(), Refusal>(())
 //! ```
 //!
 //! Every call is there twice: as a method of [`Sheet`], whose bytes the library has accepted, and as a function over bytes that nobody
 //! has checked. `play_into` and `best_into` write to a buffer of the caller's and allocate nothing. [`raw`] has the calls with plain
-//! numbers, as in C.
+//! numbers, as in C. A [`Sheet`] can be read back: its effects, bids and constraints, as the builder takes them.
+//!
+//! Calls may run in several threads at once. They take up to 40 KB of stack, which is measured and not proved (`PAS_STACK_PLAY` and the
+//! others in the header); the library uses no more memory than that.
 
 #![deny(missing_docs)]
 #![deny(unsafe_code)]
+
+/// The version of this crate, which is that of the library and of its C header (`PAS_VERSION`). `CHANGELOG.md` says what each brought.
+pub const VERSION: &str = env!("CARGO_PKG_VERSION");
 
 mod calls;
 mod page;

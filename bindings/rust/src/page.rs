@@ -5,9 +5,9 @@ use crate::sheet::{Bidder, Slot};
 /// One slot of a played page.
 #[derive(Clone, Copy, Debug, PartialEq, Eq, Hash)]
 pub struct Placement {
-    /// Who stands there.
+    /// Who stands there; none for an empty slot.
     pub bidder: Option<Bidder>,
-    /// What the bidder pays per click; 0 for an empty slot.
+    /// What the bidder pays per click; 0 for an empty slot. A bidder's price may be 0 too.
     pub price: u32,
 }
 
@@ -26,12 +26,12 @@ impl Page {
         Page { placements: written.chunks_exact(5).map(placement).collect() }
     }
 
-    /// The bidders by slot.
+    /// The bidders by slot, none for an empty one.
     pub fn bidders(&self) -> Vec<Option<Bidder>> {
         self.placements.iter().map(|placement| placement.bidder).collect()
     }
 
-    /// The prices by slot.
+    /// The prices by slot, 0 for an empty one.
     pub fn prices(&self) -> Vec<u32> {
         self.placements.iter().map(|placement| placement.price).collect()
     }
@@ -46,7 +46,7 @@ impl Page {
 /// A best page and its total.
 #[derive(Clone, Debug, PartialEq, Eq, Hash)]
 pub struct BestPage {
-    /// The bidders by slot; the first is slot 1.
+    /// The bidders by slot, none for an empty one; the first is slot 1.
     pub bidders: Vec<Option<Bidder>>,
     /// The sum of bid × effect over the filled slots.
     pub total: u64,

@@ -1,11 +1,11 @@
 //! The five calls with plain numbers, as the C header has them, over slices.
 //!
-//! Each returns 0, or the number of the first rule that the call breaks; then everything lent stays as it was. This is the only module
-//! with `unsafe` in it.
+//! Each returns 0, or the number of the first rule that the call breaks, by which [`Refusal`](crate::Refusal) names it; then everything
+//! lent stays as it was. This is the only module with `unsafe` in it.
 
 #![allow(unsafe_code)]
 
-/// The library's own functions. A pointer must not be null, and what is written must not overlap what is read.
+/// The library's own functions. A pointer must not be null, an answer's must be aligned, and what is written must not overlap what is read.
 mod library {
     extern "C" {
         pub fn pas_check(sheet: *const u8, sheet_len: usize) -> u32;
@@ -24,7 +24,7 @@ mod library {
     }
 }
 
-/// Checks a sheet: rules 1 to 13.
+/// Checks a sheet: 1 to 13, or 0 for an accepted one.
 pub fn check(sheet: &[u8]) -> u32 {
     // SAFETY: a slice's pointer is not null and good for its length; the library only reads it.
     unsafe { library::pas_check(sheet.as_ptr(), sheet.len()) }
@@ -38,18 +38,19 @@ pub fn play(sheet: &[u8], result: &mut [u8]) -> u32 {
 
 /// Answers 1 where the list of a bidder is downward monotonic, else 0.
 pub fn downward(sheet: &[u8], bidder: u32, answer: &mut u8) -> u32 {
-    // SAFETY: the slice is good for its length, and the answer is a byte lent to this call alone.
+    // SAFETY: the slice is good for its length, and the answer is a byte that is lent to this call alone.
     unsafe { library::pas_downward(sheet.as_ptr(), sheet.len(), bidder, answer) }
 }
 
 /// Gives a bidder's gain from the played sheet at a worth per click, by its constraints in the truth sheet.
 pub fn gain(played: &[u8], truth: &[u8], bidder: u32, worth: u32, gain: &mut i64) -> u32 {
-    // SAFETY: the slices, which are only read, are good for their lengths, and the gain is a number lent to this call alone.
+    // SAFETY: the slices, which are only read, are good for their lengths, and the gain is an aligned number that is lent to this call
+    // alone.
     unsafe { library::pas_gain(played.as_ptr(), played.len(), truth.as_ptr(), truth.len(), bidder, worth, gain) }
 }
 
 /// Writes the best page's bidder numbers, a byte a slot (0 for empty), and gives the page's total.
 pub fn best(sheet: &[u8], result: &mut [u8], total: &mut u64) -> u32 {
-    // SAFETY: both slices are good for their lengths, and a `&mut` slice and a `&mut` number overlap nothing else.
+    // SAFETY: both slices are good for their lengths, and a `&mut` slice and a `&mut` number, which is aligned, overlap nothing else.
     unsafe { library::pas_best(sheet.as_ptr(), sheet.len(), result.as_mut_ptr(), result.len(), total) }
 }

@@ -1,11 +1,16 @@
-//! Why a call was refused: the numbers of document 01.
+//! Why a call was refused: the numbers of the C header.
 
 use std::error::Error;
 use std::fmt;
 
-/// The rule that a refused call breaks, the first in checking order. A refused call alters nothing that was lent to it.
+/// The rule that a refused call breaks, the first in checking order. A refused call alters nothing that was lent to it. A later version may
+/// have more of them.
+///
+/// [`Display`](fmt::Display) gives the header's sentence, which says n for the number of bidders, m for that of slots ("places") and c
+/// for that of constraints ("conditions").
 #[derive(Clone, Copy, Debug, PartialEq, Eq, Hash, PartialOrd, Ord)]
 #[repr(u32)]
+#[non_exhaustive]
 pub enum Refusal {
     /// 1: the sheet has fewer than 9 bytes.
     SheetTooShort = 1,
@@ -19,13 +24,13 @@ pub enum Refusal {
     WrongSlots,
     /// 6: there are more than 1,024 constraints.
     TooManyConstraints,
-    /// 7: the length does not fit the counts.
+    /// 7: the length is not 9 + 4 × (slots + bidders + constraints).
     WrongLength,
-    /// 8: an effect is 0, too large or above the one before it.
+    /// 8: an effect is 0, above 1,000,000 or above the one before it.
     WrongEffect,
-    /// 9: a bid is too high.
+    /// 9: a bid is above 1,000,000,000.
     WrongBid,
-    /// 10: a constraint names a bidder or a slot that is not there.
+    /// 10: a constraint has owner 0, or names a bidder or a slot that is not there.
     OutOfRange,
     /// 11: a constraint's other bidder is its owner.
     OtherIsOwner,
@@ -33,17 +38,17 @@ pub enum Refusal {
     HalfAnOther,
     /// 13: a constraint names nothing but its owner.
     EmptyConstraint,
-    /// 14: the truth sheet is itself refused.
+    /// 14: the truth sheet breaks any of 1 to 13.
     TruthRefused,
     /// 15: the truth sheet has another number of bidders or slots.
     TruthDiffers,
-    /// 16: the bidder named in the call is not in the sheet.
+    /// 16: the bidder named in the call is 0 or not in the sheet.
     WrongBidder,
-    /// 17: the worth is too high.
+    /// 17: the worth is above 1,000,000,000.
     WrongWorth,
-    /// 18: the round is too large for the best page.
+    /// 18: the best page is sought with more than 8 bidders or 8 slots.
     TooLargeForBest,
-    /// 19: the result buffer is too short.
+    /// 19: the result buffer is shorter than the bytes to be written.
     ResultTooShort,
 }
 
@@ -70,7 +75,7 @@ const ALL: [Refusal; 19] = [
     Refusal::ResultTooShort,
 ];
 
-/// Document 01's sentences, in the same order.
+/// The header's sentences, in the same order.
 const SENTENCES: [&str; 19] = [
     "The sheet has fewer than 9 bytes.",
     "The mark is not P A S.",
@@ -94,7 +99,7 @@ const SENTENCES: [&str; 19] = [
 ];
 
 impl Refusal {
-    /// The number of document 01, 1 to 19.
+    /// The number, 1 to 19, by which C has it.
     pub fn number(self) -> u32 {
         self as u32
     }
@@ -110,7 +115,7 @@ impl Refusal {
         if number == 0 {
             return Ok(());
         }
-        Err(Refusal::from_number(number).expect("the library gives 0 or a number of document 01"))
+        Err(Refusal::from_number(number).expect("the library gives 0 or the number of a refusal"))
     }
 }
 

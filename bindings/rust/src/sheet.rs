@@ -8,11 +8,11 @@ use crate::Refusal;
 #[derive(Clone, Copy, Debug, PartialEq, Eq, Hash, PartialOrd, Ord)]
 pub struct Bidder(pub u8);
 
-/// A slot of the page ("place" in document 01), counted from 1 at the top.
+/// A slot of the page ("place" in the C header), counted from 1 at the top.
 #[derive(Clone, Copy, Debug, PartialEq, Eq, Hash, PartialOrd, Ord)]
 pub struct Slot(pub u8);
 
-/// What a bidder will not have ("condition" in document 01). It binds once its owner has a slot, and both parts must be true to break it.
+/// What a bidder will not have ("condition" in the C header). It binds once its owner has a slot, and both parts must be true to break it.
 #[derive(Clone, Copy, Debug, PartialEq, Eq, Hash)]
 pub struct Constraint {
     /// The bidder that sets the constraint.
@@ -54,16 +54,30 @@ impl Constraint {
             Kind::Pair { own, other, slot } => [owner, own.0, other.0, slot.0],
         }
     }
+
+    /// The constraint of four bytes that the library has accepted: other bidder and other's slot are both 0, or neither is.
+    fn from_bytes([owner, own, other, slot]: [u8; 4]) -> Constraint {
+        let kind = match (own, other) {
+            (_, 0) => Kind::OwnSlot(Slot(own)),
+            (0, _) => Kind::OtherSlot { other: Bidder(other), slot: Slot(slot) },
+            _ => Kind::Pair { own: Slot(own), other: Bidder(other), slot: Slot(slot) },
+        };
+        Constraint { owner: Bidder(owner), kind }
+    }
 }
 
-/// The bytes of a sheet that the library has accepted.
+/// Bytes of a sheet before its effects.
+const HEADER: usize = 9;
+
+/// A sheet that the library has accepted. What it holds can be read back, as the builder takes it: a builder that is given the effects,
+/// the bids and all constraints builds the same bytes.
 #[derive(Clone, Debug, PartialEq, Eq, Hash)]
 pub struct Sheet {
     bytes: Vec<u8>,
 }
 
 impl Sheet {
-    /// Copies the bytes if the library accepts them.
+    /// Copies the bytes if the library accepts them; refused with 1 to 13.
     pub fn from_bytes(bytes: &[u8]) -> Result<Sheet, Refusal> {
         calls::check(bytes)?;
         Ok(Sheet { bytes: bytes.to_vec() })
@@ -84,12 +98,41 @@ impl Sheet {
         usize::from(self.bytes[6])
     }
 
-    /// How many constraints there are.
+    /// How many constraints there are; [`all_constraints`](Sheet::all_constraints) gives them.
     pub fn constraints(&self) -> usize {
         usize::from(u16::from_le_bytes([self.bytes[7], self.bytes[8]]))
     }
 
-    /// Plays the round. An accepted sheet cannot be refused here.
+    /// The effects of the slots, from the top down.
+    pub fn effects(&self) -> Vec<u32> {
+        self.fields(0, self.slots()).map(u32::from_le_bytes).collect()
+    }
+
+    /// The bids per click, from bidder 1 on.
+    pub fn bids(&self) -> Vec<u32> {
+        self.fields(self.slots(), self.bidders()).map(u32::from_le_bytes).collect()
+    }
+
+    /// The constraints of all bidders, in sheet order. Each has the kind that its bytes say: a [`Kind::Pair`] that was built with own slot 0
+    /// is the same bytes as a [`Kind::OtherSlot`], and comes back as one.
+    pub fn all_constraints(&self) -> Vec<Constraint> {
+        self.fields(self.slots() + self.bidders(), self.constraints()).map(Constraint::from_bytes).collect()
+    }
+
+    /// The list of a bidder: the constraints that it owns, in sheet order. It is empty for a bidder that is not in the sheet.
+    pub fn list_of(&self, bidder: Bidder) -> Vec<Constraint> {
+        let mut list = self.all_constraints();
+        list.retain(|constraint| constraint.owner == bidder);
+        list
+    }
+
+    /// So many of the sheet's fields of four bytes, after those that are skipped.
+    fn fields(&self, skipped: usize, count: usize) -> impl Iterator<Item = [u8; 4]> + '_ {
+        let fields = self.bytes[HEADER..].chunks_exact(4).skip(skipped).take(count);
+        fields.map(|field| [field[0], field[1], field[2], field[3]])
+    }
+
+    /// Plays the round; see [`play`](crate::play). An accepted sheet cannot be refused here.
     pub fn play(&self) -> Page {
         calls::play(&self.bytes).expect("an accepted sheet is played")
     }
@@ -99,17 +142,18 @@ impl Sheet {
         calls::play_into(&self.bytes, result)
     }
 
-    /// Whether the list of a bidder is downward monotonic.
+    /// Whether the list of a bidder is downward monotonic; see [`is_downward`](crate::is_downward). Only the bidder can be refused here.
     pub fn is_downward(&self, bidder: Bidder) -> Result<bool, Refusal> {
         calls::is_downward(&self.bytes, bidder)
     }
 
-    /// What a bidder gains when this sheet is played and its true constraints are those of the truth sheet.
+    /// What a bidder gains at a worth per click when this sheet is played and its true constraints are those of the truth sheet; see
+    /// [`gain`](crate::gain).
     pub fn gain(&self, truth: &Sheet, bidder: Bidder, worth: u32) -> Result<i64, Refusal> {
         calls::gain(&self.bytes, &truth.bytes, bidder, worth)
     }
 
-    /// The best page of a round of at most 8 bidders and 8 slots.
+    /// The best page of a round of at most 8 bidders and 8 slots; see [`best_page`](crate::best_page).
     pub fn best_page(&self) -> Result<BestPage, Refusal> {
         calls::best_page(&self.bytes)
     }
@@ -174,7 +218,7 @@ impl SheetBuilder {
     /// The sheet's bytes, not checked. A count that is too large for its field is written as the field's largest number, which is above
     /// the limit of the count, so that the library refuses it with the count's own number.
     pub fn bytes(&self) -> Vec<u8> {
-        let mut bytes = Vec::with_capacity(9 + 4 * (self.effects.len() + self.bids.len() + self.constraints.len()));
+        let mut bytes = Vec::with_capacity(HEADER + 4 * (self.effects.len() + self.bids.len() + self.constraints.len()));
         bytes.extend(b"PAS\x01\x00");
         bytes.push(u8::try_from(self.bids.len()).unwrap_or(u8::MAX));
         bytes.push(u8::try_from(self.effects.len()).unwrap_or(u8::MAX));

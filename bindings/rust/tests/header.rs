@@ -1,0 +1,60 @@
+//! The C header, the changelog and this crate say the same: version, numbers, sentences, and names by the table of words.
+
+use pas::Refusal;
+
+const HEADER: &str = include_str!("../../../include/pas.h");
+const CHANGELOG: &str = include_str!("../../../CHANGELOG.md");
+
+/// What the header defines a name as.
+fn defined(name: &str) -> &'static str {
+    let text = |line: &'static str| line.strip_prefix("#define ")?.strip_prefix(name)?.strip_prefix(' ');
+    HEADER.lines().find_map(text).unwrap_or_else(|| panic!("the header defines {name}"))
+}
+
+/// A number of a refused call in the header: its name, the number and the sentence beside it.
+struct Entry {
+    name: &'static str,
+    number: u32,
+    sentence: &'static str,
+}
+
+/// Reads a line such as `PAS_WRONG_MARK = 2,  /* The mark is not P A S. */`; none for other lines.
+fn entry(line: &'static str) -> Option<Entry> {
+    let (name, rest) = line.trim().strip_prefix("PAS_")?.split_once(" = ")?;
+    let (number, sentence) = rest.split_once("/*")?;
+    let number = number.trim().trim_end_matches(',').parse().ok()?;
+    Some(Entry { name, number, sentence: sentence.trim_end_matches("*/").trim() })
+}
+
+/// A name of the header as this crate writes it, with the words of docs/EMBEDDING.md: WRONG_PLACES is WrongSlots.
+fn in_rust(name: &str) -> String {
+    let word = |word: &str| word[..1].to_string() + &word[1..].to_lowercase();
+    let name: String = name.split('_').map(word).collect();
+    name.replace("Places", "Slots").replace("Condition", "Constraint")
+}
+
+#[test]
+fn the_header_and_the_crate_have_one_version() {
+    let numbers = ["MAJOR", "MINOR", "PATCH"].map(|part| defined(&format!("PAS_VERSION_{part}")));
+    assert_eq!(defined("PAS_VERSION"), format!("\"{}\"", pas::VERSION));
+    assert_eq!(numbers.join("."), pas::VERSION);
+}
+
+#[test]
+fn the_newest_version_of_the_changelog_is_that_of_the_crate() {
+    let mut titles = CHANGELOG.lines().filter_map(|line| line.strip_prefix("## "));
+    let numbered = titles.find(|title| title.starts_with(|first: char| first.is_ascii_digit())).expect("a version has a title");
+    assert_eq!(numbered.split([' ', ',']).next(), Some(pas::VERSION));
+}
+
+#[test]
+fn each_refusal_has_the_number_the_name_and_the_sentence_of_the_header() {
+    let entries: Vec<Entry> = HEADER.lines().filter_map(entry).collect();
+    assert_eq!(entries.iter().map(|entry| entry.number).collect::<Vec<_>>(), (0..=19).collect::<Vec<_>>());
+    for Entry { name, number, sentence } in entries.into_iter().skip(1) {
+        let refusal = Refusal::from_number(number).expect("a refusal has this number");
+        assert_eq!(format!("{refusal:?}"), in_rust(name));
+        // A C file has no multiplication sign.
+        assert_eq!(refusal.to_string().replace("× ", ""), sentence);
+    }
+}

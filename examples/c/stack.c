@@ -1,0 +1,285 @@
+/*
+ * Measures how much stack each call takes and holds it to the figures PAS_STACK_... of include/pas.h: the exit status
+ * is 1 where a call takes more.
+ *
+ * Each call has a process of its own, and in it a thread with 64 KB of stack, which the header says will do. Before a
+ * call the free part of that stack is painted, and after it the lowest byte that lost its paint says how deep the call
+ * went. All that the call puts on the stack counts: its return address, its frames, those of memcpy and memset, and in
+ * the first call those of the dynamic linker, which then looks the two up. The sheets are the largest ones, refused
+ * ones and random ones from a fixed seed.
+ *
+ * This file calls neither memcpy nor memset, so that they are looked up in the first call that is measured (the script
+ * `stack` sees to it).
+ */
+#include <inttypes.h>
+#include <pthread.h>
+#include <stdio.h>
+#include <stdlib.h>
+#include <sys/wait.h>
+#include <unistd.h>
+
+#include "pas.h"
+
+enum { STACK = 64 * 1024, ROUNDS = 4000 };
+
+/* ---- Sheets ---- */
+
+struct sheet {
+    uint8_t bytes[PAS_MAX_SHEET_LENGTH + 8];
+    size_t length;
+};
+
+static uint64_t seed = 88172645463325252u;
+
+/* a number from low to high (xorshift) */
+static uint32_t between(uint32_t low, uint32_t high) {
+    seed ^= seed << 13;
+    seed ^= seed >> 7;
+    seed ^= seed << 17;
+    return low + (uint32_t)(seed % ((uint64_t)(high - low) + 1));
+}
+
+static void put(struct sheet *sheet, uint32_t number, int bytes) {
+    for (int i = 0; i < bytes; i++) {
+        sheet->bytes[sheet->length++] = (uint8_t)(number >> (8 * i));
+    }
+}
+
+/* what a sheet's conditions are like */
+enum manner { PAIRS, ON_OTHERS, ON_OWN_PLACES, MIXED, MANNERS };
+
+/* one condition that no rule refuses; with one bidder only its own place can be named */
+static void put_condition(struct sheet *sheet, uint32_t n, uint32_t m, enum manner manner) {
+    if (manner == MIXED) {
+        manner = (enum manner)between(PAIRS, ON_OWN_PLACES);
+    }
+    uint32_t owner = between(1, n);
+    uint32_t own_place = between(1, m);
+    if (n == 1 || manner == ON_OWN_PLACES) {
+        put(sheet, owner | own_place << 8, 4);
+        return;
+    }
+    uint32_t other = owner % n + 1;
+    uint32_t others_place = between(1, m);
+    if (manner == ON_OTHERS) {
+        own_place = 0;
+    }
+    put(sheet, owner | own_place << 8 | other << 16 | others_place << 24, 4);
+}
+
+/* a sheet that no rule refuses, with bids up to `bid` and effects that fall from the largest one */
+static void make(struct sheet *sheet, uint32_t n, uint32_t m, uint32_t c, uint32_t bid, enum manner manner) {
+    sheet->length = 0;
+    put(sheet, 'P' | 'A' << 8 | 'S' << 16, 3);
+    put(sheet, 1, 2);
+    put(sheet, n, 1);
+    put(sheet, m, 1);
+    put(sheet, c, 2);
+    uint32_t effect = PAS_MAX_EFFECT;
+    for (uint32_t k = 0; k < m; k++) {
+        put(sheet, effect, 4);
+        effect -= between(0, effect / 2);
+    }
+    for (uint32_t i = 0; i < n; i++) {
+        put(sheet, between(0, bid), 4);
+    }
+    for (uint32_t i = 0; i < c; i++) {
+        put_condition(sheet, n, m, manner);
+    }
+}
+
+/* the sheets by number: the largest first, then 8 by 8, then random sizes; every fourth one is damaged */
+static void make_numbered(struct sheet *sheet, uint32_t number) {
+    enum manner manner = (enum manner)(number / 2 % MANNERS);
+    uint32_t bid = number % 3 ? PAS_MAX_BID : number % 2;
+    if (number < ROUNDS / 4) {
+        make(sheet, PAS_MAX_BIDDERS, PAS_MAX_PLACES, PAS_MAX_CONDITIONS, bid, manner);
+    } else if (number < ROUNDS / 2) {
+        uint32_t most = number % 2 ? PAS_MAX_CONDITIONS : 24;
+        make(sheet, PAS_MAX_BEST_BIDDERS, PAS_MAX_BEST_PLACES, between(0, most), bid, manner);
+    } else {
+        uint32_t n = between(1, PAS_MAX_BIDDERS);
+        uint32_t m = between(1, PAS_MAX_PLACES);
+        make(sheet, n, m, between(0, PAS_MAX_CONDITIONS), bid, manner);
+    }
+    if (number % 4 == 3) {
+        /* a byte of the last condition or of the last bid, else one anywhere */
+        size_t at = number % 8 == 3 ? sheet->length - between(1, 4) : between(0, (uint32_t)sheet->length - 1);
+        sheet->bytes[at] = (uint8_t)between(0, 255);
+    }
+}
+
+/* ---- The stack ---- */
+
+/* the lowest byte of the thread's stack */
+static uint8_t *stack;
+
+static int find_stack(void) {
+    pthread_attr_t attributes;
+    void *lowest;
+    size_t size;
+    if (pthread_getattr_np(pthread_self(), &attributes) != 0 ||
+        pthread_attr_getstack(&attributes, &lowest, &size) != 0) {
+        return 0;
+    }
+    stack = lowest;
+    return 1;
+}
+
+static inline __attribute__((always_inline)) uint8_t *stack_pointer(void) {
+    uint8_t *at;
+    __asm__ volatile("mov %%rsp, %0" : "=r"(at));
+    return at;
+}
+
+/* paints what lies below the caller's stack pointer, and gives that */
+static inline __attribute__((always_inline)) uint8_t *paint(uint8_t colour) {
+    uint8_t *top = stack_pointer();
+    for (volatile uint8_t *at = stack; at < top; at++) {
+        *at = colour;
+    }
+    return top;
+}
+
+/* how far below the top the lowest byte lies that has lost its colour */
+static inline __attribute__((always_inline)) size_t depth_below(const uint8_t *top, uint8_t colour) {
+    const volatile uint8_t *at = stack;
+    while (at < top && *at == colour) {
+        at++;
+    }
+    return (size_t)(top - at);
+}
+
+/* ---- The calls ---- */
+
+/* the calls' own data lie outside the stack that is painted */
+static struct sheet sheet, truth;
+static uint8_t result[PAS_MAX_RESULT_LENGTH];
+static uint8_t answer;
+static int64_t gain;
+static uint64_t total;
+static uint32_t bidder, worth;
+static uint32_t number;
+
+/* the depth of one call, which leaves its number in `number` */
+#define MEASURED(name, call)                                                                                           \
+    static __attribute__((noinline)) size_t name(uint8_t colour) {                                                     \
+        uint8_t *top = paint(colour);                                                                                  \
+        number = (call);                                                                                               \
+        return depth_below(top, colour);                                                                               \
+    }
+
+MEASURED(check, pas_check(sheet.bytes, sheet.length))
+MEASURED(play, pas_play(sheet.bytes, sheet.length, result, sizeof result))
+MEASURED(downward, pas_downward(sheet.bytes, sheet.length, bidder, &answer))
+MEASURED(gain_of, pas_gain(sheet.bytes, sheet.length, truth.bytes, truth.length, bidder, worth, &gain))
+MEASURED(best, pas_best(sheet.bytes, sheet.length, result, sizeof result, &total))
+
+static const struct call {
+    const char *name;
+    size_t (*measured)(uint8_t colour);
+    size_t promised;
+} calls[] = {
+    {"pas_check", check, PAS_STACK_CHECK},
+    {"pas_play", play, PAS_STACK_PLAY},
+    {"pas_downward", downward, PAS_STACK_DOWNWARD},
+    {"pas_gain", gain_of, PAS_STACK_GAIN},
+    {"pas_best", best, PAS_STACK_BEST},
+};
+
+enum { CALLS = sizeof calls / sizeof calls[0] };
+
+/* what is found of one call */
+struct found {
+    size_t first, later;
+    uint32_t accepted, refused;
+};
+
+static struct found found;
+
+/* a byte that happens to be written in the paint's own colour is seen with the other one */
+static void measure_later(const struct call *call) {
+    static const uint8_t colours[] = {0xa5, 0x5a};
+    for (size_t i = 0; i < sizeof colours; i++) {
+        size_t depth = call->measured(colours[i]);
+        found.later = depth > found.later ? depth : found.later;
+    }
+    found.accepted += number == PAS_OK;
+    found.refused += number != PAS_OK;
+}
+
+static void *measure(void *given) {
+    const struct call *call = given;
+    if (!find_stack()) {
+        return NULL;
+    }
+    bidder = 1;
+    worth = PAS_MAX_WORTH;
+    make(&sheet, PAS_MAX_BEST_BIDDERS, PAS_MAX_BEST_PLACES, PAS_MAX_CONDITIONS, PAS_MAX_BID, PAIRS);
+    make(&truth, PAS_MAX_BEST_BIDDERS, PAS_MAX_BEST_PLACES, PAS_MAX_CONDITIONS, PAS_MAX_BID, PAIRS);
+    found.first = call->measured(0xa5);
+    for (uint32_t round = 0; round < ROUNDS; round++) {
+        make_numbered(&sheet, round);
+        /* the truth sheet has as many bidders and places, but for one time in 16 */
+        uint32_t n = round % 16 ? sheet.bytes[5] : 1;
+        make(&truth, n, sheet.bytes[6], round % 2 ? PAS_MAX_CONDITIONS : 0, 1, MIXED);
+        bidder = between(round % 16 ? 1 : 0, sheet.bytes[5]);
+        measure_later(call);
+    }
+    return &found;
+}
+
+/* measures one call in a thread and writes what is found to the pipe */
+static int measure_in_thread(const struct call *call, int to) {
+    pthread_attr_t attributes;
+    pthread_t thread;
+    void *measured = NULL;
+    if (pthread_attr_init(&attributes) != 0 || pthread_attr_setstacksize(&attributes, STACK) != 0 ||
+        pthread_create(&thread, &attributes, measure, (void *)call) != 0 || pthread_join(thread, &measured) != 0) {
+        return EXIT_FAILURE;
+    }
+    return measured && write(to, &found, sizeof found) == sizeof found ? EXIT_SUCCESS : EXIT_FAILURE;
+}
+
+/* measures one call in a process of its own; whether that went well */
+static int measure_in_process(const struct call *call, struct found *into) {
+    int ends[2];
+    if (pipe(ends) != 0) {
+        return 0;
+    }
+    pid_t child = fork();
+    if (child == 0) {
+        _exit(measure_in_thread(call, ends[1]));
+    }
+    /* closed here, so that the end of a child that writes nothing ends the read */
+    close(ends[1]);
+    int status = 1;
+    int whole = child > 0 && read(ends[0], into, sizeof *into) == sizeof *into;
+    close(ends[0]);
+    return child > 0 && waitpid(child, &status, 0) == child && status == 0 && whole;
+}
+
+int main(void) {
+    int within = 1;
+    printf("call          first call  later calls  header's figure  accepted  refused\n");
+    fflush(stdout);
+    for (size_t i = 0; i < CALLS; i++) {
+        struct found of;
+        if (!measure_in_process(&calls[i], &of)) {
+            fprintf(stderr, "%s is not measured\n", calls[i].name);
+            return EXIT_FAILURE;
+        }
+        printf("%-12s  %10zu  %11zu  %15zu  %8" PRIu32 "  %7" PRIu32 "\n", calls[i].name, of.first, of.later,
+               calls[i].promised, of.accepted, of.refused);
+        fflush(stdout);
+        if (of.first > calls[i].promised || of.later > calls[i].promised) {
+            fprintf(stderr, "%s takes more stack than the header says\n", calls[i].name);
+            within = 0;
+        }
+        if (of.accepted == 0 || of.refused == 0) {
+            fprintf(stderr, "%s is not measured on sheets of both kinds\n", calls[i].name);
+            within = 0;
+        }
+    }
+    return within ? EXIT_SUCCESS : EXIT_FAILURE;
+}

@@ -1,0 +1,40 @@
+/*
+ * Sheets and results in vectors, which may be empty: pas_to_read and pas_to_write take the place of the null pointer
+ * that an empty vector has.
+ */
+#include <cstdint>
+#include <iostream>
+#include <vector>
+
+#include "pas.h"
+
+using Bytes = std::vector<std::uint8_t>;
+
+static std::uint32_t check(const Bytes &sheet) {
+    return pas_check(pas_to_read(sheet.data(), sheet.size()), sheet.size());
+}
+
+static std::uint32_t play(const Bytes &sheet, Bytes &result) {
+    return pas_play(pas_to_read(sheet.data(), sheet.size()), sheet.size(), pas_to_write(result.data(), result.size()),
+                    result.size());
+}
+
+int main() {
+    /* two bidders that bid 5 and 6 for one place of effect 1 */
+    const Bytes sheet = {'P', 'A', 'S', 1, 0, 2, 1, 0, 0, 1, 0, 0, 0, 5, 0, 0, 0, 6, 0, 0, 0};
+    Bytes none;
+    Bytes result(PAS_PLACE_LENGTH);
+
+    std::cout << "an empty sheet: " << check(none) << '\n';
+    std::cout << "an empty result: " << play(sheet, none) << '\n';
+    std::cout << "both empty: " << play(none, none) << '\n';
+    std::cout << "neither: " << play(sheet, result);
+    std::cout << ", bidder " << int{result[0]} << " for " << int{result[1]} << '\n';
+
+    /* the pointers that the calls get: never null, and the vector's own where it has bytes */
+    const bool kept = pas_to_read(sheet.data(), sheet.size()) == sheet.data() &&
+                      pas_to_write(result.data(), result.size()) == result.data();
+    const bool never_null = pas_to_read(nullptr, 0) != nullptr && pas_to_write(nullptr, 0) != nullptr;
+    std::cout << "pointers: " << (kept ? "kept" : "lost") << ", " << (never_null ? "never null" : "null") << '\n';
+    return 0;
+}
