@@ -258,14 +258,12 @@ fn write_page(page: Page, slots: usize, result: &mut [u8])
 pub fn best(sheet: &[u8], result: &mut [u8]) -> Chosen
     ensures { λ r. ⌜ BestGiven (now (sheet .entry)) (now (result .entry)) r (now (result .exit)) ⌝ }
 {
-    let reading = sheet_read::read(sheet);
-    let refusal = reading.refusal;
+    let refusal = sheet_check::check(sheet);
     if refusal != 0 {
         return Chosen { refusal, total: 0 };
     }
-    let round = reading.round;
-    let bidders = round.bidders;
-    let slots = round.slots;
+    let bidders = sheet[5] as usize;
+    let slots = sheet[6] as usize;
     if 8 < bidders {
         return Chosen {
             refusal: 18,
@@ -284,6 +282,7 @@ pub fn best(sheet: &[u8], result: &mut [u8]) -> Chosen
             total: 0,
         };
     }
+    let round = sheet_read::accepted_round(sheet);
     let answer = best_page(round);
     write_page(answer.page, slots, result);
     Chosen {

@@ -128,16 +128,14 @@ pub fn is_downward(round: Round, bidder: Bidder) -> bool
 pub fn test(sheet: &[u8], bidder: u32) -> Tested
     ensures { λ r. ⌜ r ≡ testedOf (now (sheet .entry)) bidder ⌝ }
 {
-    let reading = sheet_read::read(sheet);
-    let refusal = reading.refusal;
+    let refusal = sheet_check::check(sheet);
     if refusal != 0 {
         return Tested {
             refusal,
             yes: false,
         };
     }
-    let round = reading.round;
-    let bidders = round.bidders;
+    let bidders = sheet[5] as usize;
     if bidder == 0 {
         return Tested {
             refusal: 16,
@@ -152,6 +150,6 @@ pub fn test(sheet: &[u8], bidder: u32) -> Tested
     }
     Tested {
         refusal: 0,
-        yes: is_downward(round, Bidder(bidder as u8)),
+        yes: is_downward(sheet_read::accepted_round(sheet), Bidder(bidder as u8)),
     }
 }

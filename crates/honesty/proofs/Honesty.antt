@@ -15,7 +15,7 @@ use Rattle.basis.proofs.RowLaws.{padded-same}
 use Rattle.sheet.specs.Sheet.{bidderCount, slotCount, effectField, bidField}
 use Rattle.sheet.specs.Refusal.{refusalOf, Accepted}
 use Rattle.sheet.specs.Round.{roundOf, bidOf, effectOf}
-use Rattle.sheet.proofs.RoundLaws.{round-bid, round-proper, sheet-round, round-sheet}
+use Rattle.sheet.proofs.RoundLaws.{round-bidders, round-slots, round-bid, round-proper, sheet-round, round-sheet}
 use Rattle.auction.specs.Except.{Except}
 use Rattle.downward.specs.Call.{testedOf}
 use Rattle.gain.specs.Gain.{gainOf}
@@ -63,24 +63,12 @@ gained-is : (s t : List ℕ) (i v : ℕ) → gainRefusal s t i v ≡ 0 → gaine
 unfolding gainedOf gainedFor
 gained-is s t i v e = ap (λ (k : ℕ). gainedFor k s t i v) e
 
-rounds-n : (s t : List ℕ) → bidderCount s ≡ bidderCount t → roundOf s .bidders ≡ roundOf t .bidders
-unfolding roundOf
-rounds-n s t e = e
-
-rounds-m : (s t : List ℕ) → slotCount s ≡ slotCount t → roundOf s .slots ≡ roundOf t .slots
-unfolding roundOf
-rounds-m s t e = e
-
-rounds-bidder : (s : List ℕ) (i : ℕ) → i ≤ bidderCount s → i ≤ roundOf s .bidders
-unfolding roundOf
-rounds-bidder s i l = l
-
 -- sheets that differ only in i's list have rounds that differ only there
 rounds-except : (i : ℕ) (s t : List ℕ) → Accepted s → Accepted t → DifferOnlyInList i s t → Except i (roundOf s) (roundOf t)
 rounds-except i s t ok ok′ d =
     record {
-      bidders = rounds-n s t (d .same-n);
-      slots = rounds-m s t (d .same-m);
+      bidders = round-bidders s ∙ d .same-n ∙ sym (round-bidders t);
+      slots = round-slots s ∙ d .same-m ∙ sym (round-slots t);
       bids = λ a e. bids-of s t (d .same-n) (d .same-bids) a;
       there = λ q e h. sheet-round t ok′ q (d .there q e (round-sheet s ok q h));
       back = λ q e h. sheet-round s ok q (d .back q e (round-sheet t ok′ q h));
@@ -96,7 +84,7 @@ honesty s o i v ok ok′ d passed low worth =
     let bids = bids-of s o (d .same-n) (d .same-bids) in
     let except = rounds-except i s o ok ok′ d in
     let pays = honest-pays (roundOf s) (roundOf o) i v (round-proper s ok) (round-proper o ok′) except (bids i)
-    (effects-of s o (d .same-m) (d .same-effects)) (tested .1 .1) (tested .0) (rounds-bidder s i within) (subst (λ (a : ℕ). a ≤ v) (sym (round-bid s ok i within)) low) in (
+    (effects-of s o (d .same-m) (d .same-effects)) (tested .1 .1) (tested .0) (let n = round-bidders s in omega arith) (subst (λ (a : ℕ). a ≤ v) (sym (round-bid s ok i within)) low) in (
       ap (λ (g : Gained). g .refusal) (gained-is s s i v first),
       ap (λ (g : Gained). g .refusal) (gained-is o s i v second),
       subst₂ (λ (g h : ℤ). g ≤ℤ h) (sym (ap (λ (g : Gained). g .gain) (gained-is o s i v second))) (sym (ap (λ (g : Gained). g .gain) (gained-is s s i v first))) pays,

@@ -51,6 +51,15 @@ proper-kind n m owner (suc own) (suc other) others x y a = (
   (let h = a .most-own in omega arith),
 )
 
+-- the round's counts are the sheet's
+pub round-bidders : (s : List ℕ) → roundOf s .bidders ≡ bidderCount s
+unfolding roundOf
+round-bidders s = refl
+
+pub round-slots : (s : List ℕ) → roundOf s .slots ≡ slotCount s
+unfolding roundOf
+round-slots s = refl
+
 module _ (s : List ℕ) (ok : Accepted s) where
   facts : AcceptedSheet s
   facts = accepted-sheet s ok

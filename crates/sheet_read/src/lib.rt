@@ -97,8 +97,8 @@ fn read_constraints(sheet: &[u8], start: usize, used: usize) -> [Constraint; 102
     constraints
 }
 
-// The round of an accepted sheet.
-fn accepted_round(sheet: &[u8]) -> Round
+// The round of an accepted sheet, for a call that has checked it already.
+pub fn accepted_round(sheet: &[u8]) -> Round
     requires { ⌜ Accepted (now sheet) ⌝ }
     ensures { λ r. ⌜ r ≡ roundOf (now (sheet .entry)) ⌝ }
 {

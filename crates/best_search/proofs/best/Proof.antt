@@ -1,112 +1,139 @@
 -- `best_search::best` meets its contract, by the cases of the call; the page that the search finds is the best page, since there is one only.
 -- Assumes nothing.
-use Prim.Native.Nat.{ℕ}
-use mathlib.Core.List.{List}
+use Prim.Native.Nat.{ℕ, suc}
+use mathlib.Core.List.{List, _++_}
 use mathlib.Core.Path.{_≡_, sym, _∙_, ap, subst}
 use native.Mathlib.Omega.{arith}
+use lib.ListN.{drop}
+use Rattle.basis.specs.Rows.{row}
+use Rattle.sheet.specs.declared.Page.{Page}
 use Rattle.sheet.specs.declared.Round.{Round}
-use Rattle.sheet.specs.Sheet.{bidderCount, slotCount}
-use Rattle.sheet.specs.Refusal.{Accepted}
-use Rattle.sheet.specs.Round.{roundOf}
-use Rattle.sheet_read.proofs.ReadingLaws.{read-number, read-round}
 use Rattle.sheet.specs.Proper.{ProperRound}
-use Rattle.sheet.proofs.RoundLaws.{round-proper}
+use Rattle.sheet.specs.Refusal.{Accepted}
+use Rattle.sheet.proofs.AcceptedLaws.{accepted-sheet}
+use Rattle.sheet.proofs.RoundLaws.{round-proper, round-bidders, round-slots}
+use Rattle.auction.specs.Page.{at}
 use Rattle.best_page.proofs.BestPageLaws.{is-best-page}
 use Rattle.best_search.proofs.CallLaws.{sheet-refused, bidders-many, slots-many, buffer-short, best-given}
 use borrow.Author.Needs.{needs}
 use Rattle.best_search.proofs.best.Statement.{statement}
 use Rattle.best_search.proofs.best.Tie as tie
 
-rounds-n : (s : List ℕ) (r : Round) → r ≡ roundOf s → r .bidders ≡ bidderCount s
-unfolding roundOf
-rounds-n s r e = ap (λ (x : Round). x .bidders) e
+-- the buffer with the page's first m bidder numbers in front
+abbrev written : List ℕ → Page → ℕ → List ℕ
+written out p m = row (λ k. at p (suc k)) m ++ drop m out
 
-rounds-m : (s : List ℕ) (r : Round) → r ≡ roundOf s → r .slots ≡ slotCount s
-unfolding roundOf
-rounds-m s r e = ap (λ (x : Round). x .slots) e
-
-read-requires : tie.Need-read-requires
-read-requires c κs = search needs
+check-requires : tie.Need-check-requires
+check-requires c κs = search needs
 
 returns : tie.Need-returns
 returns c =
     let s = c .before .before .before .before .args .sheet .now in
-    sheet-refused s (c .before .before .before .before .args .result .now) _ (read-number s (c .before .read .result) (c .before .read .ensures)) (c .if1 .taken)
+    sheet-refused s (c .before .before .before .before .args .result .now) _ (c .before .check .ensures) (c .if1 .taken)
+
+shared-slice-read-bidders : tie.Need-shared-slice-read-bidders
+shared-slice-read-bidders c =
+    let s = c .before .before .before .before .before .args .sheet .now in
+    let ok : Accepted s = sym (c .before .before .check .ensures) ∙ c .before .if1 .left in
+    let size = accepted-sheet s ok .form .header in
+    omega arith
+
+cast-bidders : tie.Need-cast-bidders
+cast-bidders c =
+    let s = c .before .before .before .before .before .args .sheet .now in
+    let ok : Accepted s = sym (c .before .before .check .ensures) ∙ c .before .if1 .left in
+    let few = accepted-sheet s ok .counts .most-bidders in
+    omega arith
+
+shared-slice-read-slots : tie.Need-shared-slice-read-slots
+shared-slice-read-slots c =
+    let s = c .before .before .before .before .before .before .args .sheet .now in
+    let ok : Accepted s = sym (c .before .before .before .check .ensures) ∙ c .before .before .if1 .left in
+    let size = accepted-sheet s ok .form .header in
+    omega arith
+
+cast-slots : tie.Need-cast-slots
+cast-slots c =
+    let s = c .before .before .before .before .before .before .args .sheet .now in
+    let ok : Accepted s = sym (c .before .before .before .check .ensures) ∙ c .before .before .if1 .left in
+    let few = accepted-sheet s ok .counts .most-slots in
+    omega arith
 
 returns-2 : tie.Need-returns-2
 returns-2 c =
-    let s = c .before .before .before .before .before .before .args .sheet .now in
-    let out = c .before .before .before .before .before .before .args .result .now in
-    let ok : Accepted s = sym (read-number s (c .before .before .before .read .result) (c .before .before .before .read .ensures)) ∙ c .before .before .if1 .left in
-    let round = read-round s (c .before .before .before .read .result) ok (c .before .before .before .read .ensures) in
-    let n = rounds-n s (c .before .before .before .read .result .round) round in
-    let m = rounds-m s (c .before .before .before .read .result .round) round in
-    bidders-many s out ok (let h = c .if2 .taken in omega arith)
+    let s = c .before .before .before .before .before .before .before .args .sheet .now in
+    let out = c .before .before .before .before .before .before .before .args .result .now in
+    let ok : Accepted s = sym (c .before .before .before .before .check .ensures) ∙ c .before .before .before .if1 .left in
+    bidders-many s out ok (c .if2 .taken)
 
 returns-3 : tie.Need-returns-3
 returns-3 c =
-    let s = c .before .before .before .before .before .before .before .args .sheet .now in
-    let out = c .before .before .before .before .before .before .before .args .result .now in
-    let ok : Accepted s = sym (read-number s (c .before .before .before .before .read .result) (c .before .before .before .before .read .ensures)) ∙ c .before .before .before .if1 .left in
-    let round = read-round s (c .before .before .before .before .read .result) ok (c .before .before .before .before .read .ensures) in
-    let n = rounds-n s (c .before .before .before .before .read .result .round) round in
-    let m = rounds-m s (c .before .before .before .before .read .result .round) round in
-    slots-many s out ok (let g = c .before .if2 .left in omega arith) (let h = c .if3 .taken in omega arith)
+    let s = c .before .before .before .before .before .before .before .before .args .sheet .now in
+    let out = c .before .before .before .before .before .before .before .before .args .result .now in
+    let ok : Accepted s = sym (c .before .before .before .before .before .check .ensures) ∙ c .before .before .before .before .if1 .left in
+    slots-many s out ok (c .before .if2 .left) (c .if3 .taken)
 
 returns-4 : tie.Need-returns-4
 returns-4 c =
-    let s = c .before .before .before .before .before .before .before .before .args .sheet .now in
-    let out = c .before .before .before .before .before .before .before .before .args .result .now in
-    let ok : Accepted s = sym (read-number s (c .before .before .before .before .before .read .result) (c .before .before .before .before .before .read .ensures)) ∙ c .before .before .before .before .if1 .left in
-    let round = read-round s (c .before .before .before .before .before .read .result) ok (c .before .before .before .before .before .read .ensures) in
-    let n = rounds-n s (c .before .before .before .before .before .read .result .round) round in
-    let m = rounds-m s (c .before .before .before .before .before .read .result .round) round in
-    buffer-short s out ok (let g = c .before .before .if2 .left in omega arith) (let h = c .before .if3 .left in omega arith) (let h = c .if4 .taken in omega arith)
+    let s = c .before .before .before .before .before .before .before .before .before .args .sheet .now in
+    let out = c .before .before .before .before .before .before .before .before .before .args .result .now in
+    let ok : Accepted s = sym (c .before .before .before .before .before .before .check .ensures) ∙ c .before .before .before .before .before .if1 .left in
+    buffer-short s out ok (c .before .before .if2 .left) (c .before .if3 .left) (c .if4 .taken)
+
+accepted-round-requires : tie.Need-accepted-round-requires
+accepted-round-requires c κs = sym (c .before .before .before .before .before .before .check .ensures) ∙ c .before .before .before .before .before .if1 .left
 
 best-page-requires : tie.Need-best-page-requires
 best-page-requires c κs =
-    let s = c .before .before .before .before .before .before .before .before .args .sheet .now in
-    let out = c .before .before .before .before .before .before .before .before .args .result .now in
-    let ok : Accepted s = sym (read-number s (c .before .before .before .before .before .read .result) (c .before .before .before .before .before .read .ensures)) ∙ c .before .before .before .before .if1 .left in
-    let round = read-round s (c .before .before .before .before .before .read .result) ok (c .before .before .before .before .before .read .ensures) in
-    let n = rounds-n s (c .before .before .before .before .before .read .result .round) round in
-    let m = rounds-m s (c .before .before .before .before .before .read .result .round) round in
-    (subst ProperRound (sym round) (round-proper s ok), c .before .before .if2 .left, c .before .if3 .left)
+    let s = c .before .before .before .before .before .before .before .before .before .before .args .sheet .now in
+    let ok : Accepted s = sym (c .before .before .before .before .before .before .before .check .ensures) ∙ c .before .before .before .before .before .before .if1 .left in
+    let round = c .accepted-round .ensures in
+    let n = ap (λ (r : Round). r .bidders) round ∙ round-bidders s in
+    let m = ap (λ (r : Round). r .slots) round ∙ round-slots s in
+    let few = c .before .before .before .if2 .left in
+    let few′ = c .before .before .if3 .left in
+    (subst ProperRound (sym round) (round-proper s ok), omega arith, omega arith)
 
 write-page-requires : tie.Need-write-page-requires
 write-page-requires c κs = search needs
 
-sub-t14 : tie.Need-sub-t14
-sub-t14 c = search needs
+sub-t16 : tie.Need-sub-t16
+sub-t16 c = search needs
 
 same-length : tie.Need-same-length
 same-length c = search needs
 
 returns-5 : tie.Need-returns-5
 returns-5 c =
-    let s = c .before .before .before .before .before .before .before .before .before .before .before .before .before .before .args .sheet .now in
-    let out = c .before .before .before .before .before .before .before .before .before .before .before .before .before .before .args .result .now in
-    let ok : Accepted s = sym (read-number s (c .before .before .before .before .before .before .before .before .before .before .before .read .result) (c .before .before .before .before .before .before .before .before .before .before .before .read .ensures)) ∙ c .before .before .before .before .before .before .before .before .before .before .if1 .left in
-    let round = read-round s (c .before .before .before .before .before .before .before .before .before .before .before .read .result) ok (c .before .before .before .before .before .before .before .before .before .before .before .read .ensures) in
-    let n = rounds-n s (c .before .before .before .before .before .before .before .before .before .before .before .read .result .round) round in
-    let m = rounds-m s (c .before .before .before .before .before .before .before .before .before .before .before .read .result .round) round in
-    let r = c .before .before .before .before .before .before .before .before .before .before .before .read .result .round in
+    let s = c .before .before .before .before .before .before .before .before .before .before .before .before .before .before .before .before .args .sheet .now in
+    let out = c .before .before .before .before .before .before .before .before .before .before .before .before .before .before .before .before .args .result .now in
+    let ok : Accepted s = sym (c .before .before .before .before .before .before .before .before .before .before .before .before .before .check .ensures) ∙ c .before .before .before .before .before .before .before .before .before .before .before .before .if1 .left in
+    let page = c .before .before .before .before .before in
+    let r = page .before .accepted-round .result in
+    let round = page .before .accepted-round .ensures in
     let proper = subst ProperRound (sym round) (round-proper s ok) in
-    let found = c .before .before .before .before .before .best-page .ensures in
-    best-given s out ok r (c .before .before .before .before .before .best-page .result .page) (c .before .before .before .before .before .best-page .result .need) _ (let g = c .before .before .before .before .before .before .before .before .if2 .left in omega arith) (let h = c .before .before .before .before .before .before .before .if3 .left in omega arith) (let h = c .before .before .before .before .before .before .if4 .left in omega arith)
-    round (is-best-page r (proper .most-slots) proper (c .before .before .before .before .before .best-page .result .page) (found .0)) (found .1) (c .before .before .before .write-page .ensures)
+    let found = page .best-page .ensures in
+    best-given s out ok r (page .best-page .result .page) (page .best-page .result .need) _
+    (page .before .before .before .before .if2 .left) (page .before .before .before .if3 .left) (page .before .before .if4 .left)
+    round (is-best-page r (proper .most-slots) proper (page .best-page .result .page) (found .0)) (found .1)
+    (c .before .before .before .write-page .ensures ∙ ap (written out (page .best-page .result .page)) (sym (ap (λ (x : Round). x .slots) round ∙ round-slots s)))
 
 pub best-spec : {M : Type 1} → statement M
 best-spec =
     tie.close
     (tie.spec
-    read-requires
+    check-requires
     returns
+    shared-slice-read-bidders
+    cast-bidders
+    shared-slice-read-slots
+    cast-slots
     returns-2
     returns-3
     returns-4
+    accepted-round-requires
     best-page-requires
     write-page-requires
-    sub-t14
+    sub-t16
     same-length
     returns-5)
