@@ -84,9 +84,9 @@ extern "C" {
 /* ---- Version ---- */
 
 /* The version of the library and of this file. CHANGELOG.md says what each one brought, and what a new number means. */
-#define PAS_VERSION "1.0.0"
+#define PAS_VERSION "1.1.0"
 #define PAS_VERSION_MAJOR 1
-#define PAS_VERSION_MINOR 0
+#define PAS_VERSION_MINOR 1
 #define PAS_VERSION_PATCH 0
 
 /* ---- Sizes ---- */
@@ -119,9 +119,9 @@ extern "C" {
  *   call            measured    first call    figure below
  *   pas_check            136           136           1,024
  *   pas_play          22,136        22,136          28,672
- *   pas_downward      24,824  about 27,900          32,768
+ *   pas_downward      18,984  about 22,100          24,576
  *   pas_gain          33,272        33,272          40,960
- *   pas_best          17,864  about 21,000          24,576
+ *   pas_best          14,848  about 15,400          20,480
  *
  * These are measured and not proved: nothing in the toolchain bounds a stack. examples/c/stack measures them, on the
  * largest sheets, on refused ones and on random ones, and fails where a call takes more than its figure. The table is
@@ -135,9 +135,9 @@ extern "C" {
  */
 #define PAS_STACK_CHECK 1024u
 #define PAS_STACK_PLAY 28672u
-#define PAS_STACK_DOWNWARD 32768u
+#define PAS_STACK_DOWNWARD 24576u
 #define PAS_STACK_GAIN 40960u
-#define PAS_STACK_BEST 24576u
+#define PAS_STACK_BEST 20480u
 
 /* the largest of the five */
 #define PAS_MAX_STACK PAS_STACK_GAIN

@@ -8,9 +8,9 @@
 //! The C header `include/pas.h` is the manual: the sheet's layout, the limits, what each call means. It says "place" for a slot and
 //! "condition" for a constraint, and so do the sentences of a [`Refusal`]; `docs/EMBEDDING.md` of the repository has the table of words.
 //!
-//! Build it with `cargo build`. It links `target/staticlib/libpas.a` of the repository, which `rt staticlib pas` writes (the build runs
-//! that command if the archive is not there), or the archive in the folder that the environment variable `PAS_LIB_DIR` names. It needs
-//! the standard library only.
+//! Build it with `cargo build`. It links `target/staticlib/libpas.a` of the repository, which the build has `./build-library` prove and
+//! write where it is missing or older than a source, or the archive in the folder that the environment variable `PAS_LIB_DIR` names. It
+//! needs the standard library only.
 //!
 //! Bidder 1 wants to stand above 2, 2 above 3 and 3 above 4, while the bids rise (round H of the repository's `sheets/`):
 //!

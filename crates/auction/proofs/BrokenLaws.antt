@@ -1,28 +1,12 @@
 -- What a broken constraint says, that it stays broken as the page fills, and who is eligible. Assumes nothing.
-use Prim.Native.Nat.{ℕ, zero, suc, _<_, _≤_}
-use borrow.Author.Tests.{eq-eqb, ne-eqb, eqb-true, not-true}
+use Prim.Native.Nat.{ℕ, _<_, _≤_}
+use borrow.Author.Tests.{eq-eqb, eqb-true, not-true}
 use mathlib.Core.Bool.{Bool, true, false, not, _&&_, _||_}
-use mathlib.Core.Logic.{_⊎_, inl, inr, ⊎-elim}
+use mathlib.Core.Logic.{_⊎_, ⊎-elim}
 use mathlib.Core.Path.{_≡_, refl, sym, _∙_, ap, subst}
-use native.Mathlib.Omega.{arith}
 use lib.Dec.{eqb}
 use Rattle.basis.specs.Tests.{anyBelow}
-use Rattle.basis.proofs.TestLaws.{
-  same-tests,
-  holds-or-fails,
-  not-both,
-  holds,
-  fails,
-  and-holds,
-  and-parts,
-  or-left,
-  or-right,
-  not-holds,
-  any-at,
-  any-where,
-  any-none,
-  none-any,
-}
+use Rattle.basis.proofs.TestLaws.{same-tests, not-both, fails, and-holds, and-parts, or-left, or-right, not-holds, any-at, any-where, any-none, none-any}
 use Rattle.sheet.specs.declared.Bidder.{Bidder}
 use Rattle.sheet.specs.declared.Slot.{Slot}
 use Rattle.sheet.specs.declared.Kind.{Kind}
@@ -33,7 +17,7 @@ use Rattle.sheet.specs.declared.Round.{Round}
 use Rattle.auction.specs.Page.{at, put, emptyPage, placed, Sized}
 use Rattle.auction.specs.Broken.{ownHolds, otherHolds, broken, breaks}
 use Rattle.sheet.specs.Round.{constraintAt, Has}
-use Rattle.sheet.specs.Proper.{ProperKind, Proper, ProperRound}
+use Rattle.sheet.specs.Proper.{ProperKind, Proper}
 use Rattle.auction.specs.Greedy.{concerns, eligible}
 use Rattle.auction.proofs.PageLaws.{Keeps, keeps-placed, placed-at, placed-put, empty-placed}
 

@@ -1,19 +1,17 @@
 -- Two rounds that differ only in one bidder's list and bid play alike until that bidder has a slot in one of them: its constraints
 -- bind nobody before. Assumes nothing.
 use Prim.Native.Nat.{ℕ, zero, suc, _<_, _≤_}
-use mathlib.Core.Bool.{Bool, true, false}
-use mathlib.Core.Logic.{_⊎_, inl, inr, ⊎-elim}
+use mathlib.Core.Bool.{true, false}
+use mathlib.Core.Logic.{_⊎_, ⊎-elim}
 use mathlib.Core.Path.{_≡_, refl, sym, _∙_, ap, ap₂, subst}
 use native.Mathlib.Omega.{arith}
 use Rattle.basis.proofs.TestLaws.{not-both, fails, same-tests}
-use Rattle.sheet.specs.declared.Constraint.{Constraint}
 use Rattle.sheet.specs.declared.Page.{Page}
 use Rattle.sheet.specs.declared.Round.{Round}
 use Rattle.choice.specs.Winner.{winner}
-use Rattle.auction.specs.Page.{at, put, emptyPage, placed, Sized}
-use Rattle.auction.specs.Broken.{broken}
+use Rattle.auction.specs.Page.{at, put, placed, Sized}
 use Rattle.auction.specs.Greedy.{eligible, winnerAt, pageUpTo, greedyPage}
-use Rattle.sheet.specs.Round.{bidOf, Has}
+use Rattle.sheet.specs.Round.{bidOf}
 use Rattle.auction.specs.Except.{Except, SameSets}
 use Rattle.choice.proofs.WinnerLaws.{winner-without}
 use Rattle.auction.proofs.PageLaws.{placed-put, placed-where, put-placed, keeps-placed}

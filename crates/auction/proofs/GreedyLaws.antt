@@ -1,7 +1,7 @@
 -- The greedy page, slot by slot: each slot has its winner, what is filled stays, nobody stands twice, and no constraint is broken.
 -- Assumes nothing.
 use Prim.Native.Nat.{ℕ, zero, suc, _<_, _≤_}
-use mathlib.Core.Bool.{Bool, true, false}
+use mathlib.Core.Bool.{false}
 use mathlib.Core.Logic.{_⊎_, inl, inr, ⊎-elim}
 use mathlib.Core.Path.{_≡_, refl, sym, _∙_, ap, subst}
 use native.Mathlib.Nat.{eq-or-lt-of-le, le-of-suc-le-suc, not-suc-le-zero}
@@ -11,14 +11,13 @@ use Rattle.sheet.specs.declared.Constraint.{Constraint}
 use Rattle.sheet.specs.declared.Page.{Page}
 use Rattle.sheet.specs.declared.Round.{Round}
 use Rattle.choice.specs.Tables.{bidIn}
-use Rattle.choice.specs.Winner.{winner}
-use Rattle.auction.specs.Page.{at, put, emptyPage, placed, Sized}
+use Rattle.auction.specs.Page.{at, put, Sized}
 use Rattle.auction.specs.Broken.{broken, breaks}
 use Rattle.auction.specs.Greedy.{eligible, winnerAt, fillSlot, pageUpTo, greedyPage}
 use Rattle.sheet.specs.Round.{bidOf, Has}
 use Rattle.sheet.specs.Proper.{Proper, ProperRound}
 use Rattle.choice.proofs.WinnerLaws.{Wins, winner-wins, winner-none, none-winner, winner-most}
-use Rattle.auction.proofs.PageLaws.{put-sized, empty-sized, at-put-same, at-put-other, at-empty, at-within, placed-at, placed-where, put-nobody, Keeps, keeps-refl, keeps-trans, put-keeps, keeps-placed}
+use Rattle.auction.proofs.PageLaws.{put-sized, empty-sized, at-put-same, at-put-other, at-empty, at-within, placed-at, put-nobody, Keeps, keeps-refl, keeps-trans, put-keeps}
 use Rattle.basis.proofs.NumberLaws.{same-or-not}
 use Rattle.auction.proofs.BrokenLaws.{empty-unbroken, eligible-unplaced, eligible-unbroken, none-breaks}
 

@@ -4,33 +4,31 @@
 use Prim.Native.Nat.{ℕ, zero, suc, _<_, _≤_}
 use borrow.Author.Tests.{eq-eqb, ne-eqb, eqb-true}
 use mathlib.Core.Bool.{Bool, true, false}
-use mathlib.Core.Logic.{_⊎_, inl, inr, ⊎-elim}
+use mathlib.Core.Logic.{_⊎_, ⊎-elim}
 use mathlib.Core.Path.{_≡_, refl, sym, _∙_, ap, ap₂, subst}
-use native.Mathlib.Nat.{le-of-suc-le-suc, not-suc-le-zero}
+use native.Mathlib.Nat.{not-suc-le-zero}
 use native.Mathlib.Omega.{arith}
-use lib.Dec.{eqb}
-use lib.ListN.{length, getD, set}
+use lib.ListN.{length}
 use lib.Seq.{getD-set-same, getD-set-other}
 use Rattle.basis.specs.Tests.{least}
-use Rattle.basis.proofs.TestLaws.{not-both, holds, fails, same-tests, holds-or-fails, least-is, least-at-most}
+use Rattle.basis.proofs.TestLaws.{not-both, least-is, least-at-most}
 use Rattle.sheet.specs.declared.Constraint.{Constraint}
 use Rattle.sheet.specs.declared.Page.{Page}
 use Rattle.sheet.specs.declared.Round.{Round}
 use Rattle.choice.specs.Winner.{ranksNoLower, winner}
 use Rattle.choice.specs.Critical.{criticalBid}
-use Rattle.auction.specs.Page.{at, put, placed, Sized}
+use Rattle.auction.specs.Page.{at, put, placed}
 use Rattle.sheet.specs.Proper.{ProperRound}
 use Rattle.sheet.specs.Round.{constraintAt, bidOf, Has}
 use Rattle.auction.specs.Greedy.{eligible, winnerAt, pageUpTo, greedyPage}
 use Rattle.auction.specs.Price.{withBid, winsWith, priceFor, price}
 use Rattle.auction.specs.Except.{Except, SameSets}
-use Rattle.choice.proofs.WinnerLaws.{Wins, winner-wins, winner-same, ranks-cases, ranks-antisym}
+use Rattle.choice.proofs.WinnerLaws.{Wins, winner-wins, winner-same, ranks-cases}
 use Rattle.choice.proofs.CriticalLaws.{ExceptBid, enough-wins, less-loses, critical-at-most-bid, critical-same}
-use Rattle.auction.proofs.PageLaws.{placed-at}
-use Rattle.basis.proofs.NumberLaws.{same-or-not, below-or-not}
+use Rattle.basis.proofs.NumberLaws.{same-or-not}
 use Rattle.auction.proofs.BrokenLaws.{eligible-unplaced}
-use Rattle.auction.proofs.GreedyLaws.{upTo-next, upTo-sized, upTo-slot, slot-winner, winner-eligible, winner-bidder, empty-nobody}
-use Rattle.auction.proofs.ExceptLaws.{winner-except, unplaced-before, eligible-except, upTo-sets, sets-except, stranger-unplaced, page-sets}
+use Rattle.auction.proofs.GreedyLaws.{upTo-next, upTo-sized, slot-winner, winner-eligible, winner-bidder, empty-nobody}
+use Rattle.auction.proofs.ExceptLaws.{winner-except, unplaced-before, eligible-except, upTo-sets, sets-except, page-sets}
 
 -- The replay's round: the same but for one bid.
 module _ (r : Round) (w x : ℕ) where

@@ -6,7 +6,7 @@ use Rattle.basis.specs.Tests.{anyBelow}
 use Rattle.sheet.specs.declared.Constraint.{Constraint}
 use Rattle.sheet.specs.declared.Page.{Page}
 use Rattle.sheet.specs.declared.Round.{Round}
-use Rattle.auction.specs.Page.{at, put, emptyPage, placed}
+use Rattle.auction.specs.Page.{put, emptyPage, placed}
 use Rattle.auction.specs.Broken.{broken}
 use Rattle.sheet.specs.Round.{bidOf, constraintAt}
 use Rattle.choice.specs.Winner.{winner}

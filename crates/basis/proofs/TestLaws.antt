@@ -60,6 +60,10 @@ or-none false b e = (refl, e)
 pub or-fails : {a b : Bool} → a ≡ false → b ≡ false → (a || b) ≡ false
 or-fails p q = ap₂ _||_ p q
 
+pub or-assoc : (a b c : Bool) → ((a || b) || c) ≡ (a || (b || c))
+or-assoc true b c = refl
+or-assoc false b c = refl
+
 pub not-holds : {b : Bool} → b ≡ false → not b ≡ true
 not-holds p = ap not p
 

@@ -15,7 +15,7 @@ use lib.Seq.{getD-set-same, getD-set-other}
 use Rattle.basis.specs.Bits.{bitOf}
 use Rattle.basis.specs.Tests.{anyBelow}
 use Rattle.basis.proofs.BitLaws.{bit-or, bit-zero, bit-single}
-use Rattle.basis.proofs.TestLaws.{not-both, fails, same-tests, any-at, and-holds, and-parts, or-left, or-right, or-parts, any-same}
+use Rattle.basis.proofs.TestLaws.{not-both, fails, same-tests, any-at, and-holds, and-parts, or-left, or-right, or-parts, any-same, or-assoc}
 use Rattle.sheet.specs.declared.Bidder.{Bidder}
 use Rattle.sheet.specs.declared.Slot.{Slot}
 use Rattle.sheet.specs.declared.Kind.{Kind}
@@ -141,11 +141,6 @@ second-left-out n x s y t b k j l m d past i =
     d .left-out past (omega arith) (omega arith)))
     ∙ or-false m)
 
--- two reasons to be marked, one after the other
-pub marked-also : (m x y : Bool) → ((m || x) || y) ≡ (m || (x || y))
-marked-also true x y = refl
-marked-also false x y = refl
-
 -- 1 to n and the next one
 below-or-next : (k n : ℕ) → (leb k n || eqb (n + 1) k) ≡ leb k (n + 1)
 below-or-next k n =
@@ -214,7 +209,7 @@ unfolding someSlots
 slot-more m before after x y t n b k j l now was =
     now
     ∙ ap (λ (z : Bool). z || eitherWay x (n + 1) y t b k j l) was
-    ∙ marked-also m (someSlots x y t n b k j l) (eitherWay x (n + 1) y t b k j l)
+    ∙ or-assoc m (someSlots x y t n b k j l) (eitherWay x (n + 1) y t b k j l)
     ∙ ap (λ (z : Bool). m || z)
     (joined (eqb x b) (sameAt y t j l) (sameAt y t b k) (eqb x j) (leb k n) (eqb (n + 1) k) (leb l n) (eqb (n + 1) l)
     ∙ ap₂ (λ (u v : Bool). ((eqb x b && u) && sameAt y t j l) || (sameAt y t b k && (eqb x j && v))) (below-or-next k n) (below-or-next l n))

@@ -1,7 +1,7 @@
 -- There is at most one best page. Assumes nothing.
-use Prim.Native.Nat.{ℕ, zero, suc, _<_, _≤_}
-use mathlib.Core.Logic.{_⊎_, inl, inr, ⊎-elim}
-use mathlib.Core.Path.{_≡_, refl, sym, _∙_, ap, subst}
+use Prim.Native.Nat.{ℕ, _<_, _≤_}
+use mathlib.Core.Logic.{_⊎_, ⊎-elim}
+use mathlib.Core.Path.{_≡_, sym, subst}
 use native.Mathlib.Nat.{le-antisymm}
 use native.Mathlib.Omega.{arith}
 use Rattle.sheet.specs.declared.Page.{Page}
@@ -9,7 +9,7 @@ use Rattle.sheet.specs.declared.Round.{Round}
 use Rattle.auction.specs.Page.{at}
 use Rattle.basis.proofs.NumberLaws.{same-or-not, below-or-not}
 use Rattle.best_page.specs.Best.{Precedes, Best}
-use Rattle.auction.specs.Allowed.{Allowed, total}
+use Rattle.auction.specs.Allowed.{total}
 
 -- two pages do not each precede the other
 pub not-both-precede : (p q : Page) → Precedes p q → Precedes q p → ⊥

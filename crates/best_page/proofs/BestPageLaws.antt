@@ -1,31 +1,30 @@
 -- Trying every page finds the best one: the steps of the search, with nothing left out. Assumes nothing.
 use Prim.Native.Nat.{ℕ, zero, suc, _+_, _<_, _≤_}
-use borrow.Author.Tests.{leb-true, leb-false, le-leb, eq-eqb, ne-eqb, eqb-true, eqb-false, not-true}
+use borrow.Author.Tests.{leb-true, leb-false, eq-eqb, ne-eqb, eqb-true, eqb-false, not-true}
 use mathlib.Core.Bool.{Bool, true, false, cond, not, _&&_, _||_}
 use mathlib.Core.Logic.{_⊎_, inl, inr, ⊎-elim}
 use mathlib.Core.Path.{_≡_, refl, sym, _∙_, ap, subst}
-use native.Mathlib.Nat.{not-suc-le-zero}
 use native.Mathlib.Omega.{arith}
 use lib.Dec.{eqb, leb}
 use Rattle.basis.specs.Tests.{allBelow}
-use Rattle.basis.proofs.TestLaws.{holds-or-fails, not-both, holds, and-holds, and-parts, or-parts, or-left, or-right, not-holds, at-all, all-at}
+use Rattle.basis.proofs.TestLaws.{holds-or-fails, not-both, and-holds, and-parts, or-parts, or-left, or-right, not-holds, at-all, all-at}
 use Rattle.sheet.specs.declared.Page.{Page}
 use Rattle.sheet.specs.declared.Round.{Round}
 use Rattle.auction.specs.Page.{at, put, emptyPage, Sized}
 use Rattle.auction.specs.Broken.{breaks}
 use Rattle.sheet.specs.Proper.{ProperRound}
-use Rattle.auction.proofs.PageLaws.{at-zero, put-sized, empty-sized, at-put-same, at-put-other, at-empty, empty-placed}
+use Rattle.auction.proofs.PageLaws.{at-zero, put-sized, empty-sized, at-put-same, at-put-other, at-empty}
 use Rattle.basis.proofs.NumberLaws.{same-or-not, below-or-not}
 use Rattle.auction.proofs.BrokenLaws.{none-breaks, empty-unbroken}
 use Rattle.best_page.specs.Best.{Best}
-use Rattle.auction.specs.Allowed.{PageOf, Allowed, total}
-use Rattle.best_page.specs.Search.{Nothing, Found, Searched}
+use Rattle.auction.specs.Allowed.{Allowed, total}
+use Rattle.best_page.specs.Search.{Searched}
 use Rattle.best_page.specs.Search.{Agrees, Tried}
 use Rattle.best_page.specs.BestPage.{nobodyTwice, isAllowed, keep, eachChoice, tryAll, bestPage}
 use Rattle.best_page.specs.declared.Answer.{Answer}
 use Rattle.best_page.proofs.BestLaws.{best-unique}
 use Rattle.best_page.proofs.SearchLaws.{searched-none, searched-best}
-use Rattle.best_page.proofs.TriedLaws.{settled-only, none-tried, choice-tried, all-tried}
+use Rattle.best_page.proofs.TriedLaws.{all-agree, settled-only, none-tried, choice-tried, all-tried}
 
 -- slots 1 to k are chosen, with numbers of the round's bidders, and the later ones are empty
 record Chosen-to (r : Round) (p : Page) (k : ℕ) : Type 0 where
@@ -188,13 +187,9 @@ module _ (r : Round) (few : r .slots ≤ 16) where
   pub best-page : ProperRound r → Best r (bestPage r)
   unfolding bestPage
   best-page c =
-      searched-best r (Agrees emptyPage 0) 0 emptyPage _ _ (λ q ok j l. at-none q j l) emptyPage (empty-allowed c) (omega arith)
+      searched-best r (Agrees emptyPage 0) 0 emptyPage _ _ (λ q ok. all-agree q) emptyPage (empty-allowed c) (omega arith)
       (all-searched (r .slots) 0 emptyPage (record { page = emptyPage; need = 0 }) (omega arith) empty-chosen)
       .0
-    where
-      at-none : (q : Page) (j : ℕ) → j ≤ 0 → at q j ≡ at emptyPage j
-      at-none q zero l = at-zero q ∙ sym (at-zero emptyPage)
-      at-none q (suc j) l = absurd (not-suc-le-zero l)
 
   pub is-best-page : ProperRound r → (p : Page) → Best r p → p ≡ bestPage r
   is-best-page c p b = best-unique r p (bestPage r) b (best-page c)

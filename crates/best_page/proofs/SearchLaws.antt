@@ -1,15 +1,14 @@
 -- Searches put together: through one set and then through another whose pages all come later, and through a set that holds nothing
 -- large enough. Assumes nothing.
-use Prim.Native.Nat.{ℕ, zero, suc, _<_, _≤_}
+use Prim.Native.Nat.{ℕ, suc, _<_, _≤_}
 use mathlib.Core.Logic.{_⊎_, inl, inr, ⊎-elim}
-use mathlib.Core.Path.{_≡_, refl, sym, _∙_, ap, subst}
+use mathlib.Core.Path.{_≡_, refl, sym, _∙_, subst}
 use native.Mathlib.Omega.{arith}
 use Rattle.sheet.specs.declared.Page.{Page}
 use Rattle.sheet.specs.declared.Round.{Round}
-use Rattle.auction.specs.Page.{at}
 use Rattle.best_page.specs.Best.{Precedes, Best}
 use Rattle.auction.specs.Allowed.{Allowed, total}
-use Rattle.best_page.specs.Search.{Nothing, Found, Searched}
+use Rattle.best_page.specs.Search.{Searched}
 
 module _ (r : Round) where
   -- a set without a page that is large enough

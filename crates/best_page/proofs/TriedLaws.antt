@@ -2,18 +2,23 @@
 -- tried, and nothing left to choose. Assumes nothing.
 use Prim.Native.Nat.{ℕ, zero, suc, _<_, _≤_}
 use mathlib.Core.Logic.{_⊎_, inl, inr, ⊎-elim}
-use mathlib.Core.Path.{_≡_, refl, sym, _∙_, ap}
+use mathlib.Core.Path.{_≡_, sym, _∙_, ap}
 use native.Mathlib.Nat.{eq-or-lt-of-le, le-of-suc-le-suc, not-suc-le-zero}
 use native.Mathlib.Omega.{arith}
 use Rattle.basis.proofs.NumberLaws.{below-or-not}
 use Rattle.sheet.specs.declared.Page.{Page}
 use Rattle.sheet.specs.declared.Round.{Round}
-use Rattle.auction.specs.Page.{at, put, Sized}
+use Rattle.auction.specs.Page.{at, put, emptyPage, Sized}
 use Rattle.auction.specs.Allowed.{Allowed}
-use Rattle.auction.proofs.PageLaws.{at-put-same, at-put-other, page-same}
+use Rattle.auction.proofs.PageLaws.{at-zero, at-put-same, at-put-other, page-same}
 use Rattle.best_page.specs.Best.{Precedes}
 use Rattle.best_page.specs.Search.{Searched, Agrees, Tried}
 use Rattle.best_page.proofs.SearchLaws.{searched-none, searched-next}
+
+-- Before slot 1 every page agrees with the empty one.
+pub all-agree : (q : Page) → Agrees emptyPage 0 q
+all-agree q zero l = at-zero q ∙ sym (at-zero emptyPage)
+all-agree q (suc j) l = absurd (not-suc-le-zero l)
 
 -- A page whose every slot is settled is the only one that agrees with it.
 pub settled-only : (r : Round) (p : Page) → Sized p → ((j : ℕ) → r .slots < j → at p j ≡ 0) → (q : Page) → Agrees p (r .slots) q → Allowed r q → q ≡ p

@@ -5,7 +5,7 @@ use mathlib.Core.Bool.{Bool, true, false, not, _&&_, _||_, cond}
 use mathlib.Core.List.{List}
 use mathlib.Core.Logic.{_⊎_, inl, inr, ⊎-elim}
 use mathlib.Core.Path.{_≡_, refl, sym, _∙_, ap, ap₂, subst}
-use native.Mathlib.Nat.{not-suc-le-zero, eq-or-lt-of-le, le-of-suc-le-suc, mul-le-mul}
+use native.Mathlib.Nat.{eq-or-lt-of-le, le-of-suc-le-suc, mul-le-mul}
 use native.Mathlib.Omega.{arith}
 use lib.Dec.{ltb}
 use lib.ListN.{length, getD}
@@ -14,17 +14,17 @@ use Rattle.basis.proofs.TestLaws.{holds-or-fails, not-both, and-parts, and-fail
 use Rattle.sheet.specs.declared.Page.{Page}
 use Rattle.sheet.specs.declared.Round.{Round}
 use Rattle.choice.specs.Tables.{bidIn}
-use Rattle.auction.specs.Page.{at, put, placed, Sized}
+use Rattle.auction.specs.Page.{at, put, placed}
 use Rattle.auction.specs.Broken.{breaks}
 use Rattle.sheet.specs.Round.{bidOf, effectOf}
 use Rattle.sheet.specs.Proper.{ProperRound}
 use Rattle.auction.proofs.PageLaws.{put-nobody}
 use Rattle.basis.proofs.NumberLaws.{below-or-not}
-use Rattle.best_bound.specs.Bound.{sumFrom, slotAfter, addAfter, BidsFall, NoRise, Assigns, BoundHolds, eligibleIn, nth}
+use Rattle.best_bound.specs.Bound.{sumFrom, slotAfter, addAfter, Assigns, BoundHolds, eligibleIn, nth}
 use Rattle.best_clash.specs.Clash.{clashes, clashesIn, BarredBy}
 use Rattle.best_search.specs.declared.Prospect.{Prospect}
-use Rattle.auction.specs.Allowed.{Allowed, total}
-use Rattle.best_page.specs.Search.{Searched, Agrees, Tried}
+use Rattle.auction.specs.Allowed.{Allowed}
+use Rattle.best_page.specs.Search.{Searched, Agrees}
 use Rattle.best_page.proofs.SearchLaws.{searched-none}
 use Rattle.best_search.specs.Node.{TablesOf, Node, mayStand, openTo, Leads}
 use Rattle.best_bound.proofs.BoundLaws.{bound-holds, open-eligible}

@@ -1,23 +1,21 @@
 -- What a node of the search can become, and what that adds at most. Assumes nothing.
 use Prim.Native.Nat.{ℕ, zero, suc, _+_, _*_, _-_, _<_, _≤_}
-use mathlib.Core.Bool.{Bool, true, false, not}
+use mathlib.Core.Bool.{Bool, true, false}
 use mathlib.Core.Logic.{_⊎_, inl, inr, ⊎-elim}
 use mathlib.Core.Path.{_≡_, refl, sym, _∙_, ap, ap₂, subst}
-use native.Mathlib.Nat.{eq-or-lt-of-le, le-of-suc-le-suc, not-suc-le-zero}
 use native.Mathlib.Omega.{arith}
-use lib.ListN.{length, getD}
-use Rattle.basis.proofs.TestLaws.{not-both, fails, not-holds}
+use Rattle.basis.proofs.TestLaws.{not-both, fails}
 use Rattle.sheet.specs.declared.Page.{Page}
 use Rattle.sheet.specs.declared.Round.{Round}
 use Rattle.sheet.specs.Round.{bidOf, effectOf}
-use Rattle.auction.specs.Page.{at, put, placed, Sized}
-use Rattle.auction.specs.Broken.{broken, breaks}
+use Rattle.auction.specs.Page.{at, put, placed}
+use Rattle.auction.specs.Broken.{breaks}
 use Rattle.sheet.specs.Proper.{ProperRound}
-use Rattle.auction.proofs.PageLaws.{put-sized, at-put-same, at-put-other, at-within, placed-at, placed-where, put-nobody, Keeps}
+use Rattle.auction.proofs.PageLaws.{put-sized, at-put-same, at-put-other, at-within, placed-at, placed-where, Keeps}
 use Rattle.basis.proofs.NumberLaws.{same-or-not, below-or-not}
-use Rattle.auction.proofs.BrokenLaws.{broken-stays, breaks-where, breaks-at, breaks-none}
+use Rattle.auction.proofs.BrokenLaws.{broken-stays, breaks-where, breaks-at}
 use Rattle.best_bound.specs.Bound.{sumFrom, Assigns, nth}
-use Rattle.auction.specs.Allowed.{PageOf, Allowed, totalUpTo, total}
+use Rattle.auction.specs.Allowed.{Allowed, totalUpTo, total}
 use Rattle.best_page.specs.Search.{Agrees}
 use Rattle.best_page.proofs.TriedLaws.{settled-only}
 use Rattle.best_search.specs.Node.{Node}

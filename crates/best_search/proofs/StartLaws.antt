@@ -1,38 +1,31 @@
 -- Where the search starts: the tables are the round's, the empty page is its first node, and some page has what it looks for.
 -- Assumes nothing.
-use Prim.Native.Nat.{ℕ, zero, suc, _+_, _*_, _<_, _≤_}
-use mathlib.Core.Bool.{Bool, false}
+use Prim.Native.Nat.{ℕ, suc, _<_, _≤_}
 use mathlib.Core.List.{List}
-use mathlib.Core.Logic.{_⊎_, inl, inr, ⊎-elim}
-use mathlib.Core.Path.{_≡_, refl, sym, _∙_, ap, ap₂, subst, subst₂}
-use native.Mathlib.Nat.{not-suc-le-zero}
+use mathlib.Core.Logic.{_⊎_, ⊎-elim}
+use mathlib.Core.Path.{_≡_, refl, sym, _∙_, subst, subst₂}
 use native.Mathlib.Omega.{arith}
-use lib.ListN.{length, getD, take, replicate, getD-replicate, List·getD-eq-default, length-replicate}
+use lib.ListN.{length, getD, take}
 use lib.Seq.{getD-take, length-take-le}
 use Rattle.sheet.specs.declared.Page.{Page}
 use Rattle.sheet.specs.declared.Round.{Round}
 use Rattle.choice.specs.Tables.{bidIn}
 use Rattle.choice.specs.Ranking.{InOrder}
 use Rattle.choice.proofs.RankingLaws.{ranked-once, ranked-falls}
-use Rattle.auction.specs.Page.{at, put, emptyPage, Sized}
-use Rattle.auction.specs.Broken.{breaks}
+use Rattle.auction.specs.Page.{emptyPage}
 use Rattle.sheet.specs.Round.{bidOf, effectOf}
 use Rattle.sheet.specs.Proper.{ProperRound}
 use Rattle.auction.proofs.PageLaws.{empty-sized, at-empty}
-use Rattle.basis.proofs.NumberLaws.{below-or-not}
 use Rattle.auction.proofs.GreedyLaws.{bid-listed}
 use Rattle.auction.proofs.BrokenLaws.{none-breaks, empty-unbroken}
 use Rattle.best_bound.specs.Bound.{nth}
 use Rattle.best_clash.specs.Clash.{TableOf, BarredBy}
 use Rattle.best_page.specs.Best.{Best}
-use Rattle.best_page.specs.Search.{Searched, Agrees}
+use Rattle.best_page.specs.Search.{Agrees}
 use Rattle.best_page.proofs.SearchLaws.{searched-best}
-use Rattle.auction.specs.Allowed.{PageOf, Allowed, totalUpTo, total}
-use Rattle.best_search.specs.Node.{RankedBy, TablesOf, Node, Lent, Attempt, Raised}
-
-at-zero : (p : Page) → at p 0 ≡ 0
-unfolding at
-at-zero p = refl
+use Rattle.auction.specs.Allowed.{Allowed, totalUpTo, total}
+use Rattle.best_page.proofs.TriedLaws.{all-agree}
+use Rattle.best_search.specs.Node.{TablesOf, Node, Lent, Attempt, Raised}
 
 effect-same : (r : Round) (k : ℕ) → nth (r .effects) k ≡ effectOf r (suc k)
 unfolding nth effectOf
@@ -127,9 +120,5 @@ module _ (r : Round) (c : ProperRound r) (few : r .bidders ≤ 8) (short : r .sl
       Best r page′ × (need′ ≡ suc (total r page′))
   best-found barred need page need′ page′ told g f =
       let start = start-reached barred need told g in
-      searched-best r (Agrees emptyPage 0) need page need′ page′ (λ q ok j l. at-none q j l) (start .0) (start .1) (start .2)
+      searched-best r (Agrees emptyPage 0) need page need′ page′ (λ q ok. all-agree q) (start .0) (start .1) (start .2)
       (f r tables-of first-node)
-    where
-      at-none : (q : Page) (j : ℕ) → j ≤ 0 → at q j ≡ at emptyPage j
-      at-none q zero l = at-zero q ∙ sym (at-zero emptyPage)
-      at-none q (suc j) l = absurd (not-suc-le-zero l)

@@ -1,15 +1,11 @@
 -- The search at a page whose every slot is settled: it is large enough, or it is not. Assumes nothing.
-use Prim.Native.Nat.{ℕ, zero, suc, _+_, _*_, _<_, _≤_}
-use mathlib.Core.Bool.{Bool, true, false, not}
-use mathlib.Core.Logic.{_⊎_, inl, inr, ⊎-elim}
-use mathlib.Core.Path.{_≡_, refl, sym, _∙_, ap, subst}
-use native.Mathlib.Nat.{not-suc-le-zero}
+use Prim.Native.Nat.{ℕ, suc, _<_, _≤_}
+use mathlib.Core.Logic.{inl, inr}
+use mathlib.Core.Path.{refl, sym, ap}
 use native.Mathlib.Omega.{arith}
 use Rattle.sheet.specs.declared.Page.{Page}
 use Rattle.sheet.specs.declared.Round.{Round}
-use Rattle.auction.specs.Page.{at, put, Sized}
-use Rattle.sheet.specs.Round.{bidOf, effectOf}
-use Rattle.auction.specs.Allowed.{Allowed, total}
+use Rattle.auction.specs.Allowed.{total}
 use Rattle.best_page.specs.Search.{Searched, Agrees}
 use Rattle.best_page.proofs.SearchLaws.{searched-none}
 use Rattle.best_search.specs.Node.{Node}

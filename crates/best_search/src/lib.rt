@@ -1,5 +1,4 @@
 // The best page of a round of up to 8 bidders and 8 slots.
-ghost use mathlib.Core.Bool.{Bool};
 ghost use mathlib.Core.Path.{_≡_};
 ghost use Prim.Native.Nat.{ℕ, suc, _<_, _≤_, _+_, _*_};
 ghost use lib.ListN.{length, getD};

@@ -3,7 +3,6 @@
 // The bidder's own constraints are taken out as numbers, one each, in which the own slot counts ones: the constraint with the own slot
 // one lower ("place k + 1") is the number plus one. So the test looks each number plus one up among the numbers, which costs the
 // square of the bidder's own constraints and not of the sheet's.
-ghost use mathlib.Core.Bool.{Bool};
 ghost use mathlib.Core.Path.{_≡_};
 ghost use Prim.Native.Nat.{_≤_};
 ghost use lib.ListN.{length};

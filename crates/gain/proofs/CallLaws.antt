@@ -1,14 +1,13 @@
 -- The cases of a gain call. Assumes nothing.
 use Prim.Native.Nat.{ℕ, zero, suc, _-_, _<_, _≤_}
 use borrow.Author.Tests.{eqb-true, eqb-false, ltb-false, not-false}
-use mathlib.Core.Bool.{Bool, not, _||_}
+use mathlib.Core.Bool.{not, _||_}
 use mathlib.Core.List.{List}
 use mathlib.Core.Path.{_≡_, refl, sym, _∙_, ap, ap₂, subst}
 use native.Mathlib.Omega.{arith}
 use lib.Dec.{eqb, ltb}
-use lib.IntN.{ℤ, pos}
-use lib.ListN.{length, getD}
-use Rattle.basis.specs.Rows.{padded}
+use lib.IntN.{pos}
+use lib.ListN.{getD}
 use Rattle.basis.proofs.FirstLaws.{orElse-left, orElse-right, when-none}
 use Rattle.basis.proofs.TestLaws.{or-none}
 use Rattle.basis.proofs.RowLaws.{getD-padded}
@@ -25,7 +24,6 @@ use Rattle.greedy.specs.declared.Outcome.{Outcome}
 use Rattle.greedy.specs.Outcome.{outcomeOf}
 use Rattle.gain.specs.Gain.{slotOf, breaksOwn, gainIf, gainAt, gainOf}
 use Rattle.gain.specs.Call.{laterRefusal, gainRefusal, gainedFor, gainedOf}
-use Rattle.gain.specs.declared.Gained.{Gained}
 use Rattle.gain.proofs.SlotLaws.{slot-found, slot-won}
 
 -- a refused call

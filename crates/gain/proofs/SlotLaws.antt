@@ -2,21 +2,20 @@
 use Prim.Native.Nat.{ℕ, zero, suc, _+_, _*_, _-_, _<_, _≤_}
 use borrow.Author.Tests.{eq-eqb, ne-eqb, lt-ltb, le-ltb}
 use mathlib.Core.Bool.{Bool, true, false, cond, _&&_}
-use mathlib.Core.Logic.{_⊎_, inl, inr, ⊎-elim}
-use mathlib.Core.Path.{_≡_, refl, sym, _∙_, ap, ap₂, subst}
+use mathlib.Core.Logic.{_⊎_, ⊎-elim}
+use mathlib.Core.Path.{_≡_, refl, sym, _∙_, ap}
 use native.Mathlib.Nat.{not-suc-le-zero, eq-or-lt-of-le, mul-zero, sub-zero, mul-le-mul}
 use native.Mathlib.Omega.{arith}
 use lib.Dec.{T, eqb, leb, le→leb}
 use lib.Signed.{_≤ℤ_, mag}
-use lib.IntN.{ℤ, pos, negsuc, negℤ, subℕ, _+ℤ_, _-ℤ_, _*ℤ_, pos-*ℤ-pos}
+use lib.IntN.{ℤ, pos, negsuc, negℤ, _-ℤ_, _*ℤ_}
 use Rattle.basis.specs.First.{_when_otherwise_, firstOver}
-use Rattle.basis.specs.Tests.{anyBelow}
-use Rattle.basis.proofs.FirstLaws.{first-found, first-none, first-next, orElse-left, orElse-right, first-all-none}
-use Rattle.basis.proofs.TestLaws.{holds-or-fails, not-both, fails, and-holds, and-parts, any-at, any-where}
+use Rattle.basis.proofs.FirstLaws.{first-found, first-none, orElse-left, orElse-right, first-all-none}
+use Rattle.basis.proofs.TestLaws.{not-both, fails, and-holds, and-parts, any-at, any-where}
 use Rattle.sheet.specs.declared.Constraint.{Constraint}
 use Rattle.sheet.specs.declared.Page.{Page}
 use Rattle.sheet.specs.declared.Round.{Round}
-use Rattle.auction.specs.Page.{at, placed, Sized}
+use Rattle.auction.specs.Page.{at, placed}
 use Rattle.auction.specs.Broken.{broken}
 use Rattle.auction.specs.Greedy.{winnerAt, pageUpTo, greedyPage}
 use Rattle.sheet.specs.Proper.{ProperRound}

@@ -5,26 +5,10 @@ use Prim.Native.Nat.{ℕ, zero, suc, _<_, _≤_}
 use borrow.Author.Tests.{eq-eqb, ne-eqb, eqb-true, eqb-false, not-true}
 use mathlib.Core.Bool.{Bool, true, false, not, _&&_, _||_}
 use mathlib.Core.Logic.{_⊎_, inl, inr, ⊎-elim}
-use mathlib.Core.Path.{_≡_, refl, sym, _∙_, ap, ap₂, subst}
-use native.Mathlib.Omega.{arith}
+use mathlib.Core.Path.{_≡_, refl, sym, _∙_, ap, subst}
 use lib.Dec.{eqb}
 use Rattle.basis.specs.Tests.{anyBelow}
-use Rattle.basis.proofs.TestLaws.{
-  not-both,
-  fails,
-  same-tests,
-  and-holds,
-  and-parts,
-  or-left,
-  or-right,
-  or-parts,
-  not-holds,
-  any-at,
-  any-where,
-  none-any,
-  any-none,
-  any-or,
-}
+use Rattle.basis.proofs.TestLaws.{not-both, fails, same-tests, and-holds, and-parts, or-left, or-right, or-parts, not-holds, none-any, any-none, any-or}
 use Rattle.sheet.specs.declared.Bidder.{Bidder}
 use Rattle.sheet.specs.declared.Slot.{Slot}
 use Rattle.sheet.specs.declared.Kind.{Kind}

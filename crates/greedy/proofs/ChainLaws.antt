@@ -2,11 +2,11 @@
 -- between a link and the one before it. And the links whose key says that w stands at k are the constraints that name w there. Assumes
 -- nothing.
 use Rattle.basis.proofs.RowLaws.{zeros}
-use Prim.Native.Nat.{ℕ, zero, suc, _+_, _*_, _<_, _≤_}
+use Prim.Native.Nat.{ℕ, zero, suc, _<_, _≤_}
 use borrow.Author.Tests.{eq-eqb, ne-eqb, eqb-true}
 use mathlib.Core.Bool.{Bool, true, false, cond, not, _&&_, _||_, and-comm, and-false, or-false, or-comm}
 use mathlib.Core.List.{List}
-use mathlib.Core.Logic.{_⊎_, inl, inr, ⊎-elim}
+use mathlib.Core.Logic.{_⊎_, ⊎-elim}
 use mathlib.Core.Path.{_≡_, refl, sym, _∙_, ap, ap₂, subst}
 use native.Mathlib.Nat.{eq-or-lt-of-le, le-of-suc-le-suc}
 use native.Mathlib.Omega.{arith}
@@ -14,14 +14,14 @@ use lib.Dec.{eqb}
 use lib.ListN.{length, getD, set, replicate, length-set}
 use lib.Seq.{getD-set-same, getD-set-other}
 use Rattle.basis.specs.Tests.{anyBelow}
-use Rattle.basis.proofs.TestLaws.{same-tests, and-holds, and-parts, or-left, or-right, or-parts, any-same, any-or, none-any}
+use Rattle.basis.proofs.TestLaws.{same-tests, and-holds, and-parts, or-left, or-parts, any-same, any-or, none-any}
 use Rattle.sheet.specs.declared.Kind.{Kind}
 use Rattle.sheet.specs.declared.Kind.the-variants.{OwnSlot, OtherSlot, Pair}
 use Rattle.sheet.specs.declared.Round.{Round}
 use Rattle.sheet.specs.Round.{constraintAt}
-use Rattle.sheet.specs.Proper.{ProperKind, Proper, ProperRound}
+use Rattle.sheet.specs.Proper.{ProperKind, ProperRound}
 use Rattle.basis.proofs.NumberLaws.{same-or-not}
-use Rattle.greedy.specs.Barred.{openAt, entryIs, barsOwner, barsOther, barredOwner, barredOther}
+use Rattle.greedy.specs.Barred.{entryIs, barsOwner, barsOther, barredOwner, barredOther}
 use Rattle.greedy.specs.Chains.{
   standing,
   bars,
@@ -38,7 +38,6 @@ use Rattle.greedy.specs.Chains.{
   heldNext,
   named,
 }
-use Rattle.greedy.proofs.TableLaws.{barred-also}
 
 -- The last of the first n that passes.
 module _ (f : ℕ → Bool) where

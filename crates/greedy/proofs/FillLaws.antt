@@ -4,7 +4,7 @@ use Prim.Native.Nat.{ℕ, zero, suc, _+_, _*_, _<_, _≤_}
 use borrow.Author.Tests.{eq-eqb}
 use mathlib.Core.Bool.{Bool, true, false, not, _&&_, _||_, and-true}
 use mathlib.Core.List.{List}
-use mathlib.Core.Logic.{_⊎_, inl, inr, ⊎-elim}
+use mathlib.Core.Logic.{_⊎_, ⊎-elim}
 use mathlib.Core.Path.{_≡_, refl, sym, _∙_, ap, ap₂, subst}
 use native.Mathlib.Nat.{not-suc-le-zero}
 use native.Mathlib.Omega.{arith}
@@ -14,12 +14,11 @@ use Rattle.basis.specs.Rows.{padded}
 use Rattle.basis.proofs.RowLaws.{padded-none, padded-next}
 use Rattle.sheet.specs.declared.Page.{Page}
 use Rattle.sheet.specs.declared.Round.{Round}
-use Rattle.choice.specs.Winner.{winner}
 use Rattle.choice.specs.Tables.{bidIn}
 use Rattle.choice.proofs.WinnerLaws.{winner-same}
 use Rattle.choice.proofs.CriticalLaws.{critical-same, critical-nobody}
-use Rattle.auction.specs.Page.{at, put, emptyPage, placed, Sized}
-use Rattle.auction.specs.Greedy.{eligible, winnerAt, pageUpTo, greedyPage}
+use Rattle.auction.specs.Page.{put, emptyPage}
+use Rattle.auction.specs.Greedy.{eligible, winnerAt, pageUpTo}
 use Rattle.sheet.specs.Round.{bidOf}
 use Rattle.sheet.specs.Proper.{ProperRound}
 use Rattle.auction.specs.Price.{price}

@@ -1,5 +1,5 @@
 -- What playing a round gives: its page and the price of each slot.
-use Prim.Native.Nat.{ℕ, suc}
+use Prim.Native.Nat.{suc}
 use Rattle.basis.specs.Rows.{padded}
 use Rattle.sheet.specs.declared.Round.{Round}
 use Rattle.auction.specs.Greedy.{greedyPage}

@@ -9,7 +9,7 @@
 // chain too. A chain is walked once for a candidate and once for a winner. It goes from the last link of a key (`last`) to the one before it
 // (`earlier`), and so on; links are counted from 1 there, and 0 ends a chain. `owners` has for each link the key of its owner where the
 // constraint says, and `held` a 1 for each key that is true of the page.
-ghost use mathlib.Core.Bool.{Bool, not, _&&_, _||_};
+ghost use mathlib.Core.Bool.{not, _&&_, _||_};
 ghost use mathlib.Core.Path.{_≡_};
 ghost use Prim.Native.Nat.{ℕ, suc, _*_, _<_, _≤_};
 ghost use lib.Dec.{eqb};

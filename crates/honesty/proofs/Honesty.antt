@@ -1,10 +1,8 @@
 -- Demand 3: the theorem over what the calls return, from the theorem over rounds. Assumes nothing.
 use Prim.Native.Nat.{ℕ, zero, suc, _<_, _≤_}
 use borrow.Author.Tests.{eq-eqb, ne-eqb, le-ltb}
-use mathlib.Core.Bool.{true}
 use mathlib.Core.List.{List}
-use mathlib.Core.Logic.{_⊎_, inl, inr, ⊎-elim}
-use mathlib.Core.Path.{_≡_, refl, sym, _∙_, ap, ap₂, subst, subst₂}
+use mathlib.Core.Path.{_≡_, refl, sym, _∙_, ap, subst, subst₂}
 use native.Mathlib.Omega.{arith}
 use lib.IntN.{ℤ}
 use lib.ListN.{getD}
@@ -17,7 +15,6 @@ use Rattle.sheet.specs.Refusal.{refusalOf, Accepted}
 use Rattle.sheet.specs.Round.{roundOf, bidOf, effectOf}
 use Rattle.sheet.proofs.RoundLaws.{round-bidders, round-slots, round-bid, round-proper, sheet-round, round-sheet}
 use Rattle.auction.specs.Except.{Except}
-use Rattle.downward.specs.Call.{testedOf}
 use Rattle.gain.specs.Gain.{gainOf}
 use Rattle.gain.specs.Call.{laterRefusal, gainRefusal, gainedFor, gainedOf}
 use Rattle.honesty.specs.Honesty.{DifferOnlyInList, Honesty}

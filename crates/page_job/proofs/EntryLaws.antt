@@ -6,7 +6,7 @@ use mathlib.Core.Path.{_≡_, sym, _∙_, ap}
 use native.Mathlib.Nat.{add-zero}
 use native.Mathlib.Omega.{arith}
 use lib.ListN.{length}
-use Rattle.basis.specs.Bytes.{byteAt, word32At, bytes32}
+use Rattle.basis.specs.Bytes.{byteAt, word32At}
 use Rattle.basis.proofs.BytesLaws.{length-bytes32, word-is, joined-byte}
 use Rattle.sheet.specs.declared.Round.{Round}
 use Rattle.sheet.specs.Proper.{ProperRound}

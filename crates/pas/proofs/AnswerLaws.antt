@@ -2,7 +2,6 @@
 use Prim.Native.Nat.{ℕ, zero, suc}
 use mathlib.Core.List.{List}
 use mathlib.Core.Path.{_≡_, refl, sym, _∙_, ap}
-use native.Mathlib.Omega.{arith}
 use lib.IntN.{ℤ}
 use Rattle.basis.specs.First.{unlessRefused}
 use Rattle.basis.proofs.FirstLaws.{refused-leaves, answered-gives}

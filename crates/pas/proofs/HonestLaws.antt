@@ -1,6 +1,6 @@
 -- Demand 3 at the C edge: what the answers' memory holds is what the calls below return, of which `honesty` speaks. Assumes nothing.
-use Prim.Native.Nat.{ℕ, suc}
-use mathlib.Core.Bool.{Bool, true, false, cond}
+use Prim.Native.Nat.{ℕ}
+use mathlib.Core.Bool.{Bool, true, false}
 use mathlib.Core.List.{List}
 use mathlib.Core.Path.{_≡_, refl, sym, _∙_, ap, subst₂}
 use native.Mathlib.Omega.{arith}

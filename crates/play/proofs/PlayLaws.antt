@@ -1,10 +1,10 @@
 -- The cases of a play call: a refused sheet, a short buffer, and a played round. Assumes nothing.
-use Prim.Native.Nat.{ℕ, zero, suc, _*_, _<_, _≤_}
+use Prim.Native.Nat.{ℕ, suc, _*_, _<_, _≤_}
 use borrow.Author.Tests.{lt-ltb, le-ltb}
-use mathlib.Core.List.{List, _∷_, _++_}
-use mathlib.Core.Path.{_≡_, refl, sym, _∙_, ap, ap₂}
+use mathlib.Core.List.{List, _∷_}
+use mathlib.Core.Path.{_≡_, sym, _∙_, ap}
 use native.Mathlib.Omega.{arith}
-use lib.ListN.{length, getD, drop}
+use lib.ListN.{length}
 use Rattle.basis.specs.Bytes.{bytes32}
 use Rattle.basis.specs.Rows.{joined}
 use Rattle.basis.proofs.FirstLaws.{orElse-left, orElse-right, refused-leaves, answered-gives}

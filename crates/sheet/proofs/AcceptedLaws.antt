@@ -1,16 +1,16 @@
 -- What acceptance means: an accepted sheet has every fact of specs/Accepted.antt, and a sheet with these facts is accepted. Rule by rule,
 -- a test that fails says its fact, and a fact makes its test fail. Assumes nothing.
-use Prim.Native.Nat.{ℕ, zero, suc, _+_, _*_, _<_, _≤_}
+use Prim.Native.Nat.{ℕ, zero, suc, _<_, _≤_}
 use borrow.Author.Tests.{eqb-true, eqb-false, ltb-false, eq-eqb, ne-eqb, le-ltb, not-true, not-false}
 use mathlib.Core.Bool.{Bool, true, false, not, _&&_, _||_, and-false, false≢true}
 use mathlib.Core.List.{List}
 use mathlib.Core.Logic.{⊎-elim}
-use mathlib.Core.Path.{_≡_, refl, sym, _∙_, ap, ap₂}
+use mathlib.Core.Path.{_≡_, refl, sym, _∙_, ap₂}
 use native.Mathlib.Nat.{not-suc-le-zero}
 use native.Mathlib.Omega.{arith}
 use lib.Dec.{eqb, ltb}
 use lib.ListN.{length}
-use Rattle.basis.specs.First.{_when_otherwise_, orElse, firstOver}
+use Rattle.basis.specs.First.{_when_otherwise_, firstOver}
 use Rattle.basis.proofs.FirstLaws.{orElse-none, orElse-right, when-none, first-none, first-all-none}
 use Rattle.basis.proofs.NumberLaws.{same-or-not}
 use Rattle.basis.proofs.TestLaws.{or-none}

@@ -1,16 +1,12 @@
 -- An accepted sheet's round has all that the laws ask of a round. Assumes nothing.
 use Prim.Native.Nat.{ℕ, zero, suc, _<_, _≤_}
 use mathlib.Core.List.{List}
-use mathlib.Core.Logic.{_⊎_, inl, inr, ⊎-elim}
-use mathlib.Core.Path.{_≡_, refl, sym, _∙_, ap, subst}
+use mathlib.Core.Logic.{_⊎_, ⊎-elim}
+use mathlib.Core.Path.{_≡_, refl, sym, _∙_, subst}
 use native.Mathlib.Nat.{not-suc-le-zero}
 use native.Mathlib.Omega.{arith}
-use lib.ListN.{length, getD}
-use Rattle.basis.specs.Rows.{padded}
 use Rattle.basis.proofs.RowLaws.{length-padded, getD-padded, getD-padded-after}
-use Rattle.sheet.specs.declared.Bidder.{Bidder}
 use Rattle.sheet.specs.declared.Constraint.{Constraint}
-use Rattle.sheet.specs.declared.Round.{Round}
 use Rattle.sheet.specs.Sheet.{
   bidderCount,
   slotCount,
@@ -22,8 +18,8 @@ use Rattle.sheet.specs.Sheet.{
   otherField,
   otherSlotField,
 }
-use Rattle.sheet.specs.Refusal.{effectBefore, Accepted}
-use Rattle.sheet.specs.Round.{bidder, slot, kindOf, constraintField, blank, roundOf, bidOf, effectOf, constraintAt, Has, SheetHas}
+use Rattle.sheet.specs.Refusal.{Accepted}
+use Rattle.sheet.specs.Round.{kindOf, constraintField, blank, roundOf, bidOf, effectOf, constraintAt, Has, SheetHas}
 use Rattle.sheet.proofs.AcceptedLaws.{accepted-sheet}
 use Rattle.sheet.specs.Accepted.{ConstraintAccepted, AcceptedSheet}
 use Rattle.sheet.specs.Proper.{ProperKind, Proper, ProperRound}

@@ -2,7 +2,6 @@
 -- Everything that depends on where a field stands goes through the three starts below.
 use Prim.Native.Nat.{ℕ, zero, suc, _+_, _*_}
 use mathlib.Core.List.{List}
-use lib.ListN.{length}
 use Rattle.basis.specs.Bytes.{byteAt, word16At, word32At}
 
 -- 2 bytes: version

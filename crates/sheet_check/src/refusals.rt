@@ -1,12 +1,12 @@
 // The refusals 1 to 13, each part over the fields that it reads.
 ghost use mathlib.Core.Path.{_≡_};
-ghost use mathlib.Core.Bool.{Bool, false, _||_};
+ghost use mathlib.Core.Bool.{false, _||_};
 ghost use Prim.Native.Nat.{suc, _+_, _*_, _/_, _%_, _≤_};
 ghost use lib.Dec.{eqb, ltb};
 ghost use lib.ListN.{length};
-ghost use Rattle.basis.specs.First.{firstOver, orElse};
+ghost use Rattle.basis.specs.First.{firstOver};
 ghost use Rattle.basis.specs.Tests.{anyBelow};
-ghost use Rattle.sheet.specs.Sheet.{bidderCount, slotCount, constraintCount, effectsStart, bidsStart, constraintsStart, sheetLength, effectField, bidField};
+ghost use Rattle.sheet.specs.Sheet.{bidderCount, slotCount, effectsStart, bidsStart, constraintsStart, effectField, bidField};
 ghost use Rattle.sheet.specs.Refusal.{formRefusal, countsRefusal, effectBefore, effectRefusal, bidRefusal, constraintRefusal, inRange, fieldsRefusal};
 use basis::wide;
 use basis::word16;

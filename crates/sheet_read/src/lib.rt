@@ -3,7 +3,7 @@ ghost use mathlib.Core.Path.{_≡_};
 ghost use Prim.Native.Nat.{suc, _+_, _*_, _≤_};
 ghost use lib.ListN.{length};
 ghost use Rattle.basis.specs.Rows.{padded};
-ghost use Rattle.sheet.specs.Sheet.{bidderCount, slotCount, constraintCount, effectsStart, bidsStart, constraintsStart, sheetLength, effectField, bidField};
+ghost use Rattle.sheet.specs.Sheet.{effectsStart, bidsStart, constraintsStart, effectField, bidField};
 ghost use Rattle.sheet.specs.Refusal.{Accepted};
 ghost use Rattle.sheet.specs.Round.{kindOf, constraintField, blank, roundOf};
 ghost use Rattle.sheet_read.specs.Reading.{blankRound, readingOf};

@@ -1,7 +1,7 @@
 -- `best_bound::most_added` meets its contract: `slot` is always the slot index after the ranked bidders passed, at most one more for
 -- each, and `sum` what they add, at most 10 ^ 15 each. A bidder counts once where some slot is open to it, and else 0 times.
 -- Assumes nothing.
-use Prim.Native.Nat.{ℕ, zero, suc, _+_, _*_, _-_, _/_, _%_, _^_, _<_, _≤_}
+use Prim.Native.Nat.{ℕ, suc, _+_, _*_, _-_, _/_, _%_, _^_, _<_, _≤_}
 use mathlib.Core.Bool.{Bool, true, false, cond, not}
 use mathlib.Core.List.{List}
 use mathlib.Core.Logic.{inl, ⊎-elim}
@@ -17,15 +17,10 @@ use Rattle.basis.proofs.BitLaws.{bit-digit}
 use Rattle.basis.proofs.TestLaws.{holds-or-fails}
 use Rattle.choice.specs.Tables.{bidIn}
 use Rattle.best_bound.specs.Bound.{slotAfter, addAfter, eligibleIn, nth}
+use Rattle.choice.proofs.PlacingLaws.{bid-index}
 use Rattle.best_bound.proofs.BoundLaws.{slot-taken, add-taken, slot-kept, add-kept}
 use Rattle.best_bound.proofs.most_added.Statement.{statement}
 use Rattle.best_bound.proofs.most_added.Tie as tie
-
--- a bidder's bid by its index
-bid-at : (bids : List ℕ) (b : ℕ) → 0 < b → bidIn bids b ≡ getD bids (b - 1) 0
-unfolding bidIn
-bid-at bids zero l = absurd (omega arith)
-bid-at bids (suc b) l = ap (λ (i : ℕ). getD bids i 0) (let e : b ≡ suc b - 1 = omega arith in e)
 
 -- what a bidder adds is at most 10 ^ 15
 product-fits : (b e : ℕ) → b ≤ 1000000000 → e ≤ 1000000 → b * e ≤ 1000000000000000
@@ -96,7 +91,7 @@ module _ (barred : ℕ) (ranked bids effects : List ℕ) (from sum slot i times 
       let left : slotOf i < 16 = let r = w .left in omega arith in (
         omega (arith, slot-taken (eligibleIn barred) (nth ranked) (bidIn bids) (nth effects) from 16 i live left),
         ap₂ (λ (s t : ℕ). s + t * (getD bids (getD ranked i 0 - 1) 0 * getD effects slot 0)) (h .so-far) one
-            ∙ ap₂ (λ (b j : ℕ). addOf i + 1 * (b * getD effects j 0)) (sym (bid-at bids (getD ranked i 0) (w .some))) next
+            ∙ ap₂ (λ (b j : ℕ). addOf i + 1 * (b * getD effects j 0)) (sym (bid-index bids (getD ranked i 0) (w .some))) next
             ∙ omega (arith, add-taken (eligibleIn barred) (nth ranked) (bidIn bids) (nth effects) from 16 i live left),
       )
 

@@ -3,7 +3,7 @@ use mathlib.Core.Bool.{Bool, _||_}
 use mathlib.Core.Path.{_∙_, ap}
 use Rattle.best_clash.specs.Clash.{entryAt}
 use Rattle.best_clash.specs.Marks.{bothAre}
-use Rattle.best_clash.proofs.MarkLaws.{marked-also}
+use Rattle.basis.proofs.TestLaws.{or-assoc}
 use borrow.Author.Needs.{needs}
 use Rattle.best_clash.proofs.mark_both.Statement.{statement}
 use Rattle.best_clash.proofs.mark_both.Tie as tie
@@ -22,7 +22,7 @@ returns c =
     λ b k j l i.
     c .before .before .mark2 .ensures b k j l i
     ∙ ap (λ (t : Bool). t || bothAre (c .before .before .before .before .before .before .before .before .before .args .other .0) (c .before .before .before .before .before .before .before .before .before .args .others .0) (c .before .before .before .before .before .before .before .before .before .args .bidder .0) (c .before .before .before .before .before .before .before .before .before .args .slot .0) b k j l) (c .before .before .before .before .before .before .mark .ensures b k j l i)
-    ∙ marked-also (entryAt (c .before .before .before .before .before .before .before .before .before .args .table .now) b k j l) (bothAre (c .before .before .before .before .before .before .before .before .before .args .bidder .0) (c .before .before .before .before .before .before .before .before .before .args .slot .0) (c .before .before .before .before .before .before .before .before .before .args .other .0) (c .before .before .before .before .before .before .before .before .before .args .others .0) b k j l)
+    ∙ or-assoc (entryAt (c .before .before .before .before .before .before .before .before .before .args .table .now) b k j l) (bothAre (c .before .before .before .before .before .before .before .before .before .args .bidder .0) (c .before .before .before .before .before .before .before .before .before .args .slot .0) (c .before .before .before .before .before .before .before .before .before .args .other .0) (c .before .before .before .before .before .before .before .before .before .args .others .0) b k j l)
     (bothAre (c .before .before .before .before .before .before .before .before .before .args .other .0) (c .before .before .before .before .before .before .before .before .before .args .others .0) (c .before .before .before .before .before .before .before .before .before .args .bidder .0) (c .before .before .before .before .before .before .before .before .before .args .slot .0) b k j l)
 
 pub mark-both-spec : {M : Type 1} → statement M

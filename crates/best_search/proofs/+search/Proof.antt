@@ -1,11 +1,11 @@
 -- `best_search::search` meets its contract, by induction on the slots left. A settled page is an answer if its total is large enough; and else,
 -- after b turns of the loop, the first b choices for the next slot have been searched: one that may not stand leads nowhere, and one that
 -- cannot lead to what is needed holds nothing. Assumes nothing.
-use Prim.Native.Nat.{ℕ, suc, _+_, _-_, _*_, _<_, _≤_}
+use Prim.Native.Nat.{ℕ, suc, _+_, _-_, _<_, _≤_}
 use mathlib.Core.Bool.{Bool, true, false}
 use mathlib.Core.List.{List}
 use mathlib.Core.Logic.{⊎-elim}
-use mathlib.Core.Path.{_≡_, refl, sym, _∙_, ap, subst}
+use mathlib.Core.Path.{_≡_, sym, _∙_, ap, subst}
 use native.Mathlib.Numerals.{add-one}
 use native.Mathlib.Omega.{arith}
 use lib.ListN.{length}
@@ -18,9 +18,8 @@ use Rattle.best_page.specs.declared.Answer.{Answer}
 use Rattle.best_page.specs.Search.{Searched, Agrees, Tried}
 use Rattle.best_page.proofs.TriedLaws.{none-tried, choice-tried, choice-nowhere, all-tried}
 use Rattle.best_search.specs.declared.Prospect.{Prospect}
-use Rattle.best_search.specs.Node.{TablesOf, Node, openTo, Lent, Leads, Attempt}
+use Rattle.best_search.specs.Node.{TablesOf, Node, openTo, Leads, Attempt}
 use Rattle.best_search.proofs.ChoiceLaws.{settled-found, settled-small, led-node, led-small, led-nowhere, product-low}
-use borrow.Author.Needs.{needs}
 use borrow.Fn.Kinds.{In}
 use borrow.Fn.PlainCycle.{Measures, is, falls, and}
 use Rattle.best_search.proofs.search.Reads as search′

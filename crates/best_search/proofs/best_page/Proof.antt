@@ -1,7 +1,7 @@
 -- `best_search::best_page` meets its contract: the search through all pages, from a total that some page has, finds the best one.
 -- Assumes nothing.
 use Rattle.basis.proofs.RowLaws.{zeros}
-use Prim.Native.Nat.{ℕ, _≤_}
+use Prim.Native.Nat.{ℕ}
 use mathlib.Core.List.{List}
 use mathlib.Core.Path.{_≡_, refl, sym, _∙_, ap, subst}
 use native.Mathlib.Omega.{arith}

@@ -1,7 +1,7 @@
 -- `downward::test` meets its contract, by the cases of the call: a bidder within the sheet's is below 256, so it is not cut.
 -- Assumes nothing.
 use mathlib.Core.Bool.{Bool}
-use mathlib.Core.Path.{_≡_, sym, _∙_, ap, subst}
+use mathlib.Core.Path.{sym, _∙_, ap, subst}
 use native.Mathlib.Omega.{arith}
 use Rattle.sheet.specs.declared.Round.{Round}
 use Rattle.sheet.specs.Proper.{ProperRound}

@@ -1,6 +1,6 @@
 -- `gain::breaks_own` meets its contract: a turn that goes on has found no broken constraint of the bidder before. Assumes nothing.
-use Prim.Native.Nat.{ℕ, suc, _+_, _-_, _≤_}
-use mathlib.Core.Bool.{Bool, false, _&&_}
+use Prim.Native.Nat.{_-_, _≤_}
+use mathlib.Core.Bool.{false, _&&_}
 use mathlib.Core.Path.{_≡_, refl, sym, _∙_, ap}
 use native.Mathlib.Nat.{le-antisymm}
 use native.Mathlib.Numerals.{add-one}

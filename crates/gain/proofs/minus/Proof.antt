@@ -6,7 +6,6 @@ use mir.Syntax.{w64}
 use mir.Val.{SFits, toZ}
 use native.Mathlib.Omega.{arith}
 use lib.IntN.{ℤ, pos, negℤ, _-ℤ_}
-use lib.Signed.{mag}
 use Rattle.gain.proofs.SlotLaws.{zero-minus, minus-size}
 use borrow.Author.Needs.{needs}
 use Rattle.gain.proofs.minus.Statement.{statement}

@@ -1,10 +1,9 @@
 -- `greedy::bar_everywhere` meets its contract: after n turns slots 1 to n are barred to the bidder. Assumes nothing.
 use Rattle.greedy.proofs.TableLaws.{none-barred, slot-more, all-slots}
-use Prim.Native.Nat.{ℕ, suc, _+_, _-_, _≤_}
-use borrow.Author.Tests.{le-leb}
-use mathlib.Core.Bool.{Bool, true, false, not, _&&_, _||_}
+use Prim.Native.Nat.{ℕ, _+_, _-_, _≤_}
+use mathlib.Core.Bool.{Bool, not, _&&_}
 use mathlib.Core.List.{List}
-use mathlib.Core.Path.{_≡_, refl, sym, _∙_, ap}
+use mathlib.Core.Path.{_≡_, sym, _∙_, ap}
 use native.Mathlib.Omega.{arith}
 use lib.Dec.{eqb, leb}
 use lib.ListN.{length}

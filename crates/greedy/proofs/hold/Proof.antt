@@ -1,16 +1,17 @@
 -- `greedy::hold` meets its contract: two keys more are true. Assumes nothing.
-use Prim.Native.Nat.{ℕ, _*_, _+_, _<_}
-use mathlib.Core.Bool.{Bool, true, false, not, _||_, or-false, or-true}
+use Prim.Native.Nat.{ℕ, _<_}
+use mathlib.Core.Bool.{Bool, not, _||_, or-false, or-true}
 use mathlib.Core.List.{List}
 use mathlib.Core.Logic.{⊎-elim}
-use mathlib.Core.Path.{_≡_, refl, sym, _∙_, ap, ap₂}
+use mathlib.Core.Path.{_≡_, sym, _∙_, ap, ap₂}
 use native.Mathlib.Omega.{arith}
 use borrow.Author.Tests.{eq-eqb, ne-eqb}
 use lib.Dec.{eqb}
 use lib.ListN.{length, getD, set, length-set}
 use lib.Seq.{getD-set-same, getD-set-other}
 use Rattle.basis.proofs.NumberLaws.{same-or-not}
-use Rattle.greedy.specs.Chains.{standing, bars, isHeld}
+use Rattle.basis.proofs.TestLaws.{or-assoc}
+use Rattle.greedy.specs.Chains.{standing, isHeld}
 use borrow.Author.Needs.{needs}
 use Rattle.greedy.proofs.hold.Statement.{statement}
 use Rattle.greedy.proofs.hold.Tie as tie
@@ -27,10 +28,6 @@ one-more held i x inside =
     ap (λ (y : ℕ). not (eqb y 0)) (getD-set-other held i x 1 0 d)
     ∙ sym (ap (λ (t : Bool). isHeld held x || t) (ne-eqb x i d) ∙ or-false (isHeld held x)))
     (same-or-not x i)
-
-either : (a b c : Bool) → ((a || b) || c) ≡ (a || (b || c))
-either true b c = refl
-either false b c = refl
 
 standing-key-requires : tie.Need-standing-key-requires
 standing-key-requires c κs = search needs
@@ -66,7 +63,7 @@ returns c =
     one-more (set (a .held .now) (c .before .standing-key .result) 1) (c .standing-key2 .result) x (omega arith)
     ∙ ap (λ (t : Bool). t || eqb x (c .standing-key2 .result)) (one-more (a .held .now) (c .before .standing-key .result) x (omega arith))
     ∙ ap₂ (λ (y z : ℕ). (isHeld (a .held .now) x || eqb x y) || eqb x z) any e
-    ∙ either (isHeld (a .held .now) x) (eqb x w) (eqb x (standing w k))
+    ∙ or-assoc (isHeld (a .held .now) x) (eqb x w) (eqb x (standing w k))
 
 pub hold-spec : {M : Type 1} → statement M
 hold-spec =

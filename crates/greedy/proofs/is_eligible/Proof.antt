@@ -1,10 +1,9 @@
 -- `greedy::is_eligible` meets its contract: the table's entry, and then the chain of the candidate at the slot. Assumes nothing.
 use Prim.Native.Nat.{ℕ, _+_, _*_, _-_}
-use mathlib.Core.Bool.{Bool, true, false, not, _&&_}
-use mathlib.Core.Path.{_≡_, sym, _∙_, ap, ap₂}
+use mathlib.Core.Bool.{Bool, not, _&&_}
+use mathlib.Core.Path.{sym, _∙_, ap}
 use borrow.Author.Tests.{eq-eqb, ne-eqb}
 use lib.ListN.{getD}
-use Rattle.greedy.specs.Barred.{openAt}
 use Rattle.greedy.specs.Chains.{standing, named, free}
 use Rattle.greedy.proofs.TableLaws.{entry-open}
 use borrow.Author.Needs.{needs}

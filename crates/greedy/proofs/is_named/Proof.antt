@@ -6,8 +6,7 @@ use mathlib.Core.List.{List}
 use mathlib.Core.Path.{_≡_, sym, _∙_, ap}
 use native.Mathlib.Omega.{arith}
 use borrow.Author.Tests.{eq-eqb, ne-eqb}
-use lib.Dec.{eqb}
-use lib.ListN.{length, getD}
+use lib.ListN.{getD}
 use Rattle.sheet.specs.declared.Round.{Round}
 use Rattle.greedy.specs.Chains.{Chained, isHeld, named}
 use Rattle.greedy.proofs.ChainLaws.{Walking, walk-start, all-from-last, walk-next, one-then-rest, none-left}

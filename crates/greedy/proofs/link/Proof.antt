@@ -1,5 +1,5 @@
 -- `greedy::link` meets its contract: three stores are one link more. Assumes nothing.
-use Prim.Native.Nat.{ℕ, suc, _+_}
+use Prim.Native.Nat.{suc, _+_}
 use mathlib.Core.Path.{_≡_}
 use native.Mathlib.Numerals.{add-one}
 use Rattle.greedy.proofs.ChainLaws.{falling-next, chained-next}

@@ -1,7 +1,7 @@
 -- `greedy::played` meets its contract: after k turns slots 1 to k are filled and priced, and the table and the keys tell who is eligible
 -- for the rest. Assumes nothing.
 use mathlib.Core.List.{List}
-use mathlib.Core.Path.{_≡_, refl, sym, _∙_, ap, subst}
+use mathlib.Core.Path.{refl, sym, _∙_, ap}
 use Rattle.basis.specs.Rows.{padded}
 use Rattle.sheet.specs.declared.Round.{Round}
 use Rattle.choice.specs.Tables.{bidIn}

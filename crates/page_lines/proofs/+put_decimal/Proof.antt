@@ -2,10 +2,10 @@
 -- other the call writes the text of the tenth part, and the last digit is stored where that ends. The measure is the number,
 -- whose tenth part is less. Assumes nothing.
 use Prim.Native.Nat.{ℕ, _+_, _/_, _%_, _<_, _≤_}
-use mathlib.Core.List.{List, [], _∷_}
+use mathlib.Core.List.{List}
 use mathlib.Core.Path.{_≡_, refl, sym, _∙_, ap, subst}
 use native.Mathlib.Omega.{arith}
-use lib.ListN.{length, set, length-set, length-append}
+use lib.ListN.{length, set, length-set}
 use Rattle.page_lines.specs.Decimal.{decimal, digit}
 use Rattle.page_lines.specs.Put.{Put}
 use Rattle.page_lines.proofs.DecimalLaws.{decimal-small, decimal-large, large-length}

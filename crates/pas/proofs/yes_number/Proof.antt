@@ -1,5 +1,5 @@
 -- `pas::yes_number` meets its contract, by its two cases. Assumes nothing.
-use mathlib.Core.Path.{refl, sym, ap}
+use mathlib.Core.Path.{sym, ap}
 use Rattle.pas.specs.Calls.{yesNumber}
 use Rattle.pas.proofs.yes_number.Statement.{statement}
 use Rattle.pas.proofs.yes_number.Tie as tie

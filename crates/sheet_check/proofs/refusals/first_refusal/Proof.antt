@@ -5,7 +5,6 @@ use mathlib.Core.List.{List}
 use mathlib.Core.Path.{_≡_, refl, sym, _∙_}
 use native.Mathlib.Numerals.{add-one}
 use native.Mathlib.Omega.{arith}
-use lib.ListN.{length}
 use Rattle.basis.specs.First.{firstOver}
 use Rattle.basis.proofs.FirstLaws.{first-next, first-found, first-ended}
 use Rattle.sheet.specs.Sheet.{bidderCount, slotCount, constraintsStart, ownerField, ownSlotField, otherField, otherSlotField}
