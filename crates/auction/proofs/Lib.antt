@@ -2,6 +2,7 @@
 pub mod PageLaws
 pub mod BrokenLaws
 pub mod GreedyLaws
+pub mod FilledLaws
 pub mod ExceptLaws
 pub mod PriceLaws
 pub mod WriteLaws

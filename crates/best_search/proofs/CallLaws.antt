@@ -17,7 +17,7 @@ use Rattle.sheet.proofs.RoundLaws.{round-proper}
 use Rattle.auction.specs.Allowed.{total}
 use Rattle.best_page.specs.BestPage.{bestPage}
 use Rattle.best_page.proofs.BestPageLaws.{best-page}
-use Rattle.best_search.specs.Call.{boundsRefusal, bestRefusal, bestBuffer, chosenFor, BestGiven, BestAnswered}
+use Rattle.best_search.specs.Call.{boundsRefusal, bestRefusal, bestBuffer, chosenFor, BestGiven}
 use Rattle.best_search.specs.declared.Chosen.{Chosen}
 
 chosen-refused : (k : ℕ) (s : List ℕ) → (k ≡ 0 → ⊥) → record { refusal = k; total = 0 } ≡ chosenFor k s
@@ -80,18 +80,6 @@ module _ (s out : List ℕ) (ok : Accepted s) where
             ∙ answered-gives (bestRefusal s out) (bestBuffer (roundOf s) out) out (sym number);
       }
 
-  -- Demand 2, second half: up to 8 bidders and 8 slots, with room for the page, what meets the call's contract is the best page and its total.
-  pub demand-two : (answer : Chosen) (out′ : List ℕ) → BestGiven s out answer out′ →
-      bidderCount s ≤ 8 → slotCount s ≤ 8 → slotCount s ≤ length out → BestAnswered (roundOf s) out answer out′
-  unfolding chosenFor bestBuffer
-  demand-two answer out′ g m n room =
-      let number = sym (unrefused m n room) in
-      let proper = round-proper s ok in
-      let returned : answer ≡ chosenFor 0 s = g .returned ∙ ap (λ (k : ℕ). chosenFor k s) number in
-      record {
-        accepted = ap (λ (x : Chosen). x .refusal) returned;
-        page = bestPage (roundOf s);
-        best = best-page (roundOf s) (proper .most-slots) proper;
-        own = ap (λ (x : Chosen). x .total) returned;
-        written = g .buffer ∙ sym (answered-gives (bestRefusal s out) (bestBuffer (roundOf s) out) out number);
-      }
+-- a call on an accepted sheet within the bounds and with room is not refused
+pub best-unrefused : (s out : List ℕ) → Accepted s → bidderCount s ≤ 8 → slotCount s ≤ 8 → slotCount s ≤ length out → bestRefusal s out ≡ 0
+best-unrefused s out ok m n room = sym (unrefused s out ok m n room)

@@ -41,12 +41,3 @@ chosenFor (suc k) s = record { refusal = suc k; total = 0 }
 pub record BestGiven (s out : List ℕ) (answer : Chosen) (out′ : List ℕ) : Type 0 where
   pub returned : answer ≡ chosenFor (bestRefusal s out) s
   pub buffer : out′ ≡ unlessRefused (bestRefusal s out) (bestBuffer (roundOf s) out) out
-
--- Demand 2's sentence, of a call on a round: it is not refused; there is a page that is best (it breaks no constraint, and no other such
--- page has a larger total); the total returned is its own; and its bidder numbers are the buffer's first bytes.
-pub record BestAnswered (r : Round) (out : List ℕ) (answer : Chosen) (out′ : List ℕ) : Type 0 where
-  pub accepted : answer .refusal ≡ 0
-  pub page : Page
-  pub best : Best r page
-  pub own : answer .total ≡ total r page
-  pub written : out′ ≡ row (λ k. at page (suc k)) (r .slots) ++ drop (r .slots) out

@@ -19,7 +19,7 @@ use Rattle.sheet.proofs.RoundLaws.{round-proper}
 use Rattle.play.specs.Play.{playRefusal, playedBuffer, Played}
 use Rattle.page_lines.specs.Lines.{line, refusedLine, resultLine, resultLines}
 use Rattle.page_job.specs.PageText.{slotLine, textFor, pageText}
-use Rattle.page_job.proofs.EntryLaws.{entry-bidder, entry-price}
+use Rattle.play.proofs.SaidLaws.{entry-bidder, entry-price}
 
 -- 80 bytes are enough for every accepted sheet: 19 never comes up
 room-enough : (s out : List ℕ) → length out ≡ 80 → playRefusal s out ≡ refusalOf s

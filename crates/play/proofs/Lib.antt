@@ -1,2 +1,3 @@
 -- The cases of a play call.
 pub mod PlayLaws
+pub mod SaidLaws

@@ -1,10 +1,10 @@
 -- Playing a round over a lent sheet and a lent result buffer.
-use Prim.Native.Nat.{ℕ, suc, _*_}
+use Prim.Native.Nat.{ℕ, zero, suc, _+_, _*_}
 use mathlib.Core.List.{List, _∷_, _++_}
 use mathlib.Core.Path.{_≡_}
 use lib.Dec.{ltb}
 use lib.ListN.{length, drop}
-use Rattle.basis.specs.Bytes.{bytes32}
+use Rattle.basis.specs.Bytes.{byteAt, word32At, bytes32}
 use Rattle.basis.specs.First.{_when_otherwise_, orElse, unlessRefused}
 use Rattle.basis.specs.Rows.{joined}
 use Rattle.sheet.specs.declared.Round.{Round}
@@ -31,3 +31,12 @@ playedBuffer r out = joined (λ k. slotEntry r (suc k)) (r .slots) ++ drop (5 * 
 pub record Played (s out : List ℕ) (answer : ℕ) (out′ : List ℕ) : Type 0 where
   pub number : answer ≡ playRefusal s out
   pub buffer : out′ ≡ unlessRefused (playRefusal s out) (playedBuffer (roundOf s) out) out
+
+-- What a result says of slot k: its bidder, and its price.
+unfoldable pub bidderSaid : List ℕ → ℕ → ℕ
+bidderSaid out zero = 0
+bidderSaid out (suc k) = byteAt out (5 * k)
+
+unfoldable pub priceSaid : List ℕ → ℕ → ℕ
+priceSaid out zero = 0
+priceSaid out (suc k) = word32At out (5 * k + 1)

@@ -1,9 +1,9 @@
--- Demand 3 at the C edge: what the answers' memory holds is what the calls below return, of which `honesty` speaks. Assumes nothing.
-use Prim.Native.Nat.{ℕ}
+-- Demand 3 over the calls: what the answers' memory holds is what the calls below return, of which `honesty` speaks. Assumes nothing.
 use mathlib.Core.Bool.{Bool, true, false}
 use mathlib.Core.List.{List}
 use mathlib.Core.Path.{_≡_, refl, sym, _∙_, ap, subst₂}
 use native.Mathlib.Omega.{arith}
+use Prim.Native.Nat.{ℕ}
 use lib.IntN.{ℤ}
 use lib.Signed.{_≤ℤ_}
 use Rattle.basis.proofs.FirstLaws.{answered-gives}
@@ -14,9 +14,9 @@ use Rattle.gain.specs.Gain.{gainOf}
 use Rattle.gain.specs.Call.{gainRefusal, gainedOf}
 use Rattle.honesty.specs.Honesty.{Honesty}
 use Rattle.honesty.proofs.Honesty.{honesty}
 use Rattle.pas.specs.Calls.{yesNumber, DownwardGiven, GainGiven}
-use Rattle.pas.specs.Honest.{HonestyGiven}
 use Rattle.pas.proofs.AnswerLaws.{gain-number, gain-answer}
+use Rattle.demands.specs.Demands.{DemandThree}
 
 -- 1 is yes
 one-yes : (t : Bool) → 1 ≡ yesNumber t → t ≡ true
@@ -42,9 +42,9 @@ gain-given s t i worth before answer after given none =
           ∙ sym (given .written ∙ sym (answered-gives (gainRefusal s t i worth) (gainOf (roundOf s) (roundOf t) i worth) before number)),
     )
 
-pub honesty-given : HonestyGiven
-unfolding HonestyGiven Honesty
-honesty-given honest other i worth ok ok′ d before test low most x y n n′ g g′ first second =
+pub honest-demand : DemandThree
+unfolding DemandThree Honesty
+honest-demand honest other i worth ok ok′ d before test low most x y n n′ g g′ first second =
     let pays = honesty honest other i worth ok ok′ d (answered-yes other i before test) low most in
     let one = gain-given honest honest i worth x n g first (pays .0) in
     let two = gain-given other honest i worth y n′ g′ second (pays .1) in

@@ -1,0 +1,101 @@
+-- The three demands, over the contracts of the five calls that programs link (pas/src/lib.rt). Each call promises one record or equation,
+-- for every input; here is what follows for a reader, and the proofs are in proofs/Demands.antt. Lists of numbers are bytes; s is a sheet,
+-- out and out′ are a result buffer before and after a call.
+use Prim.Native.Nat.{ℕ, suc, _*_, _<_, _≤_}
+use mathlib.Core.List.{List, _++_}
+use mathlib.Core.Path.{_≡_}
+use lib.IntN.{ℤ}
+use lib.ListN.{length, drop}
+use lib.Signed.{_≤ℤ_}
+use Rattle.basis.specs.Rows.{row}
+use Rattle.sheet.specs.declared.Page.{Page}
+use Rattle.sheet.specs.Sheet.{bidderCount, slotCount, bidField}
+use Rattle.sheet.specs.Refusal.{refusalOf, Accepted}
+use Rattle.sheet.specs.Round.{roundOf}
+use Rattle.auction.specs.Page.{at}
+use Rattle.auction.specs.Allowed.{Allowed, total}
+use Rattle.auction.specs.Filled.{FilledGreedily}
+use Rattle.auction.specs.Write.{writeBid}
+use Rattle.play.specs.Play.{playRefusal, playedBuffer, Played, bidderSaid, priceSaid}
+use Rattle.downward.specs.Downward.{downward}
+use Rattle.downward.specs.Call.{testRefusal}
+use Rattle.gain.specs.Gain.{gainOf}
+use Rattle.gain.specs.Call.{gainRefusal}
+use Rattle.best_page.specs.Best.{Best}
+use Rattle.best_page.specs.BestPage.{bestPage}
+use Rattle.best_search.specs.Call.{bestRefusal, bestBuffer}
+use Rattle.honesty.specs.Honesty.{DifferOnlyInList}
+use Rattle.pas.specs.Calls.{yesNumber, DownwardGiven, GainGiven, BestPageGiven}
+
+-- DEMAND 1. "Every sheet or call that breaks a rule gets the first number that applies, and no lent byte changes; every other gets its full
+-- result."
+
+-- What a call owes: its number is the first that applies; where it is refused, nothing lent has changed; where it is not, its result is there.
+pub record Owed (number first : ℕ) (unchanged result : Type 0) : Type 0 where
+  pub first-number : number ≡ first
+  pub refused : (number ≡ 0 → ⊥) → unchanged
+  pub answered : number ≡ 0 → result
+
+pub record DemandOne : Type 0 where
+  -- 1 to 13
+  pub check : (s : List ℕ) (number : ℕ) → number ≡ refusalOf s → Owed number (refusalOf s) Unit (Accepted s)
+  -- 1 to 13, 19
+  pub play : (s out out′ : List ℕ) (number : ℕ) → Played s out number out′ →
+      Owed number (playRefusal s out) (out′ ≡ out) (out′ ≡ playedBuffer (roundOf s) out)
+  -- 1 to 13, 16
+  pub test : (s : List ℕ) (i before number after : ℕ) → DownwardGiven s i before number after →
+      Owed number (testRefusal s i) (after ≡ before) (after ≡ yesNumber (downward (roundOf s) i))
+  -- 1 to 17
+  pub gain : (s t : List ℕ) (i worth : ℕ) (before : ℤ) (number : ℕ) (after : ℤ) → GainGiven s t i worth before number after →
+      Owed number (gainRefusal s t i worth) (after ≡ before) (after ≡ gainOf (roundOf s) (roundOf t) i worth)
+  -- 1 to 13, 18, 19
+  pub best : (s out out′ : List ℕ) (before number after : ℕ) → BestPageGiven s out before number out′ after →
+      Owed number (bestRefusal s out) ((out′ ≡ out) × (after ≡ before))
+      ((out′ ≡ bestBuffer (roundOf s) out) × (after ≡ total (roundOf s) (bestPage (roundOf s))))
+
+-- DEMAND 2. "The page is the greedy page. A price is the smallest bid with which its winner, all else unchanged, still wins that place. Up to 8
+-- bidders and 8 places, the best page breaks no condition and no other such page has a larger total."
+
+-- The price that a result says for slot k, with w the bidder there: at most w's bid (an empty slot's bid is 0); playing the sheet with the
+-- price written for w gives w the slot; playing it with any smaller number written does not.
+pub record PricedRight (s out : List ℕ) (k : ℕ) : Type 0 where
+  pub at-most-bid : priceSaid out k ≤ bidField s (bidderSaid out k)
+  pub wins : (bidderSaid out k ≡ 0 → ⊥) → (other other′ : List ℕ) (number : ℕ) → 5 * slotCount s ≤ length other →
+      Played (writeBid s (bidderSaid out k) (priceSaid out k)) other number other′ → (number ≡ 0) × (bidderSaid other′ k ≡ bidderSaid out k)
+  pub smaller-loses : (x : ℕ) → x < priceSaid out k → (other other′ : List ℕ) (number : ℕ) → 5 * slotCount s ≤ length other →
+      Played (writeBid s (bidderSaid out k) x) other number other′ → (number ≡ 0) × (bidderSaid other′ k ≡ bidderSaid out k → ⊥)
+
+-- What a result says of an accepted sheet: a page of the round that breaks no condition, each slot filled by the greedy rule and priced right.
+pub record PlayedRight (s out : List ℕ) : Type 0 where
+  pub page : Page
+  pub said : (k : ℕ) → 0 < k → k ≤ slotCount s → bidderSaid out k ≡ at page k
+  pub allowed : Allowed (roundOf s) page
+  pub greedy : (k : ℕ) → 0 < k → k ≤ slotCount s → FilledGreedily (roundOf s) page k
+  pub priced : (k : ℕ) → 0 < k → k ≤ slotCount s → PricedRight s out k
+
+-- What a buffer and a total say of the best page.
+pub record BestRight (s out out′ : List ℕ) (worth : ℕ) : Type 0 where
+  pub page : Page
+  pub best : Best (roundOf s) page
+  pub said : out′ ≡ row (λ k. at page (suc k)) (slotCount s) ++ drop (slotCount s) out
+  pub own-total : worth ≡ total (roundOf s) page
+
+pub record DemandTwo : Type 0 where
+  pub play : (s out out′ : List ℕ) (number : ℕ) → Accepted s → 5 * slotCount s ≤ length out → Played s out number out′ →
+      (number ≡ 0) × PlayedRight s out′
+  pub best : (s out out′ : List ℕ) (before number after : ℕ) → Accepted s → bidderCount s ≤ 8 → slotCount s ≤ 8 → slotCount s ≤ length out →
+      BestPageGiven s out before number out′ after → (number ≡ 0) × BestRight s out out′ after
+
+-- DEMAND 3. "A bidder that lists its true conditions (of any kind) and bids at most its worth gains at least as much as with any downward
+-- monotonic list sent instead, whatever the others do."
+
+-- Two accepted sheets differ only in bidder i's list, and `pas_downward` answers 1 for i's list in the other one. At any worth from i's bid up,
+-- `pas_gain` with the honest sheet as truth refuses neither sheet, and gives with the honest one played at least what it gives with the other.
+unfoldable pub DemandThree : Type 0
+DemandThree =
+    (honest other : List ℕ) (i worth : ℕ) → Accepted honest → Accepted other → DifferOnlyInList i honest other →
+    (before : ℕ) → DownwardGiven other i before 0 1 → bidField honest i ≤ worth → worth ≤ 1_000_000_000 →
+    (before-honest before-other : ℤ) (number-honest number-other : ℕ) (gain-honest gain-other : ℤ) →
+    GainGiven honest honest i worth before-honest number-honest gain-honest →
+    GainGiven other honest i worth before-other number-other gain-other →
+    (number-honest ≡ 0) × (number-other ≡ 0) × (gain-other ≤ℤ gain-honest)
