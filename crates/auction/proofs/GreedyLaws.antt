@@ -10,7 +10,7 @@ use Rattle.basis.proofs.TestLaws.{not-both}
 use Rattle.sheet.specs.declared.Constraint.{Constraint}
 use Rattle.sheet.specs.declared.Page.{Page}
 use Rattle.sheet.specs.declared.Round.{Round}
-use Rattle.choice.specs.Tables.{bidIn}
+use Rattle.choice.specs.EngineBids.{bidIn}
 use Rattle.auction.specs.Page.{at, put, Sized}
 use Rattle.auction.specs.Broken.{broken, breaks}
 use Rattle.auction.specs.Greedy.{eligible, winnerAt, fillSlot, pageUpTo, greedyPage}

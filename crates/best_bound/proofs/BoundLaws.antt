@@ -16,7 +16,7 @@ use Rattle.basis.specs.Tests.{anyBelow, allBelow}
 use Rattle.basis.proofs.BitLaws.{bit-and, bit-shr}
 use Rattle.basis.proofs.TestLaws.{holds-or-fails, not-both, and-holds, any-where, any-none, any-at, all-pairs, none-fails}
 use Rattle.basis.proofs.NumberLaws.{same-or-not, below-or-not}
-use Rattle.best_bound.specs.Bound.{sumFrom, slotAfter, addAfter, BidsFall, NoRise, BoundHolds, eligibleIn}
+use Rattle.best_bound.specs.EngineBound.{sumFrom, slotAfter, addAfter, BidsFall, NoRise, BoundHolds, eligibleIn}
 
 -- an assignment with one index changed
 change : (ℕ → ℕ) → ℕ → ℕ → ℕ → ℕ

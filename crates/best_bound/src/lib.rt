@@ -4,8 +4,8 @@ ghost use mathlib.Core.Path.{_≡_};
 ghost use Prim.Native.Nat.{ℕ, suc, _<_, _≤_};
 ghost use lib.ListN.{length, getD};
 ghost use Rattle.basis.specs.Bits.{bitOf};
-ghost use Rattle.choice.specs.Tables.{bidIn};
-ghost use Rattle.best_bound.specs.Bound.{addAfter, eligibleIn, nth};
+ghost use Rattle.choice.specs.EngineBids.{bidIn};
+ghost use Rattle.best_bound.specs.EngineBound.{addAfter, eligibleIn, nth};
 
 // The bidders that are barred from every slot, bidder 1 in the lowest bit, by a word of who is barred, 8 bidders a slot.
 fn nowhere_open(barred: u64) -> u64

@@ -16,7 +16,7 @@ use Rattle.sheet.specs.declared.Page.{Page}
 use Rattle.auction.specs.Page.{at, put, emptyPage, placed, Sized}
 use Rattle.auction.proofs.PageLaws.{at-put-same, at-put-other, at-empty, placed-at, placed-where, placed-put, put-nobody}
 use Rattle.basis.proofs.NumberLaws.{same-or-not}
-use Rattle.best_clash.specs.Clash.{entryAt, clashesIn, BarredBy, BarredAlso}
+use Rattle.best_clash.specs.EngineClash.{entryAt, clashesIn, BarredBy, BarredAlso}
 use Rattle.best_clash.proofs.MarkLaws.{entry-bit}
 
 -- an empty page has nobody to clash with

@@ -25,7 +25,7 @@ use Rattle.sheet.specs.Round.{Has}
 use Rattle.auction.proofs.PageLaws.{put-sized, empty-sized, at-put-same, at-put-other, at-empty, at-within, placed-at, placed-where, placed-put, Keeps}
 use Rattle.basis.proofs.NumberLaws.{same-or-not, below-or-not}
 use Rattle.auction.proofs.BrokenLaws.{broken-parts, parts-broken, broken-stays, breaks-at, breaks-where, breaks-none}
-use Rattle.best_clash.specs.Clash.{pairPage, clash, clashes, entryAt, clashesIn, TableOf}
+use Rattle.best_clash.specs.EngineClash.{pairPage, clash, clashes, entryAt, clashesIn, TableOf}
 
 -- The page of two: the second bidder stands at its slot, the first too where the slots differ, and nobody else.
 module _ (b k j l : ℕ) (k-some : 0 < k) (k-most : k ≤ 16) (l-some : 0 < l) (l-most : l ≤ 16) where

@@ -29,8 +29,8 @@ use Rattle.sheet.specs.Proper.{Proper, ProperRound}
 use Rattle.auction.proofs.PageLaws.{placed-at, placed-where}
 use Rattle.basis.proofs.NumberLaws.{same-or-not}
 use Rattle.auction.proofs.BrokenLaws.{broken-parts, parts-broken}
-use Rattle.best_clash.specs.Clash.{pairPage, clash, entryAt}
-use Rattle.best_clash.specs.Marks.{Entry, Numbered, sameAt, bothAre, eitherWay, anywhere, among, pairBreaks, marks}
+use Rattle.best_clash.specs.EngineClash.{pairPage, clash, entryAt}
+use Rattle.best_clash.specs.EngineMarks.{Entry, Numbered, sameAt, bothAre, eitherWay, anywhere, among, pairBreaks, marks}
 use Rattle.best_clash.proofs.ClashLaws.{second-here, first-here, only-two}
 
 same-at : (b k j l : ℕ) → b ≡ j → k ≡ l → sameAt b k j l ≡ true

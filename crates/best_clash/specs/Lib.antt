@@ -1,2 +1,2 @@
-pub mod Clash
-pub mod Marks
+pub mod EngineClash
+pub mod EngineMarks

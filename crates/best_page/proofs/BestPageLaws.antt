@@ -18,8 +18,8 @@ use Rattle.basis.proofs.NumberLaws.{same-or-not, below-or-not}
 use Rattle.auction.proofs.BrokenLaws.{none-breaks, empty-unbroken}
 use Rattle.best_page.specs.Best.{Best}
 use Rattle.auction.specs.Allowed.{Allowed, total}
-use Rattle.best_page.specs.Search.{Searched}
-use Rattle.best_page.specs.Search.{Agrees, Tried}
+use Rattle.best_page.specs.EngineSearch.{Searched}
+use Rattle.best_page.specs.EngineSearch.{Agrees, Tried}
 use Rattle.best_page.specs.BestPage.{nobodyTwice, isAllowed, keep, eachChoice, tryAll, bestPage}
 use Rattle.best_page.specs.declared.Answer.{Answer}
 use Rattle.best_page.proofs.BestLaws.{best-unique}

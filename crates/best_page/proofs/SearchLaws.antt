@@ -8,7 +8,7 @@ use Rattle.sheet.specs.declared.Page.{Page}
 use Rattle.sheet.specs.declared.Round.{Round}
 use Rattle.best_page.specs.Best.{Precedes, Best}
 use Rattle.auction.specs.Allowed.{Allowed, total}
-use Rattle.best_page.specs.Search.{Searched}
+use Rattle.best_page.specs.EngineSearch.{Searched}
 
 module _ (r : Round) where
   -- a set without a page that is large enough

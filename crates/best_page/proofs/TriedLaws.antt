@@ -12,7 +12,7 @@ use Rattle.auction.specs.Page.{at, put, emptyPage, Sized}
 use Rattle.auction.specs.Allowed.{Allowed}
 use Rattle.auction.proofs.PageLaws.{at-zero, at-put-same, at-put-other, page-same}
 use Rattle.best_page.specs.Best.{Precedes}
-use Rattle.best_page.specs.Search.{Searched, Agrees, Tried}
+use Rattle.best_page.specs.EngineSearch.{Searched, Agrees, Tried}
 use Rattle.best_page.proofs.SearchLaws.{searched-none, searched-next}
 
 -- Before slot 1 every page agrees with the empty one.

@@ -1,3 +1,3 @@
 pub mod Best
 pub mod BestPage
-pub mod Search
+pub mod EngineSearch

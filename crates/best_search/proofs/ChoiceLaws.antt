@@ -13,20 +13,20 @@ use Rattle.basis.specs.Bits.{bitOf}
 use Rattle.basis.proofs.TestLaws.{holds-or-fails, not-both, and-parts, and-fails, or-fails}
 use Rattle.sheet.specs.declared.Page.{Page}
 use Rattle.sheet.specs.declared.Round.{Round}
-use Rattle.choice.specs.Tables.{bidIn}
+use Rattle.choice.specs.EngineBids.{bidIn}
 use Rattle.auction.specs.Page.{at, put, placed}
 use Rattle.auction.specs.Broken.{breaks}
 use Rattle.sheet.specs.Round.{bidOf, effectOf}
 use Rattle.sheet.specs.Proper.{ProperRound}
 use Rattle.auction.proofs.PageLaws.{put-nobody}
 use Rattle.basis.proofs.NumberLaws.{below-or-not}
-use Rattle.best_bound.specs.Bound.{sumFrom, slotAfter, addAfter, Assigns, BoundHolds, eligibleIn, nth}
-use Rattle.best_clash.specs.Clash.{clashes, clashesIn, BarredBy}
+use Rattle.best_bound.specs.EngineBound.{sumFrom, slotAfter, addAfter, Assigns, BoundHolds, eligibleIn, nth}
+use Rattle.best_clash.specs.EngineClash.{clashes, clashesIn, BarredBy}
 use Rattle.best_search.specs.declared.Prospect.{Prospect}
 use Rattle.auction.specs.Allowed.{Allowed}
-use Rattle.best_page.specs.Search.{Searched, Agrees}
+use Rattle.best_page.specs.EngineSearch.{Searched, Agrees}
 use Rattle.best_page.proofs.SearchLaws.{searched-none}
-use Rattle.best_search.specs.Node.{TablesOf, Node, mayStand, openTo, Leads}
+use Rattle.best_search.specs.EngineNode.{TablesOf, Node, mayStand, openTo, Leads}
 use Rattle.best_bound.proofs.BoundLaws.{bound-holds, open-eligible}
 use Rattle.best_clash.proofs.ClashLaws.{breaks-added, table-clashes}
 use Rattle.best_search.proofs.NodeLaws.{later-unplaced, node-assigns, node-total, node-next, placed-nowhere, broken-later, broken-nowhere}

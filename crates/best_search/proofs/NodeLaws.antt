@@ -14,11 +14,11 @@ use Rattle.sheet.specs.Proper.{ProperRound}
 use Rattle.auction.proofs.PageLaws.{put-sized, at-put-same, at-put-other, at-within, placed-at, placed-where, Keeps}
 use Rattle.basis.proofs.NumberLaws.{same-or-not, below-or-not}
 use Rattle.auction.proofs.BrokenLaws.{broken-stays, breaks-where, breaks-at}
-use Rattle.best_bound.specs.Bound.{sumFrom, Assigns, nth}
+use Rattle.best_bound.specs.EngineBound.{sumFrom, Assigns, nth}
 use Rattle.auction.specs.Allowed.{Allowed, totalUpTo, total}
-use Rattle.best_page.specs.Search.{Agrees}
+use Rattle.best_page.specs.EngineSearch.{Agrees}
 use Rattle.best_page.proofs.TriedLaws.{settled-only}
-use Rattle.best_search.specs.Node.{Node}
+use Rattle.best_search.specs.EngineNode.{Node}
 
 module _ (r : Round) where
   -- settled slots add the same

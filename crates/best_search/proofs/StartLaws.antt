@@ -9,8 +9,8 @@ use lib.ListN.{length, getD, take}
 use lib.Seq.{getD-take, length-take-le}
 use Rattle.sheet.specs.declared.Page.{Page}
 use Rattle.sheet.specs.declared.Round.{Round}
-use Rattle.choice.specs.Tables.{bidIn}
-use Rattle.choice.specs.Ranking.{InOrder}
+use Rattle.choice.specs.EngineBids.{bidIn}
+use Rattle.choice.specs.EngineRanking.{InOrder}
 use Rattle.choice.proofs.RankingLaws.{ranked-once, ranked-falls}
 use Rattle.auction.specs.Page.{emptyPage}
 use Rattle.sheet.specs.Round.{bidOf, effectOf}
@@ -18,14 +18,14 @@ use Rattle.sheet.specs.Proper.{ProperRound}
 use Rattle.auction.proofs.PageLaws.{empty-sized, at-empty}
 use Rattle.auction.proofs.GreedyLaws.{bid-listed}
 use Rattle.auction.proofs.BrokenLaws.{none-breaks, empty-unbroken}
-use Rattle.best_bound.specs.Bound.{nth}
-use Rattle.best_clash.specs.Clash.{TableOf, BarredBy}
+use Rattle.best_bound.specs.EngineBound.{nth}
+use Rattle.best_clash.specs.EngineClash.{TableOf, BarredBy}
 use Rattle.best_page.specs.Best.{Best}
-use Rattle.best_page.specs.Search.{Agrees}
+use Rattle.best_page.specs.EngineSearch.{Agrees}
 use Rattle.best_page.proofs.SearchLaws.{searched-best}
 use Rattle.auction.specs.Allowed.{Allowed, totalUpTo, total}
 use Rattle.best_page.proofs.TriedLaws.{all-agree}
-use Rattle.best_search.specs.Node.{TablesOf, Node, Lent, Attempt, Raised}
+use Rattle.best_search.specs.EngineNode.{TablesOf, Node, Lent, Attempt, Raised}
 
 effect-same : (r : Round) (k : ℕ) → nth (r .effects) k ≡ effectOf r (suc k)
 unfolding nth effectOf

@@ -6,9 +6,9 @@ use native.Mathlib.Omega.{arith}
 use Rattle.sheet.specs.declared.Page.{Page}
 use Rattle.sheet.specs.declared.Round.{Round}
 use Rattle.auction.specs.Allowed.{total}
-use Rattle.best_page.specs.Search.{Searched, Agrees}
+use Rattle.best_page.specs.EngineSearch.{Searched, Agrees}
 use Rattle.best_page.proofs.SearchLaws.{searched-none}
-use Rattle.best_search.specs.Node.{Node}
+use Rattle.best_search.specs.EngineNode.{Node}
 use Rattle.best_search.proofs.NodeLaws.{leaf-only, leaf-total}
 
 -- a settled page that is large enough, and one that is not

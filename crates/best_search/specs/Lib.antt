@@ -1,2 +1,2 @@
-pub mod Node
+pub mod EngineNode
 pub mod Call

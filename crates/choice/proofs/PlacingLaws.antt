@@ -13,8 +13,8 @@ use lib.ListN.{getD}
 use Rattle.basis.proofs.TestLaws.{holds-or-fails, not-both}
 use Rattle.choice.specs.Winner.{ranksNoLower, winner}
 use Rattle.choice.specs.Critical.{criticalAgainst, criticalBid}
-use Rattle.choice.specs.Tables.{bidIn}
-use Rattle.choice.specs.Ranking.{InOrder, NextAt}
+use Rattle.choice.specs.EngineBids.{bidIn}
+use Rattle.choice.specs.EngineRanking.{InOrder, NextAt}
 use Rattle.choice.proofs.WinnerLaws.{ranks-cases, ranks-self, wins-winner}
 use Rattle.choice.proofs.CriticalLaws.{against-lower, against-higher, critical-covers, critical-within}
 

@@ -1,4 +1,4 @@
 pub mod Winner
 pub mod Critical
-pub mod Tables
-pub mod Ranking
+pub mod EngineBids
+pub mod EngineRanking

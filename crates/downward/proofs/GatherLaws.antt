@@ -10,7 +10,7 @@ use lib.ListN.{length, getD, set, length-set}
 use lib.Seq.{getD-set-same, getD-set-other}
 use Rattle.sheet.specs.declared.Round.{Round}
 use Rattle.sheet.specs.Round.{constraintAt}
-use Rattle.downward.specs.Keys.{keyOf, Gathered}
+use Rattle.downward.specs.EngineKeys.{keyOf, Gathered}
 
 pub none-gathered : (r : Round) (i : ℕ) (keys : List ℕ) → length keys ≡ 1024 → Gathered r i 0 keys 0
 none-gathered r i keys size = record {

@@ -15,7 +15,7 @@ use Rattle.sheet.specs.declared.Round.{Round}
 use Rattle.sheet.specs.Round.{bidder, slot, constraintAt}
 use Rattle.sheet.specs.Proper.{ProperKind, ProperRound}
 use Rattle.downward.specs.Downward.{ownSlot, oneLower, sameKind, listHas, asksLower, downward}
-use Rattle.downward.specs.Keys.{otherBidder, otherSlot, keyFor, keyOf, Gathered, keyIn, keyAsksLower, keysDownward}
+use Rattle.downward.specs.EngineKeys.{otherBidder, otherSlot, keyFor, keyOf, Gathered, keyIn, keyAsksLower, keysDownward}
 use Rattle.downward.proofs.DownwardLaws.{same-kind, kind-same, implied, implies, list-where, list-at, downward-at}
 
 -- a kind whose numbers are not cut: what it has is not 0, and stays below its weight

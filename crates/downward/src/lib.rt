@@ -8,7 +8,7 @@ ghost use Prim.Native.Nat.{_≤_};
 ghost use lib.ListN.{length};
 ghost use Rattle.sheet.specs.Proper.{ProperRound};
 ghost use Rattle.downward.specs.Downward.{downward};
-ghost use Rattle.downward.specs.Keys.{keyFor, keyOf, Gathered, keyIn, keyAsksLower, keysDownward};
+ghost use Rattle.downward.specs.EngineKeys.{keyFor, keyOf, Gathered, keyIn, keyAsksLower, keysDownward};
 ghost use Rattle.downward.specs.Call.{testedOf};
 use sheet::Bidder;
 use sheet::Kind;

@@ -24,7 +24,7 @@ use Rattle.auction.specs.Greedy.{eligible}
 use Rattle.auction.proofs.PageLaws.{put-sized, empty-sized, at-put-same, at-put-other, at-empty, placed-at, placed-put, put-placed, Keeps, put-keeps, keeps-placed, empty-placed}
 use Rattle.basis.proofs.NumberLaws.{same-or-not}
 use Rattle.auction.proofs.BrokenLaws.{broken-parts, parts-broken, broken-stays, eligible-unplaced, eligible-unbroken, unbroken-eligible}
-use Rattle.greedy.specs.Barred.{entryIs, barsOwn, barsOwner, barsOther, barsAfter, barredOwn, barredOwner, barredOther, barredAfter, openNext}
+use Rattle.greedy.specs.EngineTable.{entryIs, barsOwn, barsOwner, barsOther, barsAfter, barredOwn, barredOwner, barredOther, barredAfter, openNext}
 
 -- Where a fact of a page comes from: the bidder b put last, the bidder w put before it, or the page as it was.
 data Source (B W P : Type 0) : Type 0 where

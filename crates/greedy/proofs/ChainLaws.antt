@@ -21,8 +21,8 @@ use Rattle.sheet.specs.declared.Round.{Round}
 use Rattle.sheet.specs.Round.{constraintAt}
 use Rattle.sheet.specs.Proper.{ProperKind, ProperRound}
 use Rattle.basis.proofs.NumberLaws.{same-or-not}
-use Rattle.greedy.specs.Barred.{entryIs, barsOwner, barsOther, barredOwner, barredOther}
-use Rattle.greedy.specs.Chains.{
+use Rattle.greedy.specs.EngineTable.{entryIs, barsOwner, barsOther, barredOwner, barredOther}
+use Rattle.greedy.specs.EngineChains.{
   standing,
   bars,
   ownerOf,

@@ -14,7 +14,7 @@ use Rattle.basis.specs.Rows.{padded}
 use Rattle.basis.proofs.RowLaws.{padded-none, padded-next}
 use Rattle.sheet.specs.declared.Page.{Page}
 use Rattle.sheet.specs.declared.Round.{Round}
-use Rattle.choice.specs.Tables.{bidIn}
+use Rattle.choice.specs.EngineBids.{bidIn}
 use Rattle.choice.proofs.WinnerLaws.{winner-same}
 use Rattle.choice.proofs.CriticalLaws.{critical-same, critical-nobody}
 use Rattle.auction.specs.Page.{put, emptyPage}
@@ -26,8 +26,8 @@ use Rattle.auction.proofs.PageLaws.{put-nobody}
 use Rattle.basis.proofs.NumberLaws.{same-or-not}
 use Rattle.auction.proofs.GreedyLaws.{bid-listed, upTo-next, upTo-sized, upTo-later, slot-winner, winner-eligible, winner-bidder, empty-nobody}
 use Rattle.auction.proofs.PriceLaws.{price-critical, empty-costs-nothing}
-use Rattle.greedy.specs.Barred.{openAt, barredOwn, barredOwner, barredOther, openNext}
-use Rattle.greedy.specs.Chains.{standing, isHeld, heldNext, named, free, Awarded}
+use Rattle.greedy.specs.EngineTable.{openAt, barredOwn, barredOwner, barredOther, openNext}
+use Rattle.greedy.specs.EngineChains.{standing, isHeld, heldNext, named, free, Awarded}
 use Rattle.greedy.proofs.BarredLaws.{eligible-start, eligible-after, by-sides, open-nobody, open-somebody}
 use Rattle.greedy.proofs.ChainLaws.{nobody-named, named-same, named-after, held-nobody, held-somebody}
 

@@ -12,7 +12,7 @@ use lib.ListN.{length, getD, set}
 use lib.Seq.{getD-set-same, getD-set-other}
 use Rattle.basis.proofs.TestLaws.{same-tests, or-parts, or-left, or-right}
 use Rattle.basis.proofs.NumberLaws.{same-or-not}
-use Rattle.greedy.specs.Barred.{openAt, entryIs}
+use Rattle.greedy.specs.EngineTable.{openAt, entryIs}
 
 -- an entry that is not (x, y)
 other-entry : (x y l b : ℕ) → ((l ≡ x) × (b ≡ y) → ⊥) → entryIs x y l b ≡ false

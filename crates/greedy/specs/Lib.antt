@@ -1,3 +1,3 @@
-pub mod Outcome
-pub mod Barred
-pub mod Chains
+pub mod EngineOutcome
+pub mod EngineTable
+pub mod EngineChains

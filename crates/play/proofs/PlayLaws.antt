@@ -15,9 +15,9 @@ use Rattle.sheet.specs.Refusal.{refusalOf, Accepted}
 use Rattle.sheet.specs.Round.{roundOf}
 use Rattle.auction.specs.Page.{at}
 use Rattle.auction.specs.Price.{price}
-use Rattle.greedy.specs.Outcome.{outcomeOf}
+use Rattle.greedy.specs.EngineOutcome.{outcomeOf}
 use Rattle.play.specs.Play.{playRefusal, slotEntry, playedBuffer, Played}
-use Rattle.play.specs.Written.{entryIn}
+use Rattle.play.specs.EngineEntries.{entryIn}
 
 pub sheet-refused : (s out : List ℕ) (answer : ℕ) → answer ≡ refusalOf s → (answer ≡ 0 → ⊥) → Played s out answer out
 unfolding playRefusal

@@ -1,2 +1,2 @@
 pub mod Play
-pub mod Written
+pub mod EngineEntries

@@ -5,7 +5,7 @@ ghost use Prim.Native.Nat.{_*_, _≤_};
 ghost use lib.ListN.{length, drop};
 ghost use Rattle.basis.specs.Rows.{joined};
 ghost use Rattle.play.specs.Play.{Played};
-ghost use Rattle.play.specs.Written.{entryIn};
+ghost use Rattle.play.specs.EngineEntries.{entryIn};
 use greedy::Outcome;
 
 // The number of the first rule that the call breaks, 1 to 13 or 19, with every byte of the buffer as it was; or 0, with 5 bytes a

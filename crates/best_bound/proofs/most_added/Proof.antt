@@ -15,8 +15,8 @@ use mir.Val.{Fits}
 use Rattle.basis.specs.Bits.{bitOf}
 use Rattle.basis.proofs.BitLaws.{bit-digit}
 use Rattle.basis.proofs.TestLaws.{holds-or-fails}
-use Rattle.choice.specs.Tables.{bidIn}
-use Rattle.best_bound.specs.Bound.{slotAfter, addAfter, eligibleIn, nth}
+use Rattle.choice.specs.EngineBids.{bidIn}
+use Rattle.best_bound.specs.EngineBound.{slotAfter, addAfter, eligibleIn, nth}
 use Rattle.choice.proofs.PlacingLaws.{bid-index}
 use Rattle.best_bound.proofs.BoundLaws.{slot-taken, add-taken, slot-kept, add-kept}
 use Rattle.best_bound.proofs.most_added.Statement.{statement}

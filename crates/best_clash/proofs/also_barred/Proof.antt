@@ -9,7 +9,7 @@ use lib.Dec.{eqb, leb, ltb}
 use lib.ListN.{getD}
 use Rattle.basis.specs.Bits.{bitOf}
 use Rattle.basis.proofs.BitLaws.{bit-or}
-use Rattle.best_clash.specs.Clash.{BarredAlso}
+use Rattle.best_clash.specs.EngineClash.{BarredAlso}
 use Rattle.best_clash.proofs.BarredLaws.{barred-nobody, barred-more}
 use borrow.Author.Needs.{needs}
 use Rattle.best_clash.proofs.also_barred.Statement.{statement}

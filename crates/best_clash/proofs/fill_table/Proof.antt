@@ -10,8 +10,8 @@ use lib.ListN.{length}
 use Rattle.sheet.specs.declared.Round.{Round}
 use Rattle.sheet.specs.Round.{constraintAt}
 use Rattle.sheet.specs.Proper.{ProperRound}
-use Rattle.best_clash.specs.Clash.{entryAt, TableOf}
-use Rattle.best_clash.specs.Marks.{Entry, marks}
+use Rattle.best_clash.specs.EngineClash.{entryAt, TableOf}
+use Rattle.best_clash.specs.EngineMarks.{Entry, marks}
 use Rattle.best_clash.proofs.MarkLaws.{someMarks, no-marks, marks-more, entry-twice, pairs-clash, alone-clash}
 use Rattle.best_clash.proofs.fill_table.Statement.{statement}
 use Rattle.best_clash.proofs.fill_table.Tie as tie

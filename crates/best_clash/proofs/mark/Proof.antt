@@ -1,7 +1,7 @@
 -- `best_clash::mark` meets its contract: one store sets one bit of one word, and a pair that the table does not have is none of its entries.
 -- Assumes nothing.
 use native.Mathlib.Omega.{arith}
-use Rattle.best_clash.specs.Clash.{entryAt}
+use Rattle.best_clash.specs.EngineClash.{entryAt}
 use Rattle.best_clash.proofs.MarkLaws.{store-marks, first-left-out, second-left-out}
 use borrow.Author.Needs.{needs}
 use Rattle.best_clash.proofs.mark.Statement.{statement}

@@ -6,8 +6,8 @@ use mathlib.Core.List.{List}
 use mathlib.Core.Path.{_≡_, sym, _∙_}
 use native.Mathlib.Omega.{arith}
 use lib.ListN.{length}
-use Rattle.best_clash.specs.Clash.{entryAt}
-use Rattle.best_clash.specs.Marks.{Entry}
+use Rattle.best_clash.specs.EngineClash.{entryAt}
+use Rattle.best_clash.specs.EngineMarks.{Entry}
 use Rattle.best_clash.proofs.MarkLaws.{someSlots, no-slots, slot-more, every-slot}
 use Rattle.best_clash.proofs.mark_anywhere.Statement.{statement}
 use Rattle.best_clash.proofs.mark_anywhere.Tie as tie

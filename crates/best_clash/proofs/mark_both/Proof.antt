@@ -1,8 +1,8 @@
 -- `best_clash::mark_both` meets its contract: the second store adds the other order. Assumes nothing.
 use mathlib.Core.Bool.{Bool, _||_}
 use mathlib.Core.Path.{_∙_, ap}
-use Rattle.best_clash.specs.Clash.{entryAt}
-use Rattle.best_clash.specs.Marks.{bothAre}
+use Rattle.best_clash.specs.EngineClash.{entryAt}
+use Rattle.best_clash.specs.EngineMarks.{bothAre}
 use Rattle.basis.proofs.TestLaws.{or-assoc}
 use borrow.Author.Needs.{needs}
 use Rattle.best_clash.proofs.mark_both.Statement.{statement}

@@ -4,8 +4,8 @@ use mathlib.Core.Path.{sym, _∙_, ap, subst}
 use native.Mathlib.Omega.{arith}
 use Rattle.sheet.specs.declared.Kind.{Kind}
 use Rattle.sheet.specs.Proper.{ProperKind}
-use Rattle.best_clash.specs.Clash.{entryAt}
-use Rattle.best_clash.specs.Marks.{marks}
+use Rattle.best_clash.specs.EngineClash.{entryAt}
+use Rattle.best_clash.specs.EngineMarks.{marks}
 use borrow.Author.Needs.{needs}
 use Rattle.best_clash.proofs.mark_constraint.Statement.{statement}
 use Rattle.best_clash.proofs.mark_constraint.Tie as tie

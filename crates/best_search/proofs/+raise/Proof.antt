@@ -13,7 +13,7 @@ use Rattle.auction.specs.Page.{put}
 use Rattle.basis.proofs.NumberLaws.{below-or-not}
 use Rattle.best_search.specs.declared.Prospect.{Prospect}
 use Rattle.auction.specs.Allowed.{Allowed, total}
-use Rattle.best_search.specs.Node.{Node, openTo, Lent, Leads, Raised}
+use Rattle.best_search.specs.EngineNode.{Node, openTo, Lent, Leads, Raised}
 use Rattle.best_search.proofs.NodeLaws.{leaf-total}
 use Rattle.best_search.proofs.ChoiceLaws.{led-node, product-low}
 use borrow.Author.Needs.{needs}

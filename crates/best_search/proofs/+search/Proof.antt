@@ -13,12 +13,12 @@ use Rattle.sheet.specs.declared.Page.{Page}
 use Rattle.sheet.specs.declared.Round.{Round}
 use Rattle.auction.specs.Page.{at, put, Sized}
 use Rattle.auction.proofs.PageLaws.{put-sized, at-put-other}
-use Rattle.best_clash.specs.Clash.{BarredBy}
+use Rattle.best_clash.specs.EngineClash.{BarredBy}
 use Rattle.best_page.specs.declared.Answer.{Answer}
-use Rattle.best_page.specs.Search.{Searched, Agrees, Tried}
+use Rattle.best_page.specs.EngineSearch.{Searched, Agrees, Tried}
 use Rattle.best_page.proofs.TriedLaws.{none-tried, choice-tried, choice-nowhere, all-tried}
 use Rattle.best_search.specs.declared.Prospect.{Prospect}
-use Rattle.best_search.specs.Node.{TablesOf, Node, openTo, Leads, Attempt}
+use Rattle.best_search.specs.EngineNode.{TablesOf, Node, openTo, Leads, Attempt}
 use Rattle.best_search.proofs.ChoiceLaws.{settled-found, settled-small, led-node, led-small, led-nowhere, product-low}
 use borrow.Fn.Kinds.{In}
 use borrow.Fn.PlainCycle.{Measures, is, falls, and}

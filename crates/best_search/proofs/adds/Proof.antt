@@ -4,9 +4,9 @@ use mathlib.Core.Path.{sym, _∙_, ap}
 use native.Mathlib.Nat.{zero-mul, mul-le-mul}
 use native.Mathlib.Omega.{arith}
 use lib.ListN.{getD}
-use Rattle.choice.specs.Tables.{bidIn}
+use Rattle.choice.specs.EngineBids.{bidIn}
 use Rattle.choice.proofs.PlacingLaws.{bid-index}
-use Rattle.best_bound.specs.Bound.{nth}
+use Rattle.best_bound.specs.EngineBound.{nth}
 use borrow.Author.Needs.{needs}
 use Rattle.best_search.proofs.adds.Statement.{statement}
 use Rattle.best_search.proofs.adds.Tie as tie

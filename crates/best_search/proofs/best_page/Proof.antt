@@ -8,7 +8,7 @@ use native.Mathlib.Omega.{arith}
 use Rattle.sheet.specs.declared.Page.{Page}
 use Rattle.auction.specs.Page.{at, emptyPage, Sized}
 use Rattle.auction.proofs.PageLaws.{at-empty, empty-sized}
-use Rattle.best_clash.specs.Clash.{BarredBy}
+use Rattle.best_clash.specs.EngineClash.{BarredBy}
 use Rattle.best_search.proofs.StartLaws.{front-size, lent-of, best-found}
 use borrow.Author.Needs.{needs}
 use Rattle.best_search.proofs.best_page.Statement.{statement}

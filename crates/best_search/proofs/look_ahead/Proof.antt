@@ -4,8 +4,8 @@ use mathlib.Core.Path.{sym, _∙_, ap, subst}
 use native.Mathlib.Numerals.{add-one}
 use native.Mathlib.Omega.{arith}
 use lib.ListN.{length}
-use Rattle.choice.specs.Tables.{bidIn}
-use Rattle.best_bound.specs.Bound.{addAfter, eligibleIn, nth}
+use Rattle.choice.specs.EngineBids.{bidIn}
+use Rattle.best_bound.specs.EngineBound.{addAfter, eligibleIn, nth}
 use Rattle.best_search.proofs.ChoiceLaws.{added-low, product-low}
 use borrow.Author.Needs.{needs}
 use Rattle.best_search.proofs.look_ahead.Statement.{statement}

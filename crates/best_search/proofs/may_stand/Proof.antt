@@ -6,7 +6,7 @@ use native.Mathlib.Omega.{arith}
 use lib.Dec.{eqb}
 use Rattle.basis.specs.Bits.{bitOf}
 use Rattle.basis.proofs.BitLaws.{bit-clear}
-use Rattle.best_search.specs.Node.{openTo}
+use Rattle.best_search.specs.EngineNode.{openTo}
 use borrow.Author.Needs.{needs}
 use Rattle.best_search.proofs.may_stand.Statement.{statement}
 use Rattle.best_search.proofs.may_stand.Tie as tie

@@ -6,7 +6,7 @@ use mathlib.Core.Bool.{Bool, _&&_}
 use mathlib.Core.Path.{sym, ap, ap₂}
 use native.Mathlib.Omega.{arith}
 use lib.Dec.{ltb}
-use Rattle.downward.specs.Keys.{keyAsksLower}
+use Rattle.downward.specs.EngineKeys.{keyAsksLower}
 use borrow.Author.Needs.{needs}
 use Rattle.downward.proofs.asks_lower.Statement.{statement}
 use Rattle.downward.proofs.asks_lower.Tie as tie

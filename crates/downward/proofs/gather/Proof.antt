@@ -8,7 +8,7 @@ use native.Mathlib.Numerals.{add-one}
 use native.Mathlib.Omega.{arith}
 use lib.ListN.{length-replicate}
 use Rattle.sheet.specs.Round.{constraintAt}
-use Rattle.downward.specs.Keys.{Gathered}
+use Rattle.downward.specs.EngineKeys.{Gathered}
 use Rattle.downward.proofs.GatherLaws.{none-gathered, own-gathered, other-passed}
 use borrow.Author.Needs.{needs}
 use Rattle.downward.proofs.gather.Statement.{statement}

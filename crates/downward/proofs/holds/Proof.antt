@@ -7,7 +7,7 @@ use native.Mathlib.Omega.{arith}
 use lib.Dec.{eqb}
 use lib.ListN.{getD}
 use Rattle.basis.proofs.TestLaws.{any-at, none-any}
-use Rattle.downward.specs.Keys.{keyIn}
+use Rattle.downward.specs.EngineKeys.{keyIn}
 use Rattle.downward.proofs.holds.Statement.{statement}
 use Rattle.downward.proofs.holds.Tie as tie
 

@@ -1,6 +1,6 @@
 -- `downward::key_for` meets its contract: the sum is the number's definition, and three bytes keep it below 2 ^ 32. Assumes nothing.
 use mathlib.Core.Path.{refl}
-use Rattle.downward.specs.Keys.{keyFor}
+use Rattle.downward.specs.EngineKeys.{keyFor}
 use borrow.Author.Needs.{needs}
 use Rattle.downward.proofs.key_for.Statement.{statement}
 use Rattle.downward.proofs.key_for.Tie as tie

@@ -1,7 +1,7 @@
 -- `downward::key_of` meets its contract: each arm hands on the parts that its kind has, and 0 for those that it lacks. Assumes nothing.
 use mathlib.Core.Path.{sym, _∙_, ap}
 use Rattle.downward.specs.Downward.{ownSlot}
-use Rattle.downward.specs.Keys.{otherBidder, otherSlot, keyOf}
+use Rattle.downward.specs.EngineKeys.{otherBidder, otherSlot, keyOf}
 use borrow.Author.Needs.{needs}
 use Rattle.downward.proofs.key_of.Statement.{statement}
 use Rattle.downward.proofs.key_of.Tie as tie

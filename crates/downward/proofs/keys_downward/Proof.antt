@@ -13,7 +13,7 @@ use lib.Dec.{ltb}
 use lib.ListN.{getD}
 use Rattle.basis.specs.Tests.{allBelow}
 use Rattle.basis.proofs.TestLaws.{and-holds, and-parts, not-both, fails, or-left, or-right, not-holds, all-at}
-use Rattle.downward.specs.Keys.{keyIn, keyAsksLower, keysDownward}
+use Rattle.downward.specs.EngineKeys.{keyIn, keyAsksLower, keysDownward}
 use Rattle.downward.proofs.DownwardLaws.{implied}
 use borrow.Author.Needs.{needs}
 use Rattle.downward.proofs.keys_downward.Statement.{statement}

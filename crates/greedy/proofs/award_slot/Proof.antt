@@ -4,8 +4,8 @@ use mathlib.Core.Logic.{⊎-elim}
 use mathlib.Core.Path.{sym, subst}
 use native.Mathlib.Numerals.{add-one}
 use native.Mathlib.Omega.{arith}
-use Rattle.choice.specs.Ranking.{NextAt}
-use Rattle.greedy.specs.Chains.{free}
+use Rattle.choice.specs.EngineRanking.{NextAt}
+use Rattle.greedy.specs.EngineChains.{free}
 use borrow.Author.Needs.{needs}
 use Rattle.greedy.proofs.award_slot.Statement.{statement}
 use Rattle.greedy.proofs.award_slot.Tie as tie

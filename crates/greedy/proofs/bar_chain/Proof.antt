@@ -7,8 +7,8 @@ use mathlib.Core.Path.{_≡_, sym, _∙_, ap}
 use native.Mathlib.Omega.{arith}
 use lib.ListN.{length, getD}
 use Rattle.sheet.specs.declared.Round.{Round}
-use Rattle.greedy.specs.Barred.{openAt}
-use Rattle.greedy.specs.Chains.{bars, Chained, barredAlong}
+use Rattle.greedy.specs.EngineTable.{openAt}
+use Rattle.greedy.specs.EngineChains.{bars, Chained, barredAlong}
 use Rattle.greedy.proofs.TableLaws.{barred-also}
 use Rattle.greedy.proofs.ChainLaws.{Walking, walk-start, all-from-last, walk-next, one-then-rest, none-left}
 use Rattle.greedy.proofs.bar_chain.Statement.{statement}

@@ -7,7 +7,7 @@ use mathlib.Core.Path.{_≡_, sym, _∙_, ap}
 use native.Mathlib.Omega.{arith}
 use lib.Dec.{eqb, leb}
 use lib.ListN.{length}
-use Rattle.greedy.specs.Barred.{openAt, entryIs}
+use Rattle.greedy.specs.EngineTable.{openAt, entryIs}
 use Rattle.greedy.proofs.bar_everywhere.Statement.{statement}
 use Rattle.greedy.proofs.bar_everywhere.Tie as tie
 

@@ -5,8 +5,8 @@ use mathlib.Core.Bool.{false, and-true}
 use mathlib.Core.Path.{_≡_, sym, _∙_, ap}
 use native.Mathlib.Omega.{arith}
 use lib.Dec.{eqb}
-use Rattle.greedy.specs.Barred.{openAt, entryIs}
-use Rattle.greedy.specs.Chains.{standing, bars}
+use Rattle.greedy.specs.EngineTable.{openAt, entryIs}
+use Rattle.greedy.specs.EngineChains.{standing, bars}
 use Rattle.greedy.proofs.TableLaws.{nobody-open}
 use Rattle.greedy.proofs.ChainLaws.{bars-nobody, bars-anywhere, bars-there}
 use borrow.Author.Needs.{needs}

@@ -6,8 +6,8 @@ use mathlib.Core.Path.{_≡_, sym, _∙_, ap, subst}
 use native.Mathlib.Omega.{arith}
 use Rattle.sheet.specs.declared.Kind.{Kind}
 use Rattle.sheet.specs.Proper.{ProperKind}
-use Rattle.greedy.specs.Barred.{openAt, barsOwn}
-use Rattle.greedy.specs.Chains.{ownerOf, otherOf, ownerKey, otherKey}
+use Rattle.greedy.specs.EngineTable.{openAt, barsOwn}
+use Rattle.greedy.specs.EngineChains.{ownerOf, otherOf, ownerKey, otherKey}
 use Rattle.greedy.proofs.ChainLaws.{falling-more, chained-skip}
 use borrow.Author.Needs.{needs}
 use Rattle.greedy.proofs.enter.Statement.{statement}

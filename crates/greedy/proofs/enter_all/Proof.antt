@@ -10,8 +10,8 @@ use lib.ListN.{length}
 use Rattle.basis.specs.Tests.{anyBelow}
 use Rattle.sheet.specs.declared.Round.{Round}
 use Rattle.sheet.specs.Round.{constraintAt}
-use Rattle.greedy.specs.Barred.{openAt, barsOwn, barredOwn}
-use Rattle.greedy.specs.Chains.{Falling, Chained}
+use Rattle.greedy.specs.EngineTable.{openAt, barsOwn, barredOwn}
+use Rattle.greedy.specs.EngineChains.{Falling, Chained}
 use Rattle.greedy.proofs.TableLaws.{barred-also}
 use Rattle.greedy.proofs.enter_all.Statement.{statement}
 use Rattle.greedy.proofs.enter_all.Tie as tie

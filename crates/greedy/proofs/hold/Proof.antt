@@ -11,7 +11,7 @@ use lib.ListN.{length, getD, set, length-set}
 use lib.Seq.{getD-set-same, getD-set-other}
 use Rattle.basis.proofs.NumberLaws.{same-or-not}
 use Rattle.basis.proofs.TestLaws.{or-assoc}
-use Rattle.greedy.specs.Chains.{standing, isHeld}
+use Rattle.greedy.specs.EngineChains.{standing, isHeld}
 use borrow.Author.Needs.{needs}
 use Rattle.greedy.proofs.hold.Statement.{statement}
 use Rattle.greedy.proofs.hold.Tie as tie

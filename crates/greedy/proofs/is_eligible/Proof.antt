@@ -4,7 +4,7 @@ use mathlib.Core.Bool.{Bool, not, _&&_}
 use mathlib.Core.Path.{sym, _∙_, ap}
 use borrow.Author.Tests.{eq-eqb, ne-eqb}
 use lib.ListN.{getD}
-use Rattle.greedy.specs.Chains.{standing, named, free}
+use Rattle.greedy.specs.EngineChains.{standing, named, free}
 use Rattle.greedy.proofs.TableLaws.{entry-open}
 use borrow.Author.Needs.{needs}
 use Rattle.greedy.proofs.is_eligible.Statement.{statement}

@@ -8,7 +8,7 @@ use native.Mathlib.Omega.{arith}
 use borrow.Author.Tests.{eq-eqb, ne-eqb}
 use lib.ListN.{getD}
 use Rattle.sheet.specs.declared.Round.{Round}
-use Rattle.greedy.specs.Chains.{Chained, isHeld, named}
+use Rattle.greedy.specs.EngineChains.{Chained, isHeld, named}
 use Rattle.greedy.proofs.ChainLaws.{Walking, walk-start, all-from-last, walk-next, one-then-rest, none-left}
 use Rattle.greedy.proofs.is_named.Statement.{statement}
 use Rattle.greedy.proofs.is_named.Tie as tie

@@ -8,7 +8,7 @@ use native.Mathlib.Nat.{eq-or-lt-of-le}
 use native.Mathlib.Omega.{arith}
 use lib.ListN.{getD}
 use Rattle.sheet.specs.declared.Round.{Round}
-use Rattle.greedy.specs.Chains.{Chained, free}
+use Rattle.greedy.specs.EngineChains.{Chained, free}
 use Rattle.greedy.proofs.next_eligible.Statement.{statement}
 use Rattle.greedy.proofs.next_eligible.Tie as tie
 

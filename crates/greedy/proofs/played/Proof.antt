@@ -4,7 +4,7 @@ use mathlib.Core.List.{List}
 use mathlib.Core.Path.{refl, sym, _∙_, ap}
 use Rattle.basis.specs.Rows.{padded}
 use Rattle.sheet.specs.declared.Round.{Round}
-use Rattle.choice.specs.Tables.{bidIn}
+use Rattle.choice.specs.EngineBids.{bidIn}
 use Rattle.choice.proofs.WinnerLaws.{winner-most}
 use Rattle.auction.specs.Greedy.{pageUpTo, greedyPage}
 use Rattle.sheet.specs.Round.{bidOf}
@@ -13,8 +13,8 @@ use Prim.Native.Nat.{ℕ, suc, _+_, _-_, _≤_}
 use native.Mathlib.Nat.{le-antisymm}
 use native.Mathlib.Numerals.{add-one}
 use native.Mathlib.Omega.{arith}
-use Rattle.greedy.specs.Outcome.{outcomeOf}
-use Rattle.greedy.specs.Chains.{free, Awarded}
+use Rattle.greedy.specs.EngineOutcome.{outcomeOf}
+use Rattle.greedy.specs.EngineChains.{free, Awarded}
 use Rattle.greedy.proofs.ChainLaws.{falling-none, chained-none, falling-more}
 use Rattle.greedy.proofs.FillLaws.{Filled, filled-start, filled-next}
 use Rattle.greedy.proofs.played.Statement.{statement}

@@ -5,8 +5,8 @@ use mathlib.Core.List.{List}
 use mathlib.Core.Path.{_≡_, refl, sym, _∙_, ap, ap₂}
 use Prim.Native.Nat.{ℕ, _<_}
 use lib.Dec.{eqb}
-use Rattle.greedy.specs.Barred.{openAt}
-use Rattle.greedy.specs.Chains.{standing, barredAlong}
+use Rattle.greedy.specs.EngineTable.{openAt}
+use Rattle.greedy.specs.EngineChains.{standing, barredAlong}
 use Rattle.greedy.proofs.TableLaws.{nobody-open}
 use Rattle.greedy.proofs.ChainLaws.{owners-barred}
 use borrow.Author.Needs.{needs}

@@ -1,7 +1,7 @@
 -- `greedy::settle` meets its contract, by whether somebody won the slot. Assumes nothing.
 use mathlib.Core.Path.{sym, _∙_}
-use Rattle.greedy.specs.Barred.{openAt}
-use Rattle.greedy.specs.Chains.{isHeld}
+use Rattle.greedy.specs.EngineTable.{openAt}
+use Rattle.greedy.specs.EngineChains.{isHeld}
 use Rattle.greedy.proofs.BarredLaws.{open-nobody, open-somebody}
 use Rattle.greedy.proofs.ChainLaws.{held-nobody, held-somebody}
 use borrow.Author.Needs.{needs}

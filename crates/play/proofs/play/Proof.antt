@@ -17,9 +17,9 @@ use Rattle.auction.specs.Greedy.{greedyPage}
 use Rattle.auction.specs.Price.{price}
 use Rattle.auction.proofs.GreedyLaws.{upTo-sized}
 use Rattle.greedy.specs.declared.Outcome.{Outcome}
-use Rattle.greedy.specs.Outcome.{outcomeOf}
+use Rattle.greedy.specs.EngineOutcome.{outcomeOf}
 use Rattle.play.specs.Play.{playedBuffer}
-use Rattle.play.specs.Written.{entryIn}
+use Rattle.play.specs.EngineEntries.{entryIn}
 use Rattle.play.proofs.PlayLaws.{sheet-refused, buffer-short, round-played, entries-same}
 use borrow.Author.Needs.{needs}
 use Rattle.play.proofs.play.Statement.{statement}

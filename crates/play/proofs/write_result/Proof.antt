@@ -13,7 +13,7 @@ use Rattle.basis.proofs.BytesLaws.{length-bytes32}
 use Rattle.basis.proofs.RowLaws.{joined-none, joined-next}
 use Rattle.sheet.specs.Round.{bidder}
 use Rattle.greedy.specs.declared.Outcome.{Outcome}
-use Rattle.play.specs.Written.{entryIn}
+use Rattle.play.specs.EngineEntries.{entryIn}
 use Rattle.play.proofs.write_result.Statement.{statement}
 use Rattle.play.proofs.write_result.Tie as tie
 

@@ -1,3 +1,4 @@
+-- The engine's own: nothing here need be believed.
 -- The chains by which a candidate and a winner find the constraints that name them. A key says that a bidder stands at a slot, or at any
 -- slot. A constraint on two bidders is a link with the key of its other, and has the key of its owner beside it. A chain goes from the
 -- last link of a key to the one before it with the same key, and so on.
@@ -15,7 +16,7 @@ use Rattle.sheet.specs.declared.Round.{Round}
 use Rattle.sheet.specs.Round.{constraintAt}
 use Rattle.choice.specs.Winner.{winner}
 use Rattle.choice.specs.Critical.{criticalBid}
-use Rattle.greedy.specs.Barred.{openAt}
+use Rattle.greedy.specs.EngineTable.{openAt}
 
 -- bidder b stands at slot l, or at any slot where l is 0
 abbrev pub standing : ℕ → ℕ → ℕ

@@ -1,3 +1,4 @@
+-- The engine's own: nothing here need be believed.
 -- A node of the search: a page whose first k slots are settled, and the pages that it can become.
 use Prim.Native.Nat.{ℕ, zero, suc, _+_, _*_, _-_, _<_, _≤_}
 use mathlib.Core.Bool.{Bool, true, false, not, _&&_}
@@ -8,15 +9,15 @@ use mathlib.Core.Path.{_≡_}
 use Rattle.basis.specs.Bits.{bitOf}
 use Rattle.sheet.specs.declared.Page.{Page}
 use Rattle.sheet.specs.declared.Round.{Round}
-use Rattle.choice.specs.Tables.{bidIn}
+use Rattle.choice.specs.EngineBids.{bidIn}
 use Rattle.auction.specs.Page.{at, placed}
 use Rattle.auction.specs.Broken.{breaks}
 use Rattle.sheet.specs.Round.{bidOf, effectOf}
 use Rattle.sheet.specs.Proper.{ProperRound}
-use Rattle.best_bound.specs.Bound.{addAfter, eligibleIn, nth}
-use Rattle.best_clash.specs.Clash.{TableOf, clashesIn, BarredBy, BarredAlso}
+use Rattle.best_bound.specs.EngineBound.{addAfter, eligibleIn, nth}
+use Rattle.best_clash.specs.EngineClash.{TableOf, clashesIn, BarredBy, BarredAlso}
 use Rattle.best_search.specs.declared.Prospect.{Prospect}
-use Rattle.best_page.specs.Search.{Searched, Agrees}
+use Rattle.best_page.specs.EngineSearch.{Searched, Agrees}
 use Rattle.auction.specs.Allowed.{PageOf, Allowed, totalUpTo, total}
 
 -- the list names the bidders 1 to n, each once, in falling order of their bids

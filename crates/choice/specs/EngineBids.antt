@@ -1,3 +1,4 @@
+-- The engine's own: nothing here need be believed.
 -- Bids in a list, bidder by bidder from bidder 1.
 use Prim.Native.Nat.{ℕ, zero, suc}
 use mathlib.Core.List.{List}

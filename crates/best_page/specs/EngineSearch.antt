@@ -1,3 +1,4 @@
+-- The engine's own: nothing here need be believed.
 -- What a search through a set of pages has found, when it looks for totals of at least `need`: nothing, where no page of the set has so
 -- large a total; or the best of them, and then one more is needed from there on.
 use Prim.Native.Nat.{ℕ, suc, _<_, _≤_}

@@ -1,3 +1,4 @@
+-- The engine's own: nothing here need be believed.
 -- What the slots left can add at most: the eligible bidders in falling order of their bids, against the effects in falling order.
 -- Slots are counted by index here: index j is slot j + 1.
 use Prim.Native.Nat.{ℕ, zero, suc, _+_, _*_, _-_, _<_, _≤_}

@@ -1,3 +1,4 @@
+-- The engine's own: nothing here need be believed.
 -- A bidder's own constraints as numbers, one each, in which the own slot counts ones; and the downward test over a list of them.
 use Prim.Native.Nat.{ℕ, suc, _+_, _*_, _%_, _<_, _≤_}
 use mathlib.Core.Bool.{Bool, not, _&&_, _||_}

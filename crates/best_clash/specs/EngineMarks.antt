@@ -1,3 +1,4 @@
+-- The engine's own: nothing here need be believed.
 -- Which entries of the table a constraint marks: who breaks it alone, and which two break it together.
 use Prim.Native.Nat.{ℕ, _+_, _*_, _-_, _<_, _≤_}
 use mathlib.Core.Bool.{Bool, _&&_, _||_}

@@ -1,3 +1,4 @@
+-- The engine's own: nothing here need be believed.
 -- What playing a round gives: its page and the price of each slot.
 use Prim.Native.Nat.{suc}
 use Rattle.basis.specs.Rows.{padded}

@@ -1,3 +1,4 @@
+-- The engine's own: nothing here need be believed.
 -- A played round's page and prices as bytes.
 use Prim.Native.Nat.{ℕ}
 use mathlib.Core.List.{List, _∷_}

@@ -1,3 +1,4 @@
+-- The engine's own: nothing here need be believed.
 -- Each constraint concerns at most two bidders, so a page breaks one exactly when two of its bidders, or one alone, do.
 use Prim.Native.Nat.{ℕ, zero, suc, _+_, _*_, _-_, _<_, _≤_}
 use mathlib.Core.Bool.{Bool, false, not, _&&_, _||_}

@@ -1,3 +1,4 @@
+-- The engine's own: nothing here need be believed.
 -- The table that the engine keeps in place of asking each candidate's own constraints anew: a byte for each slot and bidder, 64 bidders
 -- a slot, which is 0 while the bidder is open for the slot. Bidders and slots are counted from 1.
 use Prim.Native.Nat.{ℕ, zero, suc, _+_, _*_}
