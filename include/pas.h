@@ -119,7 +119,7 @@ extern "C" {
  *   call            measured    first call    figure below
  *   pas_check            136           136           1,024
  *   pas_play          22,136        22,136          28,672
- *   pas_downward      18,984  about 22,100          24,576
+ *   pas_downward      18,968  about 22,100          24,576
  *   pas_gain          33,272        33,272          40,960
  *   pas_best          14,848  about 15,400          20,480
  *

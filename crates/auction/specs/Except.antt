@@ -1,3 +1,4 @@
+-- The laws' own: proved from the definitions, and nothing here need be believed.
 -- Rounds that differ only in one bidder's list and bid: what the price's replay and demand 3 compare.
 use Prim.Native.Nat.{ℕ}
 use mathlib.Core.Path.{_≡_}

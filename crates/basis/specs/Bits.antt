@@ -1,3 +1,4 @@
+-- The engine's own: nothing here need be believed.
 -- The bits of a number, counted from 0, the lowest first: a set of small numbers in one word.
 use Prim.Native.Nat.{ℕ, _/_, _%_, _^_}
 use mathlib.Core.Bool.{Bool}

@@ -1,3 +1,4 @@
+-- The laws' own: proved from the definitions, and nothing here need be believed.
 -- The critical bid of a winner, the least that its eligible rivals leave it: the handier form of the price, over any test of who is
 -- eligible and any bids. That it is the price of document 01, the smallest bid that still wins, is a theorem.
 use Prim.Native.Nat.{ℕ, zero, suc, max}

@@ -1,3 +1,4 @@
+-- The laws' own: proved from the definitions, and nothing here need be believed.
 -- All that is true of an accepted sheet, rule by rule. That an accepted sheet has these facts, and that a sheet with them is accepted,
 -- are laws (proofs/AcceptedLaws.antt): a new rule is a new field here.
 use Prim.Native.Nat.{ℕ, _<_, _≤_}
