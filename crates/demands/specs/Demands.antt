@@ -74,11 +74,11 @@ pub record PlayedRight (s out : List ℕ) : Type 0 where
   pub priced : (k : ℕ) → 0 < k → k ≤ slotCount s → PricedRight s out k
 
 -- What a buffer and a total say of the best page.
-pub record BestRight (s out out′ : List ℕ) (worth : ℕ) : Type 0 where
+pub record BestRight (s out out′ : List ℕ) (given : ℕ) : Type 0 where
   pub page : Page
   pub best : Best (roundOf s) page
   pub said : out′ ≡ row (λ k. at page (suc k)) (slotCount s) ++ drop (slotCount s) out
-  pub own-total : worth ≡ total (roundOf s) page
+  pub own-total : given ≡ total (roundOf s) page
 
 pub record DemandTwo : Type 0 where
   pub play : (s out out′ : List ℕ) (number : ℕ) → Accepted s → 5 * slotCount s ≤ length out → Played s out number out′ →
