@@ -1,10 +1,9 @@
 -- "Rounds worked by hand": what is asked of each round, and what document 01 says.
 use Prim.Native.Nat.{ℕ, _*_}
 use mathlib.Core.Bool.{Bool, true, false}
-use mathlib.Core.List.{List, [], _∷_, _++_}
+use mathlib.Core.List.{List, [], _∷_}
 use lib.IntN.{ℤ, pos, negsuc}
 use lib.ListN.{replicate}
-use Rattle.basis.specs.Bytes.{bytes32}
 use Rattle.basis.specs.First.{unlessRefused}
 use Rattle.sheet.specs.Sheet.{slotCount}
 use Rattle.sheet.specs.Refusal.{refusalOf}
@@ -61,7 +60,7 @@ pub record Worked : Type 0 where
   pub worth : ℕ
   pub said : Said
 
--- a buffer of k bytes before a call: no slot has a bidder 255, so a byte that was not written shows
+-- a buffer of k bytes before a call, each 255, so that a byte that was not written shows
 unfoldable pub lent : ℕ → List ℕ
 lent k = replicate k 255
 
@@ -94,11 +93,12 @@ given w =
       best = givenByBest (w .sheet);
     }
 
--- a page and its prices as bytes, 5 a slot
+-- A page and its prices as bytes, 5 a slot. Each price here is below 256, so its low byte, which comes first, says all of it; the bytes are
+-- written out, and not taken from the definition that the call's own buffer is made by.
 unfoldable pub entries : (page prices : List ℕ) → List ℕ
 entries [] prices = []
 entries (b ∷ bs) [] = []
-entries (b ∷ bs) (p ∷ ps) = (b ∷ bytes32 p) ++ entries bs ps
+entries (b ∷ bs) (p ∷ ps) = b ∷ p ∷ 0 ∷ 0 ∷ 0 ∷ entries bs ps
 
 -- the answers of calls that are not refused
 abbrev pub plays : (page prices : List ℕ) → Left
@@ -143,8 +143,8 @@ worked sheet truth bidder worth page prices monotonic gain best total =
     asked sheet truth bidder worth 0 (plays page prices) (tells monotonic) (gains gain) (finds best total)
 
 -- A to H as document 01 has them, with the gains and the best page that it names (the other gains and best pages are ours); then the round
--- that only an earlier winner's condition decides, H with its fourth place (the only full page has 553340), the rounds that show that
--- demand 3 needs a worth of at least the bid; and calls that are refused: by the truth sheet (version 2; another m; another n), by the
+-- that only an earlier winner's condition decides, H with its fourth place (the only full page has 553340), and the rounds that show that
+-- demand 3 needs a worth of at least the bid. Last come calls that are refused: by the truth sheet (version 2; another m; another n), by the
 -- bidder (0, though the worth is too high as well; 3 of 2), by the worth, by 9 bidders for the best page alone, and by a sheet of 8 bytes.
 unfoldable pub rounds : List Worked
 rounds =
