@@ -1,11 +1,11 @@
--- The definitions give, of every worked round, what document 01 says of it: the antt kernel computes them from the sheets' bytes, the best
--- pages by trying every page.
+-- The right-hand sides of the calls' contracts give, for every worked round, what document 01 says of it: the antt kernel computes them from
+-- the sheets' bytes, the best pages by trying every page.
 -- Assumes nothing.
 use mathlib.Core.List.{map}
 use mathlib.Core.Path.{_≡_, refl}
 use Rattle.basis.specs.Bytes.{word16At, word32At, bytes32}
-use Rattle.basis.specs.First.{firstOver}
-use Rattle.basis.specs.Rows.{row, padded}
+use Rattle.basis.specs.First.{firstOver, unlessRefused}
+use Rattle.basis.specs.Rows.{row, padded, joined}
 use Rattle.basis.specs.Tests.{anyBelow, allBelow, least}
 use Rattle.sheet.specs.Sheet.{effectField, bidField, ownerField, ownSlotField, otherField, otherSlotField}
 use Rattle.sheet.specs.Refusal.{
@@ -26,12 +26,16 @@ use Rattle.sheet.specs.Encoded.{words, quads, sheetOf}
 use Rattle.auction.specs.Greedy.{concerns, eligible, winnerAt, fillSlot, pageUpTo, greedyPage}
 use Rattle.auction.specs.Price.{withBid, winsWith, priceFor, price}
 use Rattle.downward.specs.Downward.{ownSlot, oneLower, sameKind, listHas, asksLower, downward}
+use Rattle.downward.specs.Call.{testRefusal, testedFor, testedOf}
 use Rattle.gain.specs.Gain.{slotOf, breaksOwn, gainIf, gainAt, gainOf}
+use Rattle.gain.specs.Call.{laterRefusal, gainRefusal, gainedFor, gainedOf}
 use Rattle.auction.specs.Allowed.{totalUpTo, total}
 use Rattle.best_page.specs.BestPage.{nobodyTwice, isAllowed, keep, eachChoice, tryAll, bestPage}
-use Rattle.test_worked_rounds.specs.Sheets.{A, B, C, D, E, F, F-true, G, H, H-longer, earlier-winner, overbid, overbid-barred}
-use Rattle.test_worked_rounds.specs.Worked.{bySlot, Worked, given, rounds}
+use Rattle.best_search.specs.Call.{boundsRefusal, bestRefusal, bestBuffer, chosenFor}
+use Rattle.play.specs.Play.{playRefusal, slotEntry, playedBuffer}
+use Rattle.test_worked_rounds.specs.Sheets.{A, B, C, D, E, F, F-true, F-version-2, F-eight-bytes, G, H, H-longer, earlier-winner, overbid, overbid-barred, nine-bidders}
+use Rattle.test_worked_rounds.specs.Worked.{Worked, lent, givenByPlay, givenByBest, given, entries, rounds}
 
 pub rounds-hold : map given rounds ≡ map (λ (w : Worked). w .said) rounds
-unfolding word16At word32At bytes32 firstOver row padded anyBelow allBelow least effectField bidField ownerField ownSlotField otherField otherSlotField formRefusal countsRefusal effectRefusal bidRefusal inRange fieldsRefusal constraintRefusal refusalOf kindOf constraintField roundOf ranksNoLower wins winner at put emptyPage placed ownHolds otherHolds broken constraintAt bidOf effectOf concerns eligible winnerAt fillSlot pageUpTo greedyPage withBid winsWith priceFor price ownSlot oneLower sameKind listHas asksLower downward slotOf breaksOwn gainIf gainAt gainOf breaks totalUpTo total nobodyTwice isAllowed keep eachChoice tryAll bestPage bySlot words quads sheetOf A B C D E F F-true G H H-longer earlier-winner overbid overbid-barred given rounds
+unfolding word16At word32At bytes32 firstOver unlessRefused row padded joined anyBelow allBelow least effectField bidField ownerField ownSlotField otherField otherSlotField formRefusal countsRefusal effectRefusal bidRefusal inRange fieldsRefusal constraintRefusal refusalOf kindOf constraintField roundOf ranksNoLower wins winner at put emptyPage placed ownHolds otherHolds broken constraintAt bidOf effectOf concerns eligible winnerAt fillSlot pageUpTo greedyPage withBid winsWith priceFor price ownSlot oneLower sameKind listHas asksLower downward testRefusal testedFor testedOf slotOf breaksOwn gainIf gainAt gainOf laterRefusal gainRefusal gainedFor gainedOf breaks totalUpTo total nobodyTwice isAllowed keep eachChoice tryAll bestPage boundsRefusal bestRefusal bestBuffer chosenFor playRefusal slotEntry playedBuffer words quads sheetOf A B C D E F F-true F-version-2 F-eight-bytes G H H-longer earlier-winner overbid overbid-barred nine-bidders lent givenByPlay givenByBest given entries rounds
 rounds-hold = refl

@@ -67,3 +67,16 @@ overbid = sheetOf (5 ∷ 3 ∷ []) (1 ∷ []) ([])
 unfoldable pub overbid-barred : List ℕ
 unfolding sheetOf
 overbid-barred = sheetOf (5 ∷ 3 ∷ []) (1 ∷ []) (on 1 1 0 0 ∷ [])
+
+-- F with version 2 in its header
+unfoldable pub F-version-2 : List ℕ
+F-version-2 = 0x50 ∷ 0x41 ∷ 0x53 ∷ 2 ∷ 0 ∷ 2 ∷ 1 ∷ 0 ∷ 0 ∷ 1 ∷ 0 ∷ 0 ∷ 0 ∷ 5 ∷ 0 ∷ 0 ∷ 0 ∷ 6 ∷ 0 ∷ 0 ∷ 0 ∷ []
+
+-- the first 8 bytes of F
+unfoldable pub F-eight-bytes : List ℕ
+F-eight-bytes = 0x50 ∷ 0x41 ∷ 0x53 ∷ 1 ∷ 0 ∷ 2 ∷ 1 ∷ 0 ∷ []
+
+-- bids 9, 8, .., 1; effect 1: one bidder too many for the best page
+unfoldable pub nine-bidders : List ℕ
+unfolding sheetOf
+nine-bidders = sheetOf (9 ∷ 8 ∷ 7 ∷ 6 ∷ 5 ∷ 4 ∷ 3 ∷ 2 ∷ 1 ∷ []) (1 ∷ []) ([])

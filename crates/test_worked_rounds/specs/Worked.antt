@@ -1,34 +1,56 @@
 -- "Rounds worked by hand": what is asked of each round, and what document 01 says.
-use Prim.Native.Nat.{ℕ, suc}
+use Prim.Native.Nat.{ℕ, _*_}
 use mathlib.Core.Bool.{Bool, true, false}
 use mathlib.Core.List.{List, [], _∷_}
 use lib.IntN.{ℤ, pos, negsuc}
-use Rattle.basis.specs.Rows.{row}
-use Rattle.sheet.specs.declared.Page.{Page}
+use lib.ListN.{replicate}
+use Rattle.basis.specs.First.{unlessRefused}
+use Rattle.sheet.specs.Sheet.{slotCount}
 use Rattle.sheet.specs.Refusal.{refusalOf}
 use Rattle.sheet.specs.Round.{roundOf}
-use Rattle.auction.specs.Page.{at}
-use Rattle.auction.specs.Greedy.{greedyPage}
-use Rattle.auction.specs.Price.{price}
-use Rattle.downward.specs.Downward.{downward}
-use Rattle.gain.specs.Gain.{gainOf}
-use Rattle.auction.specs.Allowed.{total}
-use Rattle.best_page.specs.BestPage.{bestPage}
-use Rattle.test_worked_rounds.specs.Sheets.{A, B, C, D, E, F, F-true, G, H, H-longer, earlier-winner, overbid, overbid-barred}
+use Rattle.play.specs.Play.{playRefusal, playedBuffer}
+use Rattle.downward.specs.declared.Tested.{Tested}
+use Rattle.downward.specs.Call.{testedOf}
+use Rattle.gain.specs.declared.Gained.{Gained}
+use Rattle.gain.specs.Call.{gainedOf}
+use Rattle.best_search.specs.declared.Chosen.{Chosen}
+use Rattle.best_search.specs.Call.{bestRefusal, bestBuffer, chosenFor}
+use Rattle.test_worked_rounds.specs.Sheets.{
+  A,
+  B,
+  C,
+  D,
+  E,
+  F,
+  F-true,
+  F-version-2,
+  F-eight-bytes,
+  G,
+  H,
+  H-longer,
+  earlier-winner,
+  overbid,
+  overbid-barred,
+  nine-bidders,
+}
 
--- a page's bidder numbers by slot, 0 for an empty one
-unfoldable pub bySlot : Page → ℕ → List ℕ
-bySlot p m = row (λ k. at p (suc k)) m
-
--- the check's number, the page, the prices, for one bidder the test of its list and its gain, and the best page with its total
-pub record Said : Type 0 where
+-- a number, and the bytes of the result buffer after the call
+pub record Left : Type 0 where
   pub number : ℕ
-  pub page : List ℕ
-  pub prices : List ℕ
-  pub monotonic : Bool
-  pub gain : ℤ
-  pub best : List ℕ
-  pub total : ℕ
+  pub buffer : List ℕ
+
+-- the total with its number, and the bytes of the result buffer after the call
+pub record Found : Type 0 where
+  pub returned : Chosen
+  pub buffer : List ℕ
+
+-- what the five calls return, and what they leave in the buffers lent to them
+pub record Said : Type 0 where
+  pub check : ℕ
+  pub play : Left
+  pub test : Tested
+  pub gain : Gained
+  pub best : Found
 
 -- a sheet, the truth sheet, a bidder and its worth, and what is said of them
 pub record Worked : Type 0 where
@@ -38,33 +60,92 @@ pub record Worked : Type 0 where
   pub worth : ℕ
   pub said : Said
 
--- what the definitions give
-unfoldable pub given : Worked → Said
-given w =
-    let r = roundOf (w .sheet) in
+-- a buffer of k bytes before a call, each 255, so that a byte that was not written shows
+unfoldable pub lent : ℕ → List ℕ
+lent k = replicate k 255
+
+-- what playing s returns and leaves, by the right-hand sides of `Played`, in a buffer of exactly 5 × m bytes
+unfoldable pub givenByPlay : List ℕ → Left
+givenByPlay s =
+    let out = lent (5 * slotCount s) in
     record {
-      number = refusalOf (w .sheet);
-      page = bySlot (greedyPage r) (r .slots);
-      prices = row (λ k. price r (suc k)) (r .slots);
-      monotonic = downward r (w .bidder);
-      gain = gainOf r (roundOf (w .truth)) (w .bidder) (w .worth);
-      best = bySlot (bestPage r) (r .slots);
-      total = total r (bestPage r);
+      number = playRefusal s out;
+      buffer = unlessRefused (playRefusal s out) (playedBuffer (roundOf s) out) out;
     }
 
-abbrev pub worked : List ℕ → List ℕ → ℕ → ℕ → List ℕ → List ℕ → Bool → ℤ → List ℕ → ℕ → Worked
-worked sheet truth bidder worth page prices monotonic gain best total =
+-- what the best page call returns and leaves, by the right-hand sides of `BestGiven`, in a buffer of exactly m bytes
+unfoldable pub givenByBest : List ℕ → Found
+givenByBest s =
+    let out = lent (slotCount s) in
+    record {
+      returned = chosenFor (bestRefusal s out) s;
+      buffer = unlessRefused (bestRefusal s out) (bestBuffer (roundOf s) out) out;
+    }
+
+-- what the calls give, each by the right-hand side of its contract
+unfoldable pub given : Worked → Said
+given w =
+    record {
+      check = refusalOf (w .sheet);
+      play = givenByPlay (w .sheet);
+      test = testedOf (w .sheet) (w .bidder);
+      gain = gainedOf (w .sheet) (w .truth) (w .bidder) (w .worth);
+      best = givenByBest (w .sheet);
+    }
+
+-- A page and its prices as bytes, 5 a slot. Each price here is below 256, so its low byte, which comes first, says all of it; the bytes are
+-- written out, and not taken from the definition that the call's own buffer is made by.
+unfoldable pub entries : (page prices : List ℕ) → List ℕ
+entries [] prices = []
+entries (b ∷ bs) [] = []
+entries (b ∷ bs) (p ∷ ps) = b ∷ p ∷ 0 ∷ 0 ∷ 0 ∷ entries bs ps
+
+-- the answers of calls that are not refused
+abbrev pub plays : (page prices : List ℕ) → Left
+plays page prices = record { number = 0; buffer = entries page prices }
+
+abbrev pub tells : Bool → Tested
+tells monotonic = record { refusal = 0; yes = monotonic }
+
+abbrev pub gains : ℤ → Gained
+gains gain = record { refusal = 0; gain = gain }
+
+abbrev pub finds : List ℕ → ℕ → Found
+finds page total = record { returned = record { refusal = 0; total = total }; buffer = page }
+
+-- the answers of calls that are refused with the number k, on a sheet with m slots
+abbrev pub playsNot : (k m : ℕ) → Left
+playsNot k m = record { number = k; buffer = lent (5 * m) }
+
+abbrev pub tellsNot : ℕ → Tested
+tellsNot k = record { refusal = k; yes = false }
+
+abbrev pub gainsNot : ℕ → Gained
+gainsNot k = record { refusal = k; gain = pos 0 }
+
+abbrev pub findsNot : (k m : ℕ) → Found
+findsNot k m = record { returned = record { refusal = k; total = 0 }; buffer = lent m }
+
+-- a sheet, the truth sheet, a bidder, its worth, and the answers of the five calls
+abbrev pub asked : List ℕ → List ℕ → ℕ → ℕ → ℕ → Left → Tested → Gained → Found → Worked
+asked sheet truth bidder worth check play test gain best =
     record {
       sheet = sheet;
       truth = truth;
       bidder = bidder;
       worth = worth;
-      said = record { number = 0; page = page; prices = prices; monotonic = monotonic; gain = gain; best = best; total = total };
+      said = record { check = check; play = play; test = test; gain = gain; best = best };
     }
+
+-- the same where no call is refused: page, prices, whether the list is downward monotonic, gain, best page and its total
+abbrev pub worked : List ℕ → List ℕ → ℕ → ℕ → List ℕ → List ℕ → Bool → ℤ → List ℕ → ℕ → Worked
+worked sheet truth bidder worth page prices monotonic gain best total =
+    asked sheet truth bidder worth 0 (plays page prices) (tells monotonic) (gains gain) (finds best total)
 
 -- A to H as document 01 has them, with the gains and the best page that it names (the other gains and best pages are ours); then the round
 -- that only an earlier winner's condition decides, H with its fourth place (the only full page has 553340), and the rounds that show that
--- demand 3 needs a worth of at least the bid.
+-- demand 3 needs a worth of at least the bid. Last come calls that are refused: by the truth sheet (version 2; another m; another n), by the
+-- bidder (0, though the worth is too high as well; 3 of 2), by the worth, by 9 bidders for the best page alone, and by a sheet of 8 bytes.
 unfoldable pub rounds : List Worked
 rounds =
     worked A A 1 30 (1 ∷ 2 ∷ []) (20 ∷ 10 ∷ []) true (pos 100) (1 ∷ 2 ∷ []) 480
@@ -80,4 +161,12 @@ rounds =
     ∷ worked earlier-winner earlier-winner 1 2 (1 ∷ 0 ∷ []) (1 ∷ 0 ∷ []) true (pos 1) (2 ∷ 1 ∷ []) 3
     ∷ worked overbid overbid 1 2 (1 ∷ []) (3 ∷ []) true (negsuc 0) (1 ∷ []) 5
     ∷ worked overbid-barred overbid 1 2 (2 ∷ []) (0 ∷ []) true (pos 0) (2 ∷ []) 3
+    ∷ asked F F-version-2 2 6 0 (plays (2 ∷ []) (6 ∷ [])) (tells true) (gainsNot 14) (finds (2 ∷ []) 6)
+    ∷ asked F earlier-winner 2 6 0 (plays (2 ∷ []) (6 ∷ [])) (tells true) (gainsNot 15) (finds (2 ∷ []) 6)
+    ∷ asked earlier-winner A 1 2 0 (plays (1 ∷ 0 ∷ []) (1 ∷ 0 ∷ [])) (tells true) (gainsNot 15) (finds (2 ∷ 1 ∷ []) 3)
+    ∷ asked F F 0 1_000_000_001 0 (plays (2 ∷ []) (6 ∷ [])) (tellsNot 16) (gainsNot 16) (finds (2 ∷ []) 6)
+    ∷ asked F F 3 6 0 (plays (2 ∷ []) (6 ∷ [])) (tellsNot 16) (gainsNot 16) (finds (2 ∷ []) 6)
+    ∷ asked F F 2 1_000_000_001 0 (plays (2 ∷ []) (6 ∷ [])) (tells true) (gainsNot 17) (finds (2 ∷ []) 6)
+    ∷ asked nine-bidders nine-bidders 1 9 0 (plays (1 ∷ []) (8 ∷ [])) (tells true) (gains (pos 1)) (findsNot 18 1)
+    ∷ asked F-eight-bytes F 2 6 1 (playsNot 1 1) (tellsNot 1) (gainsNot 1) (findsNot 1 1)
     ∷ []

@@ -1,1 +1,1 @@
-// The rounds that document 01 works by hand, as theorems about the definitions (specs/Worked.antt, proofs/Rounds.antt).
+// The rounds that document 01 works by hand, as theorems about what the calls return and leave (specs/Worked.antt, proofs/Rounds.antt).
