@@ -239,8 +239,9 @@ uint32_t pas_downward(const uint8_t *sheet, size_t sheet_len, uint32_t bidder, u
  * `played`. The two sheets may be the same memory.
  *
  * Proved of it: let `truth` be the sheet with the bidder's true conditions, and `other` one that differs from it in the
- * bidder's list alone, which pas_downward answers with 1. Then, with `truth` as the truth sheet of both calls and at
- * any worth that is not below the bidder's bid, the gain with `truth` played is at least the gain with `other` played.
+ * bidder's list alone, which pas_downward answers with 1; both are accepted. Then, with `truth` as the truth sheet of
+ * both calls and at any worth from the bidder's bid to PAS_MAX_WORTH, neither call is refused, and the gain with `truth`
+ * played is at least the gain with `other` played.
  *
  * Refused with 1 to 13 for `played`, 14 for `truth`, 15, 16, or 17.
  */

@@ -3,7 +3,7 @@
 # shellcheck shell=bash disable=SC2154
 
 # Where standard error is closed the messages are dropped, and the work goes on.
-{ : 3>&2; } 2>/dev/null || exec 2>/dev/null
+[ -e "/proc/$$/fd/2" ] || exec 2>/dev/null
 
 say() { printf '%s: %s\n' "$script" "$*" >&2 || true; }
 fail() { say "$*"; exit 1; }

@@ -41,8 +41,8 @@
 //! # Ok::<(), Refusal>(())
 //! ```
 //!
-//! Every call is there twice: as a method of [`Sheet`], whose bytes the library has accepted, and as a function over bytes that nobody
-//! has checked. `play_into` and `best_into` write to a buffer of the caller's and allocate nothing. [`raw`] has the calls with plain
+//! Every call but the check is there twice: as a method of [`Sheet`], whose bytes the library has accepted, and as a function over bytes
+//! that nobody has checked. The check makes a [`Sheet`] of bytes (`Sheet::from_bytes`), and is a function too. `play_into` and `best_into` write to a buffer of the caller's and allocate nothing. [`raw`] has the calls with plain
 //! numbers, as in C. A [`Sheet`] can be read back: its effects, bids and constraints, as the builder takes them.
 //!
 //! Calls may run in several threads at once. They take up to 40 KB of stack, which is measured and not proved (`PAS_STACK_PLAY` and the

@@ -1,8 +1,7 @@
 -- The greedy page is a page of the round that breaks no constraint, and each of its slots is filled by the greedy rule: its first slots are
 -- the page as it was filled up to there. Assumes nothing.
 use Prim.Native.Nat.{ℕ, zero, suc, _-_, _<_, _≤_}
-use mathlib.Core.Bool.{true, false}
-use mathlib.Core.Path.{_≡_, refl, sym, _∙_, ap, ap₂, subst}
+use mathlib.Core.Path.{_≡_, refl, sym, _∙_, ap, ap₂}
 use native.Mathlib.Nat.{not-suc-le-zero}
 use native.Mathlib.Omega.{arith}
 use Rattle.sheet.specs.declared.Page.{Page}
@@ -13,7 +12,7 @@ use Rattle.choice.specs.Winner.{ranksNoLower}
 use Rattle.choice.proofs.WinnerLaws.{ranks-cases}
 use Rattle.auction.specs.Page.{at, put}
 use Rattle.auction.specs.Allowed.{Allowed}
-use Rattle.auction.specs.Greedy.{eligible, winnerAt, pageUpTo, greedyPage}
+use Rattle.auction.specs.Greedy.{eligible, pageUpTo, greedyPage}
 use Rattle.auction.specs.Filled.{firstSlots, FilledGreedily}
 use Rattle.auction.proofs.GreedyLaws.{
   upTo-next,

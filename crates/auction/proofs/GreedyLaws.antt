@@ -22,10 +22,10 @@ use Rattle.basis.proofs.NumberLaws.{same-or-not}
 use Rattle.auction.proofs.BrokenLaws.{empty-unbroken, eligible-unplaced, eligible-unbroken, none-breaks}
 
 -- a bid in the round's list is the bidder's
-pub bid-listed : (r : Round) (b : ℕ) → bidIn (r .bids) b ≡ bidOf r b
+pub bid-in : (r : Round) (b : ℕ) → bidIn (r .bids) b ≡ bidOf r b
 unfolding bidIn bidOf
-bid-listed r zero = refl
-bid-listed r (suc i) = refl
+bid-in r zero = refl
+bid-in r (suc i) = refl
 
 module _ (r : Round) where
   pub upTo-next : (k : ℕ) → pageUpTo r (suc k) ≡ put (pageUpTo r k) (suc k) (winnerAt r (pageUpTo r k) (suc k))

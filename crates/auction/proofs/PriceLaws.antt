@@ -91,7 +91,7 @@ price-least r k zero s = absurd (not-suc-le-zero s)
 price-least r k (suc i) s = refl
 
 -- With a bid x that is not above its own, the later winner w wins no slot before: whoever won there ranks no lower.
-module _ (r : Round) (w x : ℕ) (lower : x ≤ bidOf r w) (some : 0 < w) (listed : w ≤ length (r .bids)) where
+module _ (r : Round) (w x : ℕ) (lower : x ≤ bidOf r w) (some : 0 < w) (has-bid : w ≤ length (r .bids)) where
   no-earlier : (p : Page) (k : ℕ) → 0 < k → (winnerAt r p k ≡ w → ⊥) → winnerAt (withBid r w x) p k ≡ w → ⊥
   unfolding winnerAt
   no-earlier p k l lost won =
@@ -113,7 +113,7 @@ module _ (r : Round) (w x : ℕ) (lower : x ≤ bidOf r w) (some : 0 < w) (liste
       let first : ranksNoLower (bidOf r) v w ≡ true = old .first w some most w-eligible in
       let again : ranksNoLower bid′ w v ≡ true
       = subst (λ (b : ℕ). ranksNoLower bid′ b v ≡ true) won′ (top .first v (old .some) (old .most) (old .is-eligible)) in
-      let own : bid′ w ≡ x = with-own r w x some listed in
+      let own : bid′ w ≡ x = with-own r w x some has-bid in
       let his : bid′ v ≡ bidOf r v = with-other r w x v lost in
       ⊎-elim
       (λ (a : bidOf r w < bidOf r v).
@@ -158,7 +158,7 @@ module _ (r : Round) (w x : ℕ) (lower : x ≤ bidOf r w) (some : 0 < w) (liste
       ∙ ap (winner (eligible r p (suc k)) (bidOf r′)) (with-bidders r w x)
 
 -- The winner w of slot k + 1, and its critical bid there.
-module _ (r : Round) (k w : ℕ) (few : r .slots ≤ 16) (inside : k < r .slots) (listed : w ≤ length (r .bids)) (some : 0 < w)
+module _ (r : Round) (k w : ℕ) (few : r .slots ≤ 16) (inside : k < r .slots) (has-bid : w ≤ length (r .bids)) (some : 0 < w)
     (won : winnerAt r (pageUpTo r k) (suc k) ≡ w) where
   abbrev here-eligible : ℕ → Bool
   here-eligible = eligible r (pageUpTo r k) (suc k)
@@ -184,20 +184,20 @@ module _ (r : Round) (k w : ℕ) (few : r .slots ≤ 16) (inside : k < r .slots)
   wins-from-critical : (x : ℕ) → x ≤ bidOf r w → critical ≤ x → winsWith r (suc k) w x ≡ true
   unfolding winsWith
   wins-from-critical x low enough =
-      let own = with-own r w x some listed in
+      let own = with-own r w x some has-bid in
       eq-eqb (at (greedyPage (withBid r w x)) (suc k)) w
-      (replay-slot r w x low some listed few k inside unplaced
+      (replay-slot r w x low some has-bid few k inside unplaced
       ∙ enough-wins here-eligible (bidOf r) (r .bidders) w (bidOf (withBid r w x)) (others-bid x) some (top .most) (top .is-eligible) (omega arith))
 
   loses-below-critical : (x : ℕ) → x < critical → winsWith r (suc k) w x ≡ false
   unfolding winsWith
   loses-below-critical x less =
-      let own = with-own r w x some listed in
+      let own = with-own r w x some has-bid in
       let low : x ≤ bidOf r w = (let h = critical-low in omega arith) in
       ne-eqb (at (greedyPage (withBid r w x)) (suc k)) w
       (λ e.
       less-loses here-eligible (bidOf r) (r .bidders) w (bidOf (withBid r w x)) (others-bid x) some (omega arith)
-      (sym (replay-slot r w x low some listed few k inside unplaced) ∙ e))
+      (sym (replay-slot r w x low some has-bid few k inside unplaced) ∙ e))
 
   -- The price is the critical bid.
   pub price-critical : price r (suc k) ≡ critical
@@ -233,21 +233,21 @@ empty-costs-nothing r k e = ap (priceFor r k) e
 pub price-except : (r r′ : Round) (k w : ℕ) → Except w r r′ → r .slots ≤ 16 → k < r .slots → 0 < w →
     w ≤ length (r .bids) → w ≤ length (r′ .bids) → pageUpTo r k ≡ pageUpTo r′ k →
     winnerAt r (pageUpTo r k) (suc k) ≡ w → winnerAt r′ (pageUpTo r′ k) (suc k) ≡ w → price r (suc k) ≡ price r′ (suc k)
-price-except r r′ k w x few inside some listed listed′ same won won′ =
+price-except r r′ k w x few inside some has-bid has-bid′ same won won′ =
     let slots = x .slots in
     let p = pageUpTo r k in
-    price-critical r k w few inside listed some won
+    price-critical r k w few inside has-bid some won
     ∙ critical-same (eligible r p (suc k)) (eligible r′ p (suc k)) (bidOf r) (bidOf r′) (r .bidders) w
     (λ j d a z.
-    eligible-except w r r′ x p (suc k) j (upTo-sized r k) (omega arith) (omega arith) (unplaced r k w few inside listed some won) d)
+    eligible-except w r r′ x p (suc k) j (upTo-sized r k) (omega arith) (omega arith) (unplaced r k w few inside has-bid some won) d)
     (λ j d a z. x .bids j d)
     ∙ ap₂ (λ (q : Page) (n : ℕ). criticalBid (eligible r′ q (suc k)) (bidOf r′) w n) same (x .bidders)
-    ∙ sym (price-critical r′ k w (omega arith) (omega arith) listed′ some won′)
+    ∙ sym (price-critical r′ k w (omega arith) (omega arith) has-bid′ some won′)
 
 -- Prices depend on each owner's set of constraints only.
 pub price-sets : (r r′ : Round) → SameSets r r′ → r .slots ≤ 16 → r .bidders ≤ length (r .bids) → r .bidders ≤ length (r′ .bids) →
     (k : ℕ) → k < r .slots → price r (suc k) ≡ price r′ (suc k)
-price-sets r r′ x few listed listed′ k inside =
+price-sets r r′ x few has-bid has-bid′ k inside =
     let slots = x .slots in
     let same = upTo-sets r r′ x k (omega arith) in
     let page = page-sets r r′ x few in

@@ -94,12 +94,12 @@ module _ (s : List ℕ) (ok : Accepted s) (i x : ℕ) (most : i < bidderCount s)
       (below-or-not j i))
 
   -- and the constraints, which stand after the bids.
-  same-after : (place : ℕ → ℕ) → ((start : ℕ) → start ≤ place start) →
-      byteAt (written s i x) (place (constraintsStart (written s i x))) ≡ byteAt s (place (constraintsStart s))
-  same-after place after =
+  same-after : (offset : ℕ → ℕ) → ((start : ℕ) → start ≤ offset start) →
+      byteAt (written s i x) (offset (constraintsStart (written s i x))) ≡ byteAt s (offset (constraintsStart s))
+  same-after offset after =
       let later = after (constraintsStart s) in
-      ap (λ (start : ℕ). byteAt (written s i x) (place start)) same-constraints-start
-      ∙ byte-elsewhere s (bidsStart s + 4 * i) x (place (constraintsStart s)) (inr (omega arith))
+      ap (λ (start : ℕ). byteAt (written s i x) (offset start)) same-constraints-start
+      ∙ byte-elsewhere s (bidsStart s + 4 * i) x (offset (constraintsStart s)) (inr (omega arith))
 
   same-owner : (k : ℕ) → ownerField (written s i x) k ≡ ownerField s k
   unfolding ownerField

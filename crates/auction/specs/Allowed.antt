@@ -20,7 +20,7 @@ pub record Allowed (r : Round) (p : Page) : Type 0 where
   pub page : PageOf r p
   pub unbroken : breaks r p ≡ false
 
--- "A page's total is the sum of bid × effect over filled places." Nobody bids 0, so an empty slot adds nothing. Slots 1 to k:
+-- "A page's total is the sum of bid × effect over filled places." The bid of nobody, bidder 0, is 0, so an empty slot adds nothing. Slots 1 to k:
 unfoldable pub totalUpTo : Round → Page → ℕ → ℕ
 totalUpTo r p zero = 0
 totalUpTo r p (suc k) = totalUpTo r p k + bidOf r (at p (suc k)) * effectOf r (suc k)

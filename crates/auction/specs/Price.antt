@@ -26,7 +26,7 @@ withBid r (suc i) x =
 unfoldable pub winsWith : Round → ℕ → ℕ → ℕ → Bool
 winsWith r k b x = eqb (at (greedyPage (withBid r b x)) k) b
 
--- what the bidder b at slot k pays a click; nobody pays nothing
+-- what the bidder b at slot k pays a click; an empty slot costs 0
 unfoldable pub priceFor : Round → ℕ → ℕ → ℕ
 priceFor r k zero = 0
 priceFor r k (suc i) = least (winsWith r k (suc i)) (bidOf r (suc i))

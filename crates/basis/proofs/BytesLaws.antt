@@ -1,5 +1,5 @@
 -- What stands where after the four bytes of a number are written: the number itself at their offset, and elsewhere what stood there.
--- A run of stores changes no index before or after it, and gives the index at its j-th place its j-th value.
+-- A run of stores changes no index before or after it, and gives the j-th index of it its j-th value.
 -- Last, a number by its four bytes, and a byte in lists of one length one after another. Assumes nothing.
 use Prim.Native.Nat.{ℕ, zero, suc, _+_, _*_, _/_, _%_, _^_, _<_, _≤_}
 use mathlib.Core.List.{List, [], _∷_, _++_, append-assoc}
@@ -25,7 +25,7 @@ sets-after [] l at k h = refl
 sets-after (v ∷ vs) l at k h =
     sets-after vs (set l at v) (suc at) k (omega arith) ∙ getD-set-other l at k v 0 (omega arith)
 
--- and gives its j-th place its j-th value
+-- and gives its j-th index its j-th value
 sets-inside : (vs l : List ℕ) (at j : ℕ) → at + length vs ≤ length l → j < length vs → byteAt (sets l at vs) (at + j) ≡ byteAt vs j
 sets-inside [] l at j h b = absurd (not-suc-le-zero b)
 sets-inside (v ∷ vs) l at zero h b =

@@ -13,12 +13,9 @@ use Rattle.sheet.specs.Sheet.{bidderCount, slotCount}
 use Rattle.sheet.specs.Refusal.{refusalOf, Accepted}
 use Rattle.sheet.specs.Round.{roundOf}
 use Rattle.auction.specs.Page.{at}
-use Rattle.sheet.proofs.RoundLaws.{round-proper}
 use Rattle.auction.specs.Allowed.{total}
 use Rattle.best_page.specs.BestPage.{bestPage}
-use Rattle.best_page.proofs.BestPageLaws.{best-page}
 use Rattle.best_search.specs.Call.{boundsRefusal, bestRefusal, bestBuffer, chosenFor, BestGiven}
-use Rattle.best_search.specs.declared.Chosen.{Chosen}
 
 chosen-refused : (k : ℕ) (s : List ℕ) → (k ≡ 0 → ⊥) → record { refusal = k; total = 0 } ≡ chosenFor k s
 unfolding chosenFor

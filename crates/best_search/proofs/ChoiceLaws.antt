@@ -186,9 +186,9 @@ module _ (r : Round) (clashes ranked bids effects : List ℕ) (bidders slots : �
   may-node : (b : ℕ) → k < slots → b ≤ bidders → mayStand clashes p (suc k) b ≡ true →
       Node r (put p (suc k) b) (suc k) (had + bidIn bids b * nth effects k)
   unfolding mayStand
-  may-node b inside listed′ e =
+  may-node b inside within′ e =
       subst (λ (x : ℕ). Node r (put p (suc k) b) (suc k) (had + x)) (ap₂ _*_ (sym (v .bids-are b)) (sym (v .effects-are k)))
-      (by-number b listed′ e)
+      (by-number b within′ e)
     where
       by-number : (b : ℕ) → b ≤ bidders → mayStand clashes p (suc k) b ≡ true → Node r (put p (suc k) b) (suc k) (had + bidOf r b * effectOf r (suc k))
       by-number zero m e =

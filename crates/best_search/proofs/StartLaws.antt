@@ -16,7 +16,7 @@ use Rattle.auction.specs.Page.{emptyPage}
 use Rattle.sheet.specs.Round.{bidOf, effectOf}
 use Rattle.sheet.specs.Proper.{ProperRound}
 use Rattle.auction.proofs.PageLaws.{empty-sized, at-empty}
-use Rattle.auction.proofs.GreedyLaws.{bid-listed}
+use Rattle.auction.proofs.GreedyLaws.{bid-in}
 use Rattle.auction.proofs.BrokenLaws.{none-breaks, empty-unbroken}
 use Rattle.best_bound.specs.EngineBound.{nth}
 use Rattle.best_clash.specs.EngineClash.{TableOf, BarredBy}
@@ -69,7 +69,7 @@ module _ (r : Round) (c : ProperRound r) (few : r .bidders ≤ 8) (short : r .sl
         slots-are = refl;
         few-bidders = few;
         few-slots = short;
-        bids-are = bid-listed r;
+        bids-are = bid-in r;
         effects-are = effect-same r;
         table = t;
         ranking =
@@ -79,7 +79,7 @@ module _ (r : Round) (c : ProperRound r) (few : r .bidders ≤ 8) (short : r .sl
               everybody = λ b s m. (let w = k .everybody b s m in (w .0, w .1, same-at (w .0) (w .1) ∙ w .2));
               falls = λ i j l m.
                   subst₂ (λ (x y : ℕ). bidOf r x ≤ bidOf r y) (sym (same-at j m)) (sym (same-at i (omega arith)))
-                  (let h = ranked-falls (bidIn (r .bids)) (r .bidders) ranked k i j l m in let e = bid-listed r (getD ranked i 0) in let d = bid-listed r (getD ranked j 0) in omega arith);
+                  (let h = ranked-falls (bidIn (r .bids)) (r .bidders) ranked k i j l m in let e = bid-in r (getD ranked i 0) in let d = bid-in r (getD ranked j 0) in omega arith);
             };
       }
 

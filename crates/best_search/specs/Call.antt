@@ -7,13 +7,11 @@ use lib.Dec.{ltb}
 use lib.ListN.{length, drop}
 use Rattle.basis.specs.First.{_when_otherwise_, orElse, unlessRefused}
 use Rattle.basis.specs.Rows.{row}
-use Rattle.sheet.specs.declared.Page.{Page}
 use Rattle.sheet.specs.declared.Round.{Round}
 use Rattle.sheet.specs.Sheet.{bidderCount, slotCount}
 use Rattle.sheet.specs.Refusal.{refusalOf}
 use Rattle.sheet.specs.Round.{roundOf}
 use Rattle.auction.specs.Page.{at}
-use Rattle.best_page.specs.Best.{Best}
 use Rattle.best_page.specs.BestPage.{bestPage}
 use Rattle.auction.specs.Allowed.{total}
 use Rattle.best_search.specs.declared.Chosen.{Chosen}
@@ -38,6 +36,6 @@ chosenFor zero s = record { refusal = 0; total = total (roundOf s) (bestPage (ro
 chosenFor (suc k) s = record { refusal = suc k; total = 0 }
 
 -- All that the call returns and leaves; a refused call leaves every byte.
-pub record BestGiven (s out : List ℕ) (answer : Chosen) (out′ : List ℕ) : Type 0 where
-  pub returned : answer ≡ chosenFor (bestRefusal s out) s
+pub record BestGiven (s out : List ℕ) (given : Chosen) (out′ : List ℕ) : Type 0 where
+  pub returned : given ≡ chosenFor (bestRefusal s out) s
   pub buffer : out′ ≡ unlessRefused (bestRefusal s out) (bestBuffer (roundOf s) out) out

@@ -182,7 +182,7 @@ critical-same e e′ bid bid′ (suc i) w same same′ =
     (λ (t : eqb (suc i) w ≡ false).
     let d = eqb-false (suc i) w t in
     let is-eligible = same (suc i) d (omega arith) (omega arith) in
-    let ask = against-same bid bid′ w (suc i) (same′ (suc i) d (omega arith) (omega arith)) in
+    let same-critical = against-same bid bid′ w (suc i) (same′ (suc i) d (omega arith) (omega arith)) in
     ap (λ (x : ℕ). max x (cond (e (suc i) && not (eqb (suc i) w)) (criticalAgainst bid w (suc i)) 0)) ih
-    ∙ ap₂ (λ (u : Bool) (a : ℕ). max (criticalBid e′ bid′ w i) (cond (u && not (eqb (suc i) w)) a 0)) is-eligible ask)
+    ∙ ap₂ (λ (u : Bool) (a : ℕ). max (criticalBid e′ bid′ w i) (cond (u && not (eqb (suc i) w)) a 0)) is-eligible same-critical)
     (holds-or-fails (eqb (suc i) w))

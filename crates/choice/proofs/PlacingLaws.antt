@@ -36,8 +36,8 @@ against-sum bid w j = by-test (ltb j w)
     by-test false = omega arith
 
 -- against who ranks no lower than a rival it is no less than against the rival
-asks-no-less : (bid : ℕ → ℕ) (w v u : ℕ) → ranksNoLower bid v u ≡ true → criticalAgainst bid w u ≤ criticalAgainst bid w v
-asks-no-less bid w v u h =
+critical-no-less : (bid : ℕ → ℕ) (w v u : ℕ) → ranksNoLower bid v u ≡ true → criticalAgainst bid w u ≤ criticalAgainst bid w v
+critical-no-less bid w v u h =
     let least = against-sum bid w v in
     ⊎-elim
     (λ (t : ltb u w ≡ true).
@@ -139,7 +139,7 @@ module _ (eligible : ℕ → Bool) (bid : ℕ → ℕ) (n : ℕ) (ranked : List 
           critical-within eligible bid w n (criticalAgainst bid w v)
           (λ b z m e d.
           let p = rival-stands b z m e d in
-          asks-no-less bid w v b (subst (λ (u : ℕ). ranksNoLower bid v u ≡ true) (p .2) (order-at s (p .0) (p .3) (p .1)))) in
+          critical-no-less bid w v b (subst (λ (u : ℕ). ranksNoLower bid v u ≡ true) (p .2) (order-at s (p .0) (p .3) (p .1)))) in
           let least : criticalAgainst bid w v ≤ criticalBid eligible bid w n =
           critical-covers eligible bid w n v (o .some s h .0) (o .some s h .1) (second .here h)
           (λ q. let k = second .low in o .order f s (omega arith) h .1 (sym q)) in

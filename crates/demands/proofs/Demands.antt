@@ -1,15 +1,13 @@
 -- The three demands. Assumes nothing.
-use Prim.Native.Nat.{ℕ, zero, suc, _*_, _<_, _≤_}
-use borrow.Author.Tests.{le-ltb}
+use Prim.Native.Nat.{ℕ, suc, _≤_}
 use mathlib.Core.List.{List, _++_}
-use mathlib.Core.Path.{_≡_, refl, sym, _∙_, ap}
-use native.Mathlib.Omega.{arith}
+use mathlib.Core.Path.{_≡_, sym, _∙_, ap}
 use lib.ListN.{length, drop}
 use Rattle.basis.specs.First.{unlessRefused}
 use Rattle.basis.specs.Rows.{row}
-use Rattle.basis.proofs.FirstLaws.{orElse-right, refused-leaves, answered-gives}
+use Rattle.basis.proofs.FirstLaws.{refused-leaves, answered-gives}
 use Rattle.sheet.specs.Sheet.{bidderCount, slotCount}
-use Rattle.sheet.specs.Refusal.{refusalOf, Accepted}
+use Rattle.sheet.specs.Refusal.{Accepted}
 use Rattle.sheet.specs.Round.{roundOf}
 use Rattle.sheet.proofs.RoundLaws.{round-proper, round-slots}
 use Rattle.auction.specs.Page.{at}
@@ -44,7 +42,7 @@ demand-one =
     record {
       check = λ s number e. record { first-number = e; refused = λ h. tt; answered = λ z. sym e ∙ z };
       play = λ s out out′ number g. owed number (playRefusal s out) (playedBuffer (roundOf s) out) out out′ (g .number) (g .buffer);
-      test = λ s i before number after g. owed number (testRefusal s i) (yesNumber (downward (roundOf s) i)) before after (g .number) (g .written);
+      downward = λ s i before number after g. owed number (testRefusal s i) (yesNumber (downward (roundOf s) i)) before after (g .number) (g .written);
       gain = λ s t i worth before number after g.
           owed number (gainRefusal s t i worth) (gainOf (roundOf s) (roundOf t) i worth) before after (g .number) (g .written);
       best = λ s out out′ before number after g.

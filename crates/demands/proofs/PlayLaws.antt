@@ -4,7 +4,7 @@ use Prim.Native.Nat.{ℕ, zero, suc, _*_, _<_, _≤_}
 use borrow.Author.Tests.{le-ltb}
 use mathlib.Core.List.{List}
 use mathlib.Core.Logic.{⊎-elim}
-use mathlib.Core.Path.{_≡_, refl, sym, _∙_, ap, ap₂, subst}
+use mathlib.Core.Path.{_≡_, sym, _∙_, ap}
 use native.Mathlib.Nat.{not-suc-le-zero}
 use native.Mathlib.Omega.{arith}
 use lib.ListN.{length}
@@ -14,7 +14,7 @@ use Rattle.sheet.specs.declared.Round.{Round}
 use Rattle.sheet.specs.Sheet.{bidderCount, slotCount, bidField}
 use Rattle.sheet.specs.Refusal.{refusalOf, Accepted}
 use Rattle.sheet.specs.Proper.{ProperRound}
-use Rattle.sheet.specs.Round.{roundOf, bidOf}
+use Rattle.sheet.specs.Round.{roundOf}
 use Rattle.sheet.proofs.RoundLaws.{round-proper, round-bid, round-bidders, round-slots}
 use Rattle.auction.specs.Page.{at}
 use Rattle.auction.specs.Greedy.{winnerAt, pageUpTo, greedyPage}
@@ -22,7 +22,7 @@ use Rattle.auction.specs.Price.{price, withBid}
 use Rattle.auction.specs.Write.{writeBid}
 use Rattle.auction.proofs.FilledLaws.{greedy-allowed, greedy-filled}
 use Rattle.auction.proofs.GreedyLaws.{slot-winner, upTo-bidders}
-use Rattle.auction.proofs.PriceLaws.{price-at-most-bid, price-wins, smaller-loses, empty-costs-nothing, price-low}
+use Rattle.auction.proofs.PriceLaws.{with-slots, price-at-most-bid, price-wins, smaller-loses, empty-costs-nothing, price-low}
 use Rattle.auction.proofs.WriteLaws.{write-accepted, write-round}
 use Rattle.play.specs.Play.{playRefusal, playedBuffer, Played, bidderSaid, priceSaid}
 use Rattle.play.proofs.SaidLaws.{bidder-said, price-said}
@@ -73,8 +73,8 @@ module _ (s : List ℕ) (ok : Accepted s) (w k : ℕ) (inside : suc k ≤ slotCo
       let n = round-bidders s in
       omega arith
 
-  listed : w ≤ length (r .bids)
-  listed =
+  has-bid : w ≤ length (r .bids)
+  has-bid =
       let sized = proper .sized-bids in
       let many = proper .most-bidders in
       let l = bidder-of in
@@ -84,7 +84,7 @@ module _ (s : List ℕ) (ok : Accepted s) (w k : ℕ) (inside : suc k ≤ slotCo
   pub paid-at-most : price r (suc k) ≤ bidField s w
   paid-at-most =
       let e = round-bid s ok w bidder-of in
-      let p = price-at-most-bid r k w (proper .most-slots) within listed some won in
+      let p = price-at-most-bid r k w (proper .most-slots) within has-bid some won in
       omega arith
 
   -- the sheet with a legal number written for the winner
@@ -97,12 +97,7 @@ module _ (s : List ℕ) (ok : Accepted s) (w k : ℕ) (inside : suc k ≤ slotCo
     same = write-round s ok w x some bidder-of low
 
     same-slots : slotCount (writeBid s w x) ≡ slotCount s
-    unfolding withBid
-    same-slots = sym (round-slots (writeBid s w x)) ∙ ap (λ (q : Round). q .slots) same ∙ slots-kept w ∙ round-slots s
-      where
-        slots-kept : (b : ℕ) → withBid r b x .slots ≡ r .slots
-        slots-kept zero = refl
-        slots-kept (suc b) = refl
+    same-slots = sym (round-slots (writeBid s w x)) ∙ ap (λ (q : Round). q .slots) same ∙ with-slots r w x ∙ round-slots s
 
     pub replay-number : number ≡ 0
     replay-number = played-number (writeBid s w x) out out′ number written (let e = same-slots in omega arith) played
@@ -112,11 +107,12 @@ module _ (s : List ℕ) (ok : Accepted s) (w k : ℕ) (inside : suc k ≤ slotCo
         says-bidder (writeBid s w x) out out′ number written (let e = same-slots in omega arith) played (suc k) (omega arith) (let e = same-slots in omega arith)
         ∙ ap (λ (q : Round). at (greedyPage q) (suc k)) same
 
+  -- what it must bid, and what is not enough, in the replay
   pub price-replayed : at (greedyPage (withBid r w (price r (suc k)))) (suc k) ≡ w
-  price-replayed = price-wins r k w (proper .most-slots) within listed some won
+  price-replayed = price-wins r k w (proper .most-slots) within has-bid some won
 
   pub smaller-replayed : (x : ℕ) → x < price r (suc k) → at (greedyPage (withBid r w x)) (suc k) ≡ w → ⊥
-  smaller-replayed = smaller-loses r k w (proper .most-slots) within listed some won
+  smaller-replayed = smaller-loses r k w (proper .most-slots) within has-bid some won
 
 -- What a result says of an accepted sheet.
 module _ (s out out′ : List ℕ) (number : ℕ) (ok : Accepted s) (room : 5 * slotCount s ≤ length out) (played : Played s out number out′) where

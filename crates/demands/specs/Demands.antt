@@ -1,6 +1,6 @@
 -- The three demands, over the contracts of the five calls that programs link (pas/src/lib.rt). Each call promises one record or equation,
 -- for every input; here is what follows for a reader, and the proofs are in proofs/Demands.antt. Lists of numbers are bytes; s is a sheet,
--- out and out′ are a result buffer before and after a call.
+-- out and out′ are a result buffer before and after a call, `number` is what a call returns.
 use Prim.Native.Nat.{ℕ, suc, _*_, _<_, _≤_}
 use mathlib.Core.List.{List, _++_}
 use mathlib.Core.Path.{_≡_}
@@ -37,18 +37,18 @@ pub record Owed (number first : ℕ) (unchanged result : Type 0) : Type 0 where
   pub answered : number ≡ 0 → result
 
 pub record DemandOne : Type 0 where
-  -- 1 to 13
+  -- pas_check, 1 to 13: the contract itself, and an accepted sheet is one without a number
   pub check : (s : List ℕ) (number : ℕ) → number ≡ refusalOf s → Owed number (refusalOf s) Unit (Accepted s)
-  -- 1 to 13, 19
+  -- pas_play, 1 to 13, 19
   pub play : (s out out′ : List ℕ) (number : ℕ) → Played s out number out′ →
       Owed number (playRefusal s out) (out′ ≡ out) (out′ ≡ playedBuffer (roundOf s) out)
-  -- 1 to 13, 16
-  pub test : (s : List ℕ) (i before number after : ℕ) → DownwardGiven s i before number after →
+  -- pas_downward, 1 to 13, 16
+  pub downward : (s : List ℕ) (i before number after : ℕ) → DownwardGiven s i before number after →
       Owed number (testRefusal s i) (after ≡ before) (after ≡ yesNumber (downward (roundOf s) i))
-  -- 1 to 17
+  -- pas_gain, 1 to 17
   pub gain : (s t : List ℕ) (i worth : ℕ) (before : ℤ) (number : ℕ) (after : ℤ) → GainGiven s t i worth before number after →
       Owed number (gainRefusal s t i worth) (after ≡ before) (after ≡ gainOf (roundOf s) (roundOf t) i worth)
-  -- 1 to 13, 18, 19
+  -- pas_best, 1 to 13, 18, 19
   pub best : (s out out′ : List ℕ) (before number after : ℕ) → BestPageGiven s out before number out′ after →
       Owed number (bestRefusal s out) ((out′ ≡ out) × (after ≡ before))
       ((out′ ≡ bestBuffer (roundOf s) out) × (after ≡ total (roundOf s) (bestPage (roundOf s))))
@@ -57,21 +57,21 @@ pub record DemandOne : Type 0 where
 -- bidders and 8 places, the best page breaks no condition and no other such page has a larger total."
 
 -- The price that a result says for slot k, with w the bidder there: at most w's bid (an empty slot's bid is 0); playing the sheet with the
--- price written for w gives w the slot; playing it with any smaller number written does not.
-pub record PricedRight (s out : List ℕ) (k : ℕ) : Type 0 where
-  pub at-most-bid : priceSaid out k ≤ bidField s (bidderSaid out k)
-  pub wins : (bidderSaid out k ≡ 0 → ⊥) → (other other′ : List ℕ) (number : ℕ) → 5 * slotCount s ≤ length other →
-      Played (writeBid s (bidderSaid out k) (priceSaid out k)) other number other′ → (number ≡ 0) × (bidderSaid other′ k ≡ bidderSaid out k)
-  pub smaller-loses : (x : ℕ) → x < priceSaid out k → (other other′ : List ℕ) (number : ℕ) → 5 * slotCount s ≤ length other →
-      Played (writeBid s (bidderSaid out k) x) other number other′ → (number ≡ 0) × (bidderSaid other′ k ≡ bidderSaid out k → ⊥)
+-- price written for w, into any buffer with room, gives w the slot; playing it with any smaller number written does not.
+pub record PricedRight (s result : List ℕ) (k : ℕ) : Type 0 where
+  pub at-most-bid : priceSaid result k ≤ bidField s (bidderSaid result k)
+  pub wins : (bidderSaid result k ≡ 0 → ⊥) → (again again′ : List ℕ) (number : ℕ) → 5 * slotCount s ≤ length again →
+      Played (writeBid s (bidderSaid result k) (priceSaid result k)) again number again′ → (number ≡ 0) × (bidderSaid again′ k ≡ bidderSaid result k)
+  pub smaller-loses : (x : ℕ) → x < priceSaid result k → (again again′ : List ℕ) (number : ℕ) → 5 * slotCount s ≤ length again →
+      Played (writeBid s (bidderSaid result k) x) again number again′ → (number ≡ 0) × (bidderSaid again′ k ≡ bidderSaid result k → ⊥)
 
 -- What a result says of an accepted sheet: a page of the round that breaks no condition, each slot filled by the greedy rule and priced right.
-pub record PlayedRight (s out : List ℕ) : Type 0 where
+pub record PlayedRight (s result : List ℕ) : Type 0 where
   pub page : Page
-  pub said : (k : ℕ) → 0 < k → k ≤ slotCount s → bidderSaid out k ≡ at page k
+  pub said : (k : ℕ) → 0 < k → k ≤ slotCount s → bidderSaid result k ≡ at page k
   pub allowed : Allowed (roundOf s) page
   pub greedy : (k : ℕ) → 0 < k → k ≤ slotCount s → FilledGreedily (roundOf s) page k
-  pub priced : (k : ℕ) → 0 < k → k ≤ slotCount s → PricedRight s out k
+  pub priced : (k : ℕ) → 0 < k → k ≤ slotCount s → PricedRight s result k
 
 -- What a buffer and a total say of the best page.
 pub record BestRight (s out out′ : List ℕ) (given : ℕ) : Type 0 where
@@ -81,21 +81,23 @@ pub record BestRight (s out out′ : List ℕ) (given : ℕ) : Type 0 where
   pub own-total : given ≡ total (roundOf s) page
 
 pub record DemandTwo : Type 0 where
+  -- pas_play
   pub play : (s out out′ : List ℕ) (number : ℕ) → Accepted s → 5 * slotCount s ≤ length out → Played s out number out′ →
       (number ≡ 0) × PlayedRight s out′
+  -- pas_best
   pub best : (s out out′ : List ℕ) (before number after : ℕ) → Accepted s → bidderCount s ≤ 8 → slotCount s ≤ 8 → slotCount s ≤ length out →
       BestPageGiven s out before number out′ after → (number ≡ 0) × BestRight s out out′ after
 
 -- DEMAND 3. "A bidder that lists its true conditions (of any kind) and bids at most its worth gains at least as much as with any downward
 -- monotonic list sent instead, whatever the others do."
 
--- Two accepted sheets differ only in bidder i's list, and `pas_downward` answers 1 for i's list in the other one. At any worth from i's bid up,
+-- An honest sheet and one sent instead are accepted and differ only in bidder i's list, and `pas_downward` answers 1 for i's list in the latter. At any worth from i's bid up,
 -- `pas_gain` with the honest sheet as truth refuses neither sheet, and gives with the honest one played at least what it gives with the other.
 unfoldable pub DemandThree : Type 0
 DemandThree =
-    (honest other : List ℕ) (i worth : ℕ) → Accepted honest → Accepted other → DifferOnlyInList i honest other →
-    (before : ℕ) → DownwardGiven other i before 0 1 → bidField honest i ≤ worth → worth ≤ 1_000_000_000 →
-    (before-honest before-other : ℤ) (number-honest number-other : ℕ) (gain-honest gain-other : ℤ) →
+    (honest instead : List ℕ) (i worth : ℕ) → Accepted honest → Accepted instead → DifferOnlyInList i honest instead →
+    (before : ℕ) → DownwardGiven instead i before 0 1 → bidField honest i ≤ worth → worth ≤ 1_000_000_000 →
+    (before-honest before-instead : ℤ) (number-honest number-instead : ℕ) (gain-honest gain-instead : ℤ) →
     GainGiven honest honest i worth before-honest number-honest gain-honest →
-    GainGiven other honest i worth before-other number-other gain-other →
-    (number-honest ≡ 0) × (number-other ≡ 0) × (gain-other ≤ℤ gain-honest)
+    GainGiven instead honest i worth before-instead number-instead gain-instead →
+    (number-honest ≡ 0) × (number-instead ≡ 0) × (gain-instead ≤ℤ gain-honest)

@@ -107,20 +107,20 @@ module _ (r : Round) (i : ℕ) (keys : List ℕ) (count : ℕ) (ok : ProperRound
   proper-at a l = ok .proper (constraintAt r a) (a, l, refl) .parts
 
   -- the next number stands among the numbers exactly when the list has the kind one lower
-  next-listed : (a : ℕ) → a < r .used → (ownSlot (constraintAt r a .kind) ≡ 0 → ⊥) → keyIn keys count (suc (keyOf (constraintAt r a .kind))) ≡ true →
+  next-has : (a : ℕ) → a < r .used → (ownSlot (constraintAt r a .kind) ≡ 0 → ⊥) → keyIn keys count (suc (keyOf (constraintAt r a .kind))) ≡ true →
       listHas r i (oneLower (constraintAt r a .kind)) ≡ true
   unfolding keyIn
-  next-listed a l h e =
+  next-has a l h e =
       let w = any-where (λ p. eqb (getD keys p 0) (suc (keyOf (constraintAt r a .kind)))) count e in
       let b = g .back (w .0) (w .1) in
       let key = sym (b .3) ∙ eqb-true (getD keys (w .0) 0) (suc (keyOf (constraintAt r a .kind))) (w .2) in
       list-at r i (oneLower (constraintAt r a .kind)) (b .0) (b .1) (b .2)
       (next-key-lower _ _ (constraintAt r a .kind) (constraintAt r (b .0) .kind) (proper-at a l) (proper-at (b .0) (b .1)) h key)
 
-  listed-next : (a : ℕ) → (ownSlot (constraintAt r a .kind) ≡ 0 → ⊥) → listHas r i (oneLower (constraintAt r a .kind)) ≡ true →
+  has-next : (a : ℕ) → (ownSlot (constraintAt r a .kind) ≡ 0 → ⊥) → listHas r i (oneLower (constraintAt r a .kind)) ≡ true →
       keyIn keys count (suc (keyOf (constraintAt r a .kind))) ≡ true
   unfolding keyIn
-  listed-next a h e =
+  has-next a h e =
       let w = list-where r i (oneLower (constraintAt r a .kind)) e in
       let p = g .there (w .0) (w .1) (w .2) in
       any-at (λ x. eqb (getD keys x 0) (suc (keyOf (constraintAt r a .kind)))) count (p .0) (p .1)
@@ -137,7 +137,7 @@ module _ (r : Round) (i : ℕ) (keys : List ℕ) (count : ℕ) (ok : ProperRound
       let asks : asksLower r (constraintAt r (b .0) .kind) ≡ true
       = sym (ap (keyAsksLower (r .slots)) (b .3) ∙ key-asks r _ (constraintAt r (b .0) .kind) (proper-at (b .0) (b .1))) ∙ asked in
       ap (λ (k : ℕ). keyIn keys count (suc k)) (b .3)
-      ∙ listed-next (b .0) (asks-some r (constraintAt r (b .0) .kind) asks) (downward-at r i e (b .0) (b .1) (b .2) asks)))
+      ∙ has-next (b .0) (asks-some r (constraintAt r (b .0) .kind) asks) (downward-at r i e (b .0) (b .1) (b .2) asks)))
 
   list-passes : keysDownward (r .slots) keys count ≡ true → downward r i ≡ true
   unfolding keysDownward downward
@@ -155,7 +155,7 @@ module _ (r : Round) (i : ℕ) (keys : List ℕ) (count : ℕ) (ok : ProperRound
       = implied (keyAsksLower (r .slots) (getD keys (p .0) 0)) (keyIn keys count (suc (getD keys (p .0) 0)))
       (all-at (λ x. not (keyAsksLower (r .slots) (getD keys x 0)) || keyIn keys count (suc (getD keys x 0))) count e (p .0) (p .1))
       (ap (keyAsksLower (r .slots)) (p .2) ∙ key-asks r _ (constraintAt r a .kind) (proper-at a l) ∙ parts .1) in
-      next-listed a l (asks-some r (constraintAt r a .kind) (parts .1))
+      next-has a l (asks-some r (constraintAt r a .kind) (parts .1))
       (sym (ap (λ (k : ℕ). keyIn keys count (suc k)) (p .2)) ∙ next)))
 
   -- the test over the gathered numbers is the test over the list

@@ -24,7 +24,7 @@ use Rattle.sheet.specs.Proper.{ProperRound}
 use Rattle.auction.specs.Price.{price}
 use Rattle.auction.proofs.PageLaws.{put-nobody}
 use Rattle.basis.proofs.NumberLaws.{same-or-not}
-use Rattle.auction.proofs.GreedyLaws.{bid-listed, upTo-next, upTo-sized, upTo-later, slot-winner, winner-eligible, winner-bidder, empty-nobody}
+use Rattle.auction.proofs.GreedyLaws.{bid-in, upTo-next, upTo-sized, upTo-later, slot-winner, winner-eligible, winner-bidder, empty-nobody}
 use Rattle.auction.proofs.PriceLaws.{price-critical, empty-costs-nothing}
 use Rattle.greedy.specs.EngineTable.{openAt, barredOwn, barredOwner, barredOther, openNext}
 use Rattle.greedy.specs.EngineChains.{standing, isHeld, heldNext, named, free, Awarded}
@@ -99,13 +99,13 @@ module _ (r : Round) (c : ProperRound r) (k : ℕ) (inside : k < r .slots) (tabl
   unfolding winnerAt
   won-slot =
       awarded .won-by
-      ∙ winner-same (free r table held (suc k)) (eligible r p (suc k)) (bidIn (r .bids)) (bidOf r) (r .bidders) free-eligible (λ j s m. bid-listed r j)
+      ∙ winner-same (free r table held (suc k)) (eligible r p (suc k)) (bidIn (r .bids)) (bidOf r) (r .bidders) free-eligible (λ j s m. bid-in r j)
 
   -- what is paid is the price of document 01
   pub paid-price : paid ≡ price r (suc k)
   paid-price =
       let critical = critical-same (free r table held (suc k)) (eligible r p (suc k)) (bidIn (r .bids)) (bidOf r) (r .bidders) w
-      (λ j d s m. free-eligible j s m) (λ j d s m. bid-listed r j) in
+      (λ j d s m. free-eligible j s m) (λ j d s m. bid-in r j) in
       let here = slot-winner r few k inside in
       ⊎-elim
       (λ (z : w ≡ 0).
@@ -115,9 +115,9 @@ module _ (r : Round) (c : ProperRound r) (k : ℕ) (inside : k < r .slots) (tabl
       ∙ sym (empty-costs-nothing r (suc k) (here ∙ sym won-slot ∙ z)))
       (λ (s : w ≡ 0 → ⊥).
       let most = winner-bidder r p (suc k) in
-      let listed : w ≤ length (r .bids)
+      let has-bid : w ≤ length (r .bids)
       = (let e = won-slot in let h = c .sized-bids in let m = c .most-bidders in omega arith) in
-      awarded .paid-as ∙ critical ∙ sym (price-critical r k w few inside listed (omega arith) (sym won-slot)))
+      awarded .paid-as ∙ critical ∙ sym (price-critical r k w few inside has-bid (omega arith) (sym won-slot)))
       (same-or-not w 0)
 
   next-page : put page (suc k) w ≡ pageUpTo r (suc k)

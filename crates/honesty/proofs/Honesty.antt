@@ -45,14 +45,14 @@ effects-of s t m f (suc k) =
 not-refused : (s t : List ℕ) (i v : ℕ) → Accepted s → Accepted t → bidderCount t ≡ bidderCount s → slotCount t ≡ slotCount s →
     0 < i → i ≤ bidderCount s → v ≤ 1_000_000_000 → gainRefusal s t i v ≡ 0
 unfolding gainRefusal laterRefusal
-not-refused s t i v ok ok′ n m some listed low =
+not-refused s t i v ok ok′ n m some within low =
     orElse-right (refusalOf s) (laterRefusal s t i v) ok
     ∙ simp (
       eq-eqb (refusalOf t) 0 ok′,
       eq-eqb (bidderCount t) (bidderCount s) n,
       eq-eqb (slotCount t) (slotCount s) m,
       ne-eqb i 0 (omega arith),
-      le-ltb (bidderCount s) i listed,
+      le-ltb (bidderCount s) i within,
       le-ltb 1_000_000_000 v low,
     )
 

@@ -196,7 +196,7 @@ module _ (r : Round) (c : ProperRound r) (i : ℕ) (some : 0 < i) where
   -- what an honest bidder gains: nothing without a slot, and else what the worth is above the price
   pub honest-gain : (v : ℕ) → bidOf r i ≤ v → i ≤ r .bidders → (n : ℕ) × (gainOf r r i v ≡ pos n)
   unfolding gainOf gainAt
-  honest-gain v low listed = by-slot (slotOf (greedyPage r) i) refl
+  honest-gain v low within = by-slot (slotOf (greedyPage r) i) refl
     where
       by-slot : (s : ℕ) → slotOf (greedyPage r) i ≡ s → (n : ℕ) × (gainOf r r i v ≡ pos n)
       by-slot zero e = (0, ap (λ (s : ℕ). gainAt s r r i v) e)
@@ -216,10 +216,10 @@ pub honest-pays : (r r′ : Round) (i v : ℕ) → ProperRound r → ProperRound
     ((k : ℕ) → effectOf r k ≡ effectOf r′ k) → downward r′ i ≡ true → 0 < i → i ≤ r .bidders → bidOf r i ≤ v →
     gainOf r′ r i v ≤ℤ gainOf r r i v
 unfolding gainOf gainAt gainIf
-honest-pays r r′ i v c c′ x same-bid same-effects down some listed low = by-slot (slotOf (greedyPage r′) i) refl
+honest-pays r r′ i v c c′ x same-bid same-effects down some within low = by-slot (slotOf (greedyPage r′) i) refl
   where
     honest : (n : ℕ) × (gainOf r r i v ≡ pos n)
-    honest = honest-gain r c i some v low listed
+    honest = honest-gain r c i some v low within
 
     at-most : (z : ℤ) → gainOf r′ r i v ≡ z → z ≤ℤ pos (honest .0) → gainOf r′ r i v ≤ℤ gainOf r r i v
     at-most z e l = subst (λ (g : ℤ). gainOf r′ r i v ≤ℤ g) (sym (honest .1)) (subst (λ (g : ℤ). g ≤ℤ pos (honest .0)) (sym e) l)

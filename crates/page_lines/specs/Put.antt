@@ -5,12 +5,12 @@ use mathlib.Core.Path.{_≡_}
 use lib.ListN.{length, drop}
 use lib.Seq.{sets}
 
--- The bytes stand at an offset of the buffer and the rest is as it was; the answer is the offset after them.
-pub record Put (text : List ℕ) (at : ℕ) (bytes : List ℕ) (answer : ℕ) (text′ : List ℕ) : Type 0 where
-  pub next : answer ≡ at + length bytes
+-- The bytes stand at an offset of the buffer and the rest is as it was; what is returned is the offset after them.
+pub record Put (text : List ℕ) (at : ℕ) (bytes : List ℕ) (returned : ℕ) (text′ : List ℕ) : Type 0 where
+  pub next : returned ≡ at + length bytes
   pub buffer : text′ ≡ sets text at bytes
 
--- The bytes stand at the buffer's front and the rest is as it was; the answer is how many they are.
-pub record Written (text bytes : List ℕ) (answer : ℕ) (text′ : List ℕ) : Type 0 where
-  pub count : answer ≡ length bytes
+-- The bytes stand at the buffer's front and the rest is as it was; what is returned is how many they are.
+pub record Written (text bytes : List ℕ) (returned : ℕ) (text′ : List ℕ) : Type 0 where
+  pub count : returned ≡ length bytes
   pub buffer : text′ ≡ bytes ++ drop (length bytes) text

@@ -17,20 +17,20 @@ use Rattle.best_search.specs.Call.{bestRefusal, bestBuffer}
 
 -- 1 yes, 0 no
 unfoldable pub yesNumber : Bool → ℕ
-yesNumber answer = cond answer 1 0
+yesNumber test = cond test 1 0
 
 -- whether the list of bidder i is downward monotonic
-pub record DownwardGiven (s : List ℕ) (i before answer after : ℕ) : Type 0 where
-  pub number : answer ≡ testRefusal s i
+pub record DownwardGiven (s : List ℕ) (i before returned after : ℕ) : Type 0 where
+  pub number : returned ≡ testRefusal s i
   pub written : after ≡ unlessRefused (testRefusal s i) (yesNumber (downward (roundOf s) i)) before
 
 -- the gain of bidder i: s is played, t tells the truth
-pub record GainGiven (s t : List ℕ) (i worth : ℕ) (before : ℤ) (answer : ℕ) (after : ℤ) : Type 0 where
-  pub number : answer ≡ gainRefusal s t i worth
+pub record GainGiven (s t : List ℕ) (i worth : ℕ) (before : ℤ) (returned : ℕ) (after : ℤ) : Type 0 where
+  pub number : returned ≡ gainRefusal s t i worth
   pub written : after ≡ unlessRefused (gainRefusal s t i worth) (gainOf (roundOf s) (roundOf t) i worth) before
 
 -- the best page in the buffer, and its total
-pub record BestPageGiven (s out : List ℕ) (before answer : ℕ) (out′ : List ℕ) (after : ℕ) : Type 0 where
-  pub number : answer ≡ bestRefusal s out
+pub record BestPageGiven (s out : List ℕ) (before returned : ℕ) (out′ : List ℕ) (after : ℕ) : Type 0 where
+  pub number : returned ≡ bestRefusal s out
   pub buffer : out′ ≡ unlessRefused (bestRefusal s out) (bestBuffer (roundOf s) out) out
   pub written : after ≡ unlessRefused (bestRefusal s out) (total (roundOf s) (bestPage (roundOf s))) before

@@ -28,8 +28,8 @@ unfoldable pub playedBuffer : Round → List ℕ → List ℕ
 playedBuffer r out = joined (λ k. slotEntry r (suc k)) (r .slots) ++ drop (5 * r .slots) out
 
 -- All that the call returns and leaves: the first number that applies, or 0, and each byte of the buffer; a refused call leaves every byte.
-pub record Played (s out : List ℕ) (answer : ℕ) (out′ : List ℕ) : Type 0 where
-  pub number : answer ≡ playRefusal s out
+pub record Played (s out : List ℕ) (returned : ℕ) (out′ : List ℕ) : Type 0 where
+  pub number : returned ≡ playRefusal s out
   pub buffer : out′ ≡ unlessRefused (playRefusal s out) (playedBuffer (roundOf s) out) out
 
 -- What a result says of slot k: its bidder, and its price.

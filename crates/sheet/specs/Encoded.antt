@@ -1,3 +1,4 @@
+-- For the worked rounds, and for no demand.
 -- The encoder of a sheet: the bytes of bids, effects and conditions.
 use Prim.Native.Nat.{ℕ, _%_, _/_}
 use mathlib.Core.List.{List, [], _∷_, _++_}

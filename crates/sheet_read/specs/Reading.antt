@@ -1,3 +1,4 @@
+-- The engine's own: nothing here need be believed.
 -- What reading a sheet gives.
 use Prim.Native.Nat.{ℕ, zero, suc}
 use mathlib.Core.List.{List}

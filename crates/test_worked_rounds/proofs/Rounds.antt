@@ -33,9 +33,9 @@ use Rattle.auction.specs.Allowed.{totalUpTo, total}
 use Rattle.best_page.specs.BestPage.{nobodyTwice, isAllowed, keep, eachChoice, tryAll, bestPage}
 use Rattle.best_search.specs.Call.{boundsRefusal, bestRefusal, bestBuffer, chosenFor}
 use Rattle.play.specs.Play.{playRefusal, slotEntry, playedBuffer}
-use Rattle.test_worked_rounds.specs.Sheets.{A, B, C, D, E, F, F-true, F-version-2, F-eight-bytes, G, H, H-longer, earlier-winner, overbid, overbid-barred, nine-bidders}
+use Rattle.test_worked_rounds.specs.Sheets.{A, B, C, D, E, F, F-true, F-version-2, F-eight-bytes, G, H, H-longer, earlier-winner, overbid, overbid-barred, nine-bidders, two-faults}
 use Rattle.test_worked_rounds.specs.Worked.{Worked, lent, givenByPlay, givenByBest, given, entries, rounds}
 
 pub rounds-hold : map given rounds ≡ map (λ (w : Worked). w .said) rounds
-unfolding word16At word32At bytes32 firstOver unlessRefused row padded joined anyBelow allBelow least effectField bidField ownerField ownSlotField otherField otherSlotField formRefusal countsRefusal effectRefusal bidRefusal inRange fieldsRefusal constraintRefusal refusalOf kindOf constraintField roundOf ranksNoLower wins winner at put emptyPage placed ownHolds otherHolds broken constraintAt bidOf effectOf concerns eligible winnerAt fillSlot pageUpTo greedyPage withBid winsWith priceFor price ownSlot oneLower sameKind listHas asksLower downward testRefusal testedFor testedOf slotOf breaksOwn gainIf gainAt gainOf laterRefusal gainRefusal gainedFor gainedOf breaks totalUpTo total nobodyTwice isAllowed keep eachChoice tryAll bestPage boundsRefusal bestRefusal bestBuffer chosenFor playRefusal slotEntry playedBuffer words quads sheetOf A B C D E F F-true F-version-2 F-eight-bytes G H H-longer earlier-winner overbid overbid-barred nine-bidders lent givenByPlay givenByBest given entries rounds
+unfolding word16At word32At bytes32 firstOver unlessRefused row padded joined anyBelow allBelow least effectField bidField ownerField ownSlotField otherField otherSlotField formRefusal countsRefusal effectRefusal bidRefusal inRange fieldsRefusal constraintRefusal refusalOf kindOf constraintField roundOf ranksNoLower wins winner at put emptyPage placed ownHolds otherHolds broken constraintAt bidOf effectOf concerns eligible winnerAt fillSlot pageUpTo greedyPage withBid winsWith priceFor price ownSlot oneLower sameKind listHas asksLower downward testRefusal testedFor testedOf slotOf breaksOwn gainIf gainAt gainOf laterRefusal gainRefusal gainedFor gainedOf breaks totalUpTo total nobodyTwice isAllowed keep eachChoice tryAll bestPage boundsRefusal bestRefusal bestBuffer chosenFor playRefusal slotEntry playedBuffer words quads sheetOf A B C D E F F-true F-version-2 F-eight-bytes G H H-longer earlier-winner overbid overbid-barred nine-bidders two-faults lent givenByPlay givenByBest given entries rounds
 rounds-hold = refl

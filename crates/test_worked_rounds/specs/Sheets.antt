@@ -80,3 +80,8 @@ F-eight-bytes = 0x50 ∷ 0x41 ∷ 0x53 ∷ 1 ∷ 0 ∷ 2 ∷ 1 ∷ 0 ∷ []
 unfoldable pub nine-bidders : List ℕ
 unfolding sheetOf
 nine-bidders = sheetOf (9 ∷ 8 ∷ 7 ∷ 6 ∷ 5 ∷ 4 ∷ 3 ∷ 2 ∷ 1 ∷ []) (1 ∷ []) ([])
+
+-- three bidders, two places, (1,0,2,0), which breaks 12, and then (0,1,0,0), which breaks 10: the first faulty condition decides
+unfoldable pub two-faults : List ℕ
+unfolding sheetOf
+two-faults = sheetOf (3 ∷ 2 ∷ 1 ∷ []) (2 ∷ 1 ∷ []) (on 1 0 2 0 ∷ on 0 1 0 0 ∷ [])

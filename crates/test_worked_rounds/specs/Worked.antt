@@ -32,6 +32,7 @@ use Rattle.test_worked_rounds.specs.Sheets.{
   overbid,
   overbid-barred,
   nine-bidders,
+  two-faults,
 }
 
 -- a number, and the bytes of the result buffer after the call
@@ -40,7 +41,7 @@ pub record Left : Type 0 where
   pub buffer : List ℕ
 
 -- the total with its number, and the bytes of the result buffer after the call
-pub record Found : Type 0 where
+pub record BestLeft : Type 0 where
   pub returned : Chosen
   pub buffer : List ℕ
 
@@ -50,7 +51,7 @@ pub record Said : Type 0 where
   pub play : Left
   pub test : Tested
   pub gain : Gained
-  pub best : Found
+  pub best : BestLeft
 
 -- a sheet, the truth sheet, a bidder and its worth, and what is said of them
 pub record Worked : Type 0 where
@@ -74,7 +75,7 @@ givenByPlay s =
     }
 
 -- what the best page call returns and leaves, by the right-hand sides of `BestGiven`, in a buffer of exactly m bytes
-unfoldable pub givenByBest : List ℕ → Found
+unfoldable pub givenByBest : List ℕ → BestLeft
 givenByBest s =
     let out = lent (slotCount s) in
     record {
@@ -110,7 +111,7 @@ tells monotonic = record { refusal = 0; yes = monotonic }
 abbrev pub gains : ℤ → Gained
 gains gain = record { refusal = 0; gain = gain }
 
-abbrev pub finds : List ℕ → ℕ → Found
+abbrev pub finds : List ℕ → ℕ → BestLeft
 finds page total = record { returned = record { refusal = 0; total = total }; buffer = page }
 
 -- the answers of calls that are refused with the number k, on a sheet with m slots
@@ -123,12 +124,12 @@ tellsNot k = record { refusal = k; yes = false }
 abbrev pub gainsNot : ℕ → Gained
 gainsNot k = record { refusal = k; gain = pos 0 }
 
-abbrev pub findsNot : (k m : ℕ) → Found
+abbrev pub findsNot : (k m : ℕ) → BestLeft
 findsNot k m = record { returned = record { refusal = k; total = 0 }; buffer = lent m }
 
 -- a sheet, the truth sheet, a bidder, its worth, and the answers of the five calls
-abbrev pub asked : List ℕ → List ℕ → ℕ → ℕ → ℕ → Left → Tested → Gained → Found → Worked
-asked sheet truth bidder worth check play test gain best =
+abbrev pub calls : List ℕ → List ℕ → ℕ → ℕ → ℕ → Left → Tested → Gained → BestLeft → Worked
+calls sheet truth bidder worth check play test gain best =
     record {
       sheet = sheet;
       truth = truth;
@@ -140,12 +141,13 @@ asked sheet truth bidder worth check play test gain best =
 -- the same where no call is refused: page, prices, whether the list is downward monotonic, gain, best page and its total
 abbrev pub worked : List ℕ → List ℕ → ℕ → ℕ → List ℕ → List ℕ → Bool → ℤ → List ℕ → ℕ → Worked
 worked sheet truth bidder worth page prices monotonic gain best total =
-    asked sheet truth bidder worth 0 (plays page prices) (tells monotonic) (gains gain) (finds best total)
+    calls sheet truth bidder worth 0 (plays page prices) (tells monotonic) (gains gain) (finds best total)
 
 -- A to H as document 01 has them, with the gains and the best page that it names (the other gains and best pages are ours); then the round
 -- that only an earlier winner's condition decides, H with its fourth place (the only full page has 553340), and the rounds that show that
 -- demand 3 needs a worth of at least the bid. Last come calls that are refused: by the truth sheet (version 2; another m; another n), by the
--- bidder (0, though the worth is too high as well; 3 of 2), by the worth, by 9 bidders for the best page alone, and by a sheet of 8 bytes.
+-- bidder (0, though the worth is too high as well; 3 of 2), by the worth, by 9 bidders for the best page alone, by a sheet of 8 bytes, and by
+-- a sheet whose first faulty condition breaks a later rule than its second.
 unfoldable pub rounds : List Worked
 rounds =
     worked A A 1 30 (1 ∷ 2 ∷ []) (20 ∷ 10 ∷ []) true (pos 100) (1 ∷ 2 ∷ []) 480
@@ -161,12 +163,13 @@ rounds =
     ∷ worked earlier-winner earlier-winner 1 2 (1 ∷ 0 ∷ []) (1 ∷ 0 ∷ []) true (pos 1) (2 ∷ 1 ∷ []) 3
     ∷ worked overbid overbid 1 2 (1 ∷ []) (3 ∷ []) true (negsuc 0) (1 ∷ []) 5
     ∷ worked overbid-barred overbid 1 2 (2 ∷ []) (0 ∷ []) true (pos 0) (2 ∷ []) 3
-    ∷ asked F F-version-2 2 6 0 (plays (2 ∷ []) (6 ∷ [])) (tells true) (gainsNot 14) (finds (2 ∷ []) 6)
-    ∷ asked F earlier-winner 2 6 0 (plays (2 ∷ []) (6 ∷ [])) (tells true) (gainsNot 15) (finds (2 ∷ []) 6)
-    ∷ asked earlier-winner A 1 2 0 (plays (1 ∷ 0 ∷ []) (1 ∷ 0 ∷ [])) (tells true) (gainsNot 15) (finds (2 ∷ 1 ∷ []) 3)
-    ∷ asked F F 0 1_000_000_001 0 (plays (2 ∷ []) (6 ∷ [])) (tellsNot 16) (gainsNot 16) (finds (2 ∷ []) 6)
-    ∷ asked F F 3 6 0 (plays (2 ∷ []) (6 ∷ [])) (tellsNot 16) (gainsNot 16) (finds (2 ∷ []) 6)
-    ∷ asked F F 2 1_000_000_001 0 (plays (2 ∷ []) (6 ∷ [])) (tells true) (gainsNot 17) (finds (2 ∷ []) 6)
-    ∷ asked nine-bidders nine-bidders 1 9 0 (plays (1 ∷ []) (8 ∷ [])) (tells true) (gains (pos 1)) (findsNot 18 1)
-    ∷ asked F-eight-bytes F 2 6 1 (playsNot 1 1) (tellsNot 1) (gainsNot 1) (findsNot 1 1)
+    ∷ calls F F-version-2 2 6 0 (plays (2 ∷ []) (6 ∷ [])) (tells true) (gainsNot 14) (finds (2 ∷ []) 6)
+    ∷ calls F earlier-winner 2 6 0 (plays (2 ∷ []) (6 ∷ [])) (tells true) (gainsNot 15) (finds (2 ∷ []) 6)
+    ∷ calls earlier-winner A 1 2 0 (plays (1 ∷ 0 ∷ []) (1 ∷ 0 ∷ [])) (tells true) (gainsNot 15) (finds (2 ∷ 1 ∷ []) 3)
+    ∷ calls F F 0 1_000_000_001 0 (plays (2 ∷ []) (6 ∷ [])) (tellsNot 16) (gainsNot 16) (finds (2 ∷ []) 6)
+    ∷ calls F F 3 6 0 (plays (2 ∷ []) (6 ∷ [])) (tellsNot 16) (gainsNot 16) (finds (2 ∷ []) 6)
+    ∷ calls F F 2 1_000_000_001 0 (plays (2 ∷ []) (6 ∷ [])) (tells true) (gainsNot 17) (finds (2 ∷ []) 6)
+    ∷ calls nine-bidders nine-bidders 1 9 0 (plays (1 ∷ []) (8 ∷ [])) (tells true) (gains (pos 1)) (findsNot 18 1)
+    ∷ calls F-eight-bytes F 2 6 1 (playsNot 1 1) (tellsNot 1) (gainsNot 1) (findsNot 1 1)
+    ∷ calls two-faults F 1 3 12 (playsNot 12 2) (tellsNot 12) (gainsNot 12) (findsNot 12 2)
     ∷ []
