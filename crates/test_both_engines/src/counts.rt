@@ -41,6 +41,22 @@ pub const ABOVE_GREEDY: u32 = 109;
 
 pub const DAMAGED: u32 = 110;
 
+// At the largest sizes, by the sheet's own header: the sheets, and the pages and gains that both engines answered on them.
+pub const LARGEST: u32 = 111;
+
+pub const LARGEST_PAGES: u32 = 112;
+
+pub const LARGEST_GAINS: u32 = 113;
+
+// The largest that the best page is sought on.
+pub const EIGHT: u32 = 114;
+
+pub const EIGHT_PAGES: u32 = 115;
+
+pub const EIGHT_GAINS: u32 = 116;
+
+pub const EIGHT_BEST: u32 = 117;
+
 // By shape: rounds, pages that both engines played, and best pages that both found.
 pub const SHAPES: u32 = 120;
 

@@ -53,15 +53,16 @@ loop-again c =
     let args = here .before .before .before .args in
     let byte = c .before .before .byte .ensures .0 in
     let other = c .before .byte2 .ensures .0 in
-    let i = here .loop .left - 1 in
-    (omega arith,
-    passed-more
-    (sameAt (args .first .now) (args .second .now))
-    (args .count)
-    (here .loop .left)
-    (here .loop .inv .1)
-    (omega arith)
-    (is-same (args .first .now) (args .second .now) i (sym byte ∙ c .if1 .left ∙ other)))
+    let i = here .loop .left - 1 in (
+      omega arith,
+      passed-more
+          (sameAt (args .first .now) (args .second .now))
+          (args .count)
+          (here .loop .left)
+          (here .loop .inv .1)
+          (omega arith)
+          (is-same (args .first .now) (args .second .now) i (sym byte ∙ c .if1 .left ∙ other)),
+    )
 
 returns-2 : tie.Need-returns-2 Inv-loop μ-loop
 unfolding sameBytes

@@ -64,21 +64,22 @@ loop-less c = search needs
 loop-again : tie.Need-loop-again Inv-loop μ-loop
 loop-again c =
     let here = c .before .before .before .before .before .before in
-    let args = here .before .before .before .args in
-    (omega arith,
-    passed-more
-    (keptAt (args .after .now) (args .before .now) (args .start) (args .written))
-    (length (args .before .now))
-    (here .loop .left)
-    (here .loop .inv .1)
-    (omega arith)
-    (kept-part
-    (args .after .now)
-    (args .before .now)
-    (args .start)
-    (args .written)
-    (here .loop .left - 1)
-    (sym (c .before .within .ensures) ∙ not-false _ (c .if2 .left))))
+    let args = here .before .before .before .args in (
+      omega arith,
+      passed-more
+          (keptAt (args .after .now) (args .before .now) (args .start) (args .written))
+          (length (args .before .now))
+          (here .loop .left)
+          (here .loop .inv .1)
+          (omega arith)
+          (kept-part
+          (args .after .now)
+          (args .before .now)
+          (args .start)
+          (args .written)
+          (here .loop .left - 1)
+          (sym (c .before .within .ensures) ∙ not-false _ (c .if2 .left))),
+    )
 
 loop-less-2 : tie.Need-loop-less-2 Inv-loop μ-loop
 loop-less-2 c = search needs
@@ -89,21 +90,22 @@ loop-again-2 c =
     let args = here .before .before .before .args in
     let byte = c .before .before .byte .ensures .0 in
     let other = c .before .byte2 .ensures .0 in
-    let i = here .loop .left - 1 in
-    (omega arith,
-    passed-more
-    (keptAt (args .after .now) (args .before .now) (args .start) (args .written))
-    (length (args .before .now))
-    (here .loop .left)
-    (here .loop .inv .1)
-    (omega arith)
-    (kept-same
-    (args .after .now)
-    (args .before .now)
-    (args .start)
-    (args .written)
-    i
-    (is-same (args .after .now) (args .before .now) i (sym byte ∙ c .if1 .left ∙ other))))
+    let i = here .loop .left - 1 in (
+      omega arith,
+      passed-more
+          (keptAt (args .after .now) (args .before .now) (args .start) (args .written))
+          (length (args .before .now))
+          (here .loop .left)
+          (here .loop .inv .1)
+          (omega arith)
+          (kept-same
+          (args .after .now)
+          (args .before .now)
+          (args .start)
+          (args .written)
+          i
+          (is-same (args .after .now) (args .before .now) i (sym byte ∙ c .if1 .left ∙ other))),
+    )
 
 returns-2 : tie.Need-returns-2 Inv-loop μ-loop
 unfolding untouchedBytes
