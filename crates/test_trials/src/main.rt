@@ -49,7 +49,7 @@ fn larger_rounds(state: &mut u64, tally: &mut [u64]) {
     right_rounds(state, tally, rounds::EIGHT, 300);
     right_rounds(state, tally, rounds::MIDDLE, 300);
     right_rounds(state, tally, rounds::LARGE, 200);
-    right_rounds(state, tally, rounds::LARGEST, 300);
+    right_rounds(state, tally, rounds::LARGEST, 250);
 }
 
 // As many for each rule.
