@@ -163,7 +163,8 @@ fn note_gain(tally: &mut [u64], number: u32, gain: i64, preset: i64) {
     }
 }
 
-pub fn gain(state: &mut u64, tally: &mut [u64], sheet: &[u8], truth: &[u8]) {
+// Whether both engines gave a gain.
+pub fn gain(state: &mut u64, tally: &mut [u64], sheet: &[u8], truth: &[u8]) -> bool {
     let bidder = calls::bidder(state, sheet);
     let worth = calls::worth(state);
     let preset = preset_gain(state);
@@ -175,6 +176,7 @@ pub fn gain(state: &mut u64, tally: &mut [u64], sheet: &[u8], truth: &[u8]) {
     let other = test_plain::gain(sheet, truth, bidder, worth, &mut two);
     counts::hold(tally, number == other, b"gain, number");
     counts::hold(tally, one == two, b"gain, answer");
+    number == 0
 }
 
 // The total of the page that playing gives.

@@ -1,4 +1,6 @@
 // Buffers with random bytes around what is lent, and how they are compared afterwards.
+ghost use mathlib.Core.Path.{_≡_};
+ghost use Rattle.test_both_engines.specs.Bytes.{sameBytes, inPart, untouchedBytes};
 use test_chance::number;
 use test_chance::parts;
 
@@ -22,7 +24,10 @@ pub fn paste(from: &[u8], to: &mut [u8], start: u32, count: u32) {
     }
 }
 
-pub fn same(first: &[u8], second: &[u8], count: usize) -> bool {
+// Whether so many bytes are the same in both.
+pub fn same(first: &[u8], second: &[u8], count: usize) -> bool
+    ensures { λ r. ⌜ r ≡ sameBytes (now (first .entry)) (now (second .entry)) count ⌝ }
+{
     let mut left = count;
     while 0 < left {
         left -= 1;
@@ -34,7 +39,9 @@ pub fn same(first: &[u8], second: &[u8], count: usize) -> bool {
 }
 
 // Whether a byte lies in the part from the start on that may have been written.
-fn within(at: usize, start: u32, written: u32) -> bool {
+fn within(at: usize, start: u32, written: u32) -> bool
+    ensures { λ r. ⌜ r ≡ inPart start written at ⌝ }
+{
     if at < start as usize {
         return false;
     }
@@ -42,11 +49,13 @@ fn within(at: usize, start: u32, written: u32) -> bool {
 }
 
 // Whether each byte but those that may have been written is what it was.
-pub fn untouched(now: &[u8], before: &[u8], start: u32, written: u32) -> bool {
+pub fn untouched(after: &[u8], before: &[u8], start: u32, written: u32) -> bool
+    ensures { λ r. ⌜ r ≡ untouchedBytes (now (after .entry)) (now (before .entry)) start written ⌝ }
+{
     let mut left = before.len();
     while 0 < left {
         left -= 1;
-        if parts::byte(now, left) != parts::byte(before, left) {
+        if parts::byte(after, left) != parts::byte(before, left) {
             if !within(left, start, written) {
                 return false;
             }

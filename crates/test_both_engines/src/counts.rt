@@ -1,4 +1,7 @@
 // What is counted: for each call the numbers that it returned, and what the rounds were like.
+ghost use mathlib.Core.Path.{_≡_};
+ghost use Rattle.test_both_engines.specs.Counts.{placeOf, held};
+ghost use Rattle.test_tally.specs.Tally.{counted};
 
 // The calls, by their order in document 01, with a place for each number from 0 to 19.
 pub const CHECK: u32 = 0;
@@ -38,6 +41,22 @@ pub const ABOVE_GREEDY: u32 = 109;
 
 pub const DAMAGED: u32 = 110;
 
+// At the largest sizes, by the sheet's own header: the sheets, and the pages and gains that both engines answered on them.
+pub const LARGEST: u32 = 111;
+
+pub const LARGEST_PAGES: u32 = 112;
+
+pub const LARGEST_GAINS: u32 = 113;
+
+// The largest that the best page is sought on.
+pub const EIGHT: u32 = 114;
+
+pub const EIGHT_PAGES: u32 = 115;
+
+pub const EIGHT_GAINS: u32 = 116;
+
+pub const EIGHT_BEST: u32 = 117;
+
 // By shape: rounds, pages that both engines played, and best pages that both found.
 pub const SHAPES: u32 = 120;
 
@@ -53,7 +72,9 @@ pub fn by_shape(first: u32, shape: u32) -> u32 {
 }
 
 // Where a call's number is counted. No call has another one: that would be a difference.
-pub fn place(call: u32, number: u32) -> u32 {
+pub fn place(call: u32, number: u32) -> u32
+    ensures { λ r. ⌜ r ≡ placeOf call number ⌝ }
+{
     if call < CALLS {
         if number < NUMBERS {
             return call * NUMBERS + number;
@@ -62,12 +83,16 @@ pub fn place(call: u32, number: u32) -> u32 {
     DIFFERENCES
 }
 
-pub fn add_call(tally: &mut [u64], call: u32, number: u32) {
+pub fn add_call(tally: &mut [u64], call: u32, number: u32)
+    ensures { λ r. ⌜ now (tally .exit) ≡ counted (now (tally .entry)) (placeOf call number) ⌝ }
+{
     test_tally::add(tally, place(call, number));
 }
 
 // A difference is counted, and a line names the call and the round, so that it can be found.
-pub fn hold(tally: &mut [u64], same: bool, name: &[u8]) {
+pub fn hold(tally: &mut [u64], same: bool, name: &[u8])
+    ensures { λ r. ⌜ now (tally .exit) ≡ held (now (tally .entry)) same ⌝ }
+{
     if same {
         return;
     }

@@ -1,6 +1,8 @@
 // The parts of a sheet, read and written by document 01's table. Low byte first. A read past the buffer gives 0 and a write there does
 // nothing, so that no caller owes a fact. Slots, bidders and constraints are counted from 0 here.
+ghost use mathlib.Core.Path.{_≡_};
 ghost use Prim.Native.Nat.{_<_};
+ghost use lib.ListN.{getD};
 
 // Room for the longest sheet here, 9 + 4 x (16 + 64 + 1,025) bytes, and a few more.
 pub const ROOM: usize = 4608;
@@ -13,13 +15,13 @@ pub const SLOTS: usize = 6;
 pub const CONSTRAINTS: usize = 7;
 
 fn wide(value: u8) -> u32
-    ensures { λ r. ⌜ r < 256 ⌝ }
+    ensures { λ r. ⌜ (r ≡ value) × (r < 256) ⌝ }
 {
     value as u32
 }
 
 pub fn byte(buf: &[u8], at: usize) -> u32
-    ensures { λ r. ⌜ r < 256 ⌝ }
+    ensures { λ r. ⌜ (r ≡ getD (now (buf .entry)) at 0) × (r < 256) ⌝ }
 {
     if at < buf.len() { wide(buf[at]) } else { 0 }
 }

@@ -1,5 +1,7 @@
-// The best page by trying every page: no bound, no start from a good page, nothing skipped but what is no page.
-// The pages come in dictionary order, as a counter with a digit for each slot ("place"), slot 1 first.
+// The best page by trying every page that breaks nothing: no bound, no start from a good page.
+// The pages come in dictionary order, as a counter with a digit for each slot ("place"), slot 1 first. What stands on a page stays
+// as further slots are filled, so that a bidder twice or a broken constraint ("condition") is never mended: the counter then goes on
+// at the page's last bidder.
 use crate::amounts;
 use crate::fields;
 use crate::page;
@@ -22,22 +24,29 @@ fn is_repeat(filled: [u8; 16], slot: u8) -> bool {
     page::slot_of(filled, bidder) < slot
 }
 
-// "no bidder two places"
-fn has_repeat(filled: [u8; 16], slots: u8) -> bool {
-    let mut slot: u8 = 0;
-    while slot < slots {
-        slot += 1;
-        if is_repeat(filled, slot) {
-            return true;
+// The last slot with a bidder, 0 on the empty page.
+fn last_filled(filled: [u8; 16], slots: u8) -> u8 {
+    let mut slot = slots;
+    while 0 < slot {
+        if page::at(filled, slot) != 0 {
+            return slot;
         }
+        slot -= 1;
     }
-    false
+    0
 }
 
-// The next page in dictionary order; after the last one the empty page.
-fn next(filled: [u8; 16], bidders: u8, slots: u8) -> [u8; 16] {
+// Whether no bidder has two places and no constraint is broken. Of the bidders the last one is asked alone: the page without it came
+// before, and was fine.
+fn is_fine(sheet: &[u8], filled: [u8; 16], last: u8) -> bool {
+    !is_repeat(filled, last) && !page::breaks_any(filled, sheet)
+}
+
+// The next page in dictionary order that differs at a slot up to the one given, after which all are empty; after the last page the
+// empty one.
+fn next(filled: [u8; 16], bidders: u8, from: u8) -> [u8; 16] {
     let mut counter = filled;
-    let mut slot = slots;
+    let mut slot = from;
     while 0 < slot {
         let bidder = page::at(counter, slot);
         if bidder < bidders {
@@ -64,16 +73,13 @@ fn count(bidders: u8, slots: u8) -> u64 {
     pages
 }
 
-// The page where it is one, has a larger total and breaks no constraint ("condition"); else the choice as it was.
-fn better(sheet: &[u8], choice: Choice, filled: [u8; 16]) -> Choice {
-    if has_repeat(filled, fields::slot_count(sheet)) {
+// The page where it is fine and has a larger total; else the choice as it was.
+fn better(sheet: &[u8], choice: Choice, filled: [u8; 16], fine: bool) -> Choice {
+    if !fine {
         return choice;
     }
     let total = amounts::total(sheet, filled);
     if total <= choice.total {
-        return choice;
-    }
-    if page::breaks_any(filled, sheet) {
         return choice;
     }
     Choice {
@@ -83,21 +89,28 @@ fn better(sheet: &[u8], choice: Choice, filled: [u8; 16]) -> Choice {
 }
 
 // "among pages breaking no condition, one with the largest total; among those, the one whose list of bidder numbers by place (0
-// for empty) comes first in dictionary order". The first page of all is the empty one, with total 0.
+// for empty) comes first in dictionary order". The first page of all is the empty one, with total 0, and it comes again after the
+// last.
 pub fn best(sheet: &[u8]) -> Choice {
     let bidders = fields::bidder_count(sheet);
     let slots = fields::slot_count(sheet);
     let mut filled = page::empty();
+    let mut last: u8 = 0;
     let mut choice = Choice {
         page: filled,
         total: 0,
     };
     let mut left = count(bidders, slots);
     while 0 < left {
-        let chosen = better(sheet, choice, filled);
+        let fine = is_fine(sheet, filled, last);
+        let chosen = better(sheet, choice, filled, fine);
         choice = chosen;
-        let following = next(filled, bidders, slots);
+        let following = next(filled, bidders, if fine { slots } else { last });
         filled = following;
+        last = last_filled(filled, slots);
+        if last == 0 {
+            return choice;
+        }
         left -= 1;
     }
     choice

@@ -46,10 +46,10 @@ fn small_rounds_of_lists(state: &mut u64, tally: &mut [u64]) {
 
 fn larger_rounds(state: &mut u64, tally: &mut [u64]) {
     right_rounds(state, tally, rounds::SIX_OR_SEVEN, 40);
-    right_rounds(state, tally, rounds::EIGHT, 4);
+    right_rounds(state, tally, rounds::EIGHT, 300);
     right_rounds(state, tally, rounds::MIDDLE, 300);
     right_rounds(state, tally, rounds::LARGE, 200);
-    right_rounds(state, tally, rounds::LARGEST, 6);
+    right_rounds(state, tally, rounds::LARGEST, 250);
 }
 
 // As many for each rule.

@@ -80,6 +80,21 @@ fn larger_shapes(tally: &[u64]) {
     test_tally::count_line(tally, b"damaged sheets", counts::DAMAGED);
 }
 
+// What the headers of the sheets say, whatever their shapes.
+fn largest_sizes(tally: &[u64]) {
+    test_tally::count_line(
+        tally,
+        b"accepted sheets with n = 64, m = 16, c = 1024",
+        counts::LARGEST,
+    );
+    test_tally::count_line(tally, b"pages on these", counts::LARGEST_PAGES);
+    test_tally::count_line(tally, b"gains on these", counts::LARGEST_GAINS);
+    test_tally::count_line(tally, b"accepted sheets with n = 8, m = 8", counts::EIGHT);
+    test_tally::count_line(tally, b"pages on these", counts::EIGHT_PAGES);
+    test_tally::count_line(tally, b"gains on these", counts::EIGHT_GAINS);
+    test_tally::count_line(tally, b"best pages on these", counts::EIGHT_BEST);
+}
+
 fn answers(tally: &[u64]) {
     test_tally::count_line(tally, b"pages with an empty place", counts::EMPTY_SLOTS);
     test_tally::count_line(tally, b"pages with a price above 0", counts::PRICES);
@@ -104,6 +119,7 @@ pub fn all(tally: &[u64]) {
     answers(tally);
     small_shapes(tally);
     larger_shapes(tally);
+    largest_sizes(tally);
     test_tally::count_line(tally, b"rounds", counts::ROUNDS);
     test_tally::count_line(tally, b"differences", counts::DIFFERENCES);
 }

@@ -43,9 +43,45 @@ fn lay(state: &mut u64, made: &[u8], start: u32, bytes: u32, space: &mut [u8]) -
     total
 }
 
+// "n, bidders, 1 to 64", "m, places, 1 to 16" and "c, conditions, 0 to 1,024", each at its limit.
+fn is_largest(sheet: &[u8]) -> bool {
+    parts::bidders(sheet) == 64 && parts::slots(sheet) == 16 && parts::constraints(sheet) == 1024
+}
+
+// "The best page is sought with n above 8 or m above 8.": the largest that is not.
+fn is_eight(sheet: &[u8]) -> bool {
+    parts::bidders(sheet) == 8 && parts::slots(sheet) == 8
+}
+
+// Counts what holds at the largest sizes. The header is asked and not the shape, so that the counts say what the sheets are.
+fn note_size(tally: &mut [u64], sheet: &[u8], holds: bool, largest: u32, eight: u32) {
+    if holds {
+        test_tally::add_if(tally, is_largest(sheet), largest);
+        test_tally::add_if(tally, is_eight(sheet), eight);
+    }
+}
+
 fn play(state: &mut u64, tally: &mut [u64], kind: Kind, sheet: &[u8]) {
     let played = answers::play(state, tally, sheet);
     test_tally::add_if(tally, played, counts::by_shape(counts::PLAYED, kind.shape));
+    note_size(
+        tally,
+        sheet,
+        played,
+        counts::LARGEST_PAGES,
+        counts::EIGHT_PAGES,
+    );
+}
+
+fn gain(state: &mut u64, tally: &mut [u64], sheet: &[u8], truth: &[u8]) {
+    let answered = answers::gain(state, tally, sheet, truth);
+    note_size(
+        tally,
+        sheet,
+        answered,
+        counts::LARGEST_GAINS,
+        counts::EIGHT_GAINS,
+    );
 }
 
 fn best(state: &mut u64, tally: &mut [u64], kind: Kind, sheet: &[u8]) {
@@ -55,13 +91,17 @@ fn best(state: &mut u64, tally: &mut [u64], kind: Kind, sheet: &[u8]) {
         searched,
         counts::by_shape(counts::SEARCHED, kind.shape),
     );
+    if searched {
+        test_tally::add_if(tally, is_eight(sheet), counts::EIGHT_BEST);
+    }
 }
 
 fn all_calls(state: &mut u64, tally: &mut [u64], kind: Kind, sheet: &[u8], truth: &[u8]) {
     answers::check(tally, sheet, kind.rule);
+    note_size(tally, sheet, kind.rule == 0, counts::LARGEST, counts::EIGHT);
     play(state, tally, kind, sheet);
     answers::downward(state, tally, sheet);
-    answers::gain(state, tally, sheet, truth);
+    gain(state, tally, sheet, truth);
     best(state, tally, kind, sheet);
 }
 

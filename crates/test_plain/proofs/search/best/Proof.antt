@@ -5,10 +5,10 @@ use Rattle.test_plain.proofs.search.best.Statement.{statement}
 use Rattle.test_plain.proofs.search.best.Tie as tie
 
 abbrev Inv-loop : tie.InvT-loop
-Inv-loop sheet bidders slots filled₀ choice₀ left₀ filled choice left = left ≤ left₀
+Inv-loop sheet bidders slots filled₀ last₀ choice₀ left₀ filled last choice left = left ≤ left₀
 
 abbrev μ-loop : tie.MeasureT-loop
-μ-loop sheet bidders slots filled₀ choice₀ left₀ filled choice left = left
+μ-loop sheet bidders slots filled₀ last₀ choice₀ left₀ filled last choice left = left
 
 bidder-count-requires : tie.Need-bidder-count-requires Inv-loop μ-loop
 bidder-count-requires c κs = search needs
@@ -25,11 +25,20 @@ count-requires c κs = search needs
 loop-holds : tie.Need-loop-holds Inv-loop μ-loop
 loop-holds c = search needs
 
+is-fine-requires : tie.Need-is-fine-requires Inv-loop μ-loop
+is-fine-requires c κs = search needs
+
 better-requires : tie.Need-better-requires Inv-loop μ-loop
 better-requires c κs = search needs
 
 next-requires : tie.Need-next-requires Inv-loop μ-loop
 next-requires c κs = search needs
+
+last-filled-requires : tie.Need-last-filled-requires Inv-loop μ-loop
+last-filled-requires c κs = search needs
+
+returns : tie.Need-returns Inv-loop μ-loop
+returns c = search needs
 
 sub-left : tie.Need-sub-left Inv-loop μ-loop
 sub-left c = search needs
@@ -40,8 +49,8 @@ loop-less c = search needs
 loop-again : tie.Need-loop-again Inv-loop μ-loop
 loop-again c = search needs
 
-returns : tie.Need-returns Inv-loop μ-loop
-returns c = search needs
+returns-2 : tie.Need-returns-2 Inv-loop μ-loop
+returns-2 c = search needs
 
 pub best-spec : {M : Type 1} → statement M
 best-spec =
@@ -54,9 +63,12 @@ best-spec =
     empty-requires
     count-requires
     loop-holds
+    is-fine-requires
     better-requires
     next-requires
+    last-filled-requires
+    returns
     sub-left
     loop-less
     loop-again
-    returns)
+    returns-2)

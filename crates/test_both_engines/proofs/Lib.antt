@@ -1,0 +1,2 @@
+-- What the comparisons of buffers say.
+pub mod BytesLaws
