@@ -41,12 +41,12 @@ unplaced-unbroken p q h = fails (broken p q) (λ e. not-both (broken-parts p q e
 
 -- "A pair naming the same place twice is accepted and never broken."
 pub same-slot-unbroken : (p : Page) (owner : Bidder) (k : Slot) (j : Bidder) (l : Slot) → k .0 ≡ l .0 → (j .0 ≡ owner .0 → ⊥) →
-    broken p (record { owner = owner; kind = Pair j l k }) ≡ false
+    broken p (record { owner = owner; kind = Pair k j l }) ≡ false
 unfolding ownHolds otherHolds
 same-slot-unbroken p owner k j l same other =
-    fails (broken p (record { owner = owner; kind = Pair j l k }))
+    fails (broken p (record { owner = owner; kind = Pair k j l }))
     (λ e.
-    let parts = broken-parts p (record { owner = owner; kind = Pair j l k }) e in
+    let parts = broken-parts p (record { owner = owner; kind = Pair k j l }) e in
     other (sym (eqb-true (at p (l .0)) (j .0) (parts .1)) ∙ ap (at p) (sym same) ∙ eqb-true (at p (k .0)) (owner .0) (parts .0)))
 
 -- an equation between a slot and a bidder stays as the page fills
@@ -59,13 +59,13 @@ own-stays : (p p′ : Page) (o : ℕ) (kind : Kind) → Keeps p p′ → (o ≡ 
 unfolding ownHolds
 own-stays p p′ o (OwnSlot k) f s e = stays p p′ (k .0) o f s e
 own-stays p p′ o (OtherSlot j l) f s e = refl
-own-stays p p′ o (Pair j l k) f s e = stays p p′ (k .0) o f s e
+own-stays p p′ o (Pair k j l) f s e = stays p p′ (k .0) o f s e
 
 pub other-stays : (p p′ : Page) (o : ℕ) (kind : Kind) → Keeps p p′ → ProperKind o kind → otherHolds p kind ≡ true → otherHolds p′ kind ≡ true
 unfolding otherHolds
 other-stays p p′ o (OwnSlot k) f s e = refl
 other-stays p p′ o (OtherSlot j l) f s e = stays p p′ (l .0) (j .0) f (s .0) e
-other-stays p p′ o (Pair j l k) f s e = stays p p′ (l .0) (j .0) f (s .0) e
+other-stays p p′ o (Pair k j l) f s e = stays p p′ (l .0) (j .0) f (s .0) e
 
 -- what is broken stays broken as the page fills
 pub broken-stays : (p p′ : Page) (q : Constraint) → Keeps p p′ → Proper q → broken p q ≡ true → broken p′ q ≡ true
@@ -131,6 +131,15 @@ module _ (r : Round) (p : Page) (k b : ℕ) where
       (none-any (λ i. broken (put p k b) (constraintAt r i) && concerns p b (constraintAt r i)) (r .used)
       (λ i l. ap (λ (t : Bool). t && concerns p b (constraintAt r i)) (f (constraintAt r i) (i, l, refl)))))
 
+  -- so the three of them are two tests of the page with the candidate on it
+  pub eligible-breaks : Sized p → 0 < k → k ≤ 16 → eligible r p k b ≡ (not (placed p b) && not (breaks r (put p k b)))
+  eligible-breaks s l m =
+      same-tests (eligible r p k b) (not (placed p b) && not (breaks r (put p k b)))
+      (λ e. and-holds (not-holds (eligible-unplaced e)) (not-holds (none-breaks r (put p k b) (eligible-unbroken s l m e))))
+      (λ e.
+      let both = and-parts (not (placed p b)) (not (breaks r (put p k b))) e in
+      unbroken-eligible (not-true (placed p b) (both .0)) (breaks-none r (put p k b) (not-true (breaks r (put p k b)) (both .1))))
+
 -- A constraint's own test, kind by kind: an owner at its own slot has a slot, so `placed` adds nothing there.
 module _ (p : Page) (owner : Bidder) where
   abbrev with-kind : Kind → Constraint
@@ -158,13 +167,13 @@ module _ (p : Page) (owner : Bidder) where
   other-elsewhere j l e = fails (broken p (with-kind (OtherSlot j l))) (λ t. not-both (broken-parts p (with-kind (OtherSlot j l)) t .1) e)
 
   pub pair-broken : (k : Slot) (j : Bidder) (l : Slot) → 0 < k .0 → k .0 ≤ 16 → eqb (at p (k .0)) (owner .0) ≡ true →
-      eqb (at p (l .0)) (j .0) ≡ broken p (with-kind (Pair j l k))
+      eqb (at p (l .0)) (j .0) ≡ broken p (with-kind (Pair k j l))
   unfolding ownHolds otherHolds
   pair-broken k j l s m e =
-      same-tests (eqb (at p (l .0)) (j .0)) (broken p (with-kind (Pair j l k)))
-      (λ t. parts-broken p (with-kind (Pair j l k)) e t (here-placed (k .0) s m e))
-      (λ t. broken-parts p (with-kind (Pair j l k)) t .1)
+      same-tests (eqb (at p (l .0)) (j .0)) (broken p (with-kind (Pair k j l)))
+      (λ t. parts-broken p (with-kind (Pair k j l)) e t (here-placed (k .0) s m e))
+      (λ t. broken-parts p (with-kind (Pair k j l)) t .1)
 
-  pub pair-elsewhere : (k : Slot) (j : Bidder) (l : Slot) → eqb (at p (k .0)) (owner .0) ≡ false → broken p (with-kind (Pair j l k)) ≡ false
+  pub pair-elsewhere : (k : Slot) (j : Bidder) (l : Slot) → eqb (at p (k .0)) (owner .0) ≡ false → broken p (with-kind (Pair k j l)) ≡ false
   unfolding ownHolds
-  pair-elsewhere k j l e = fails (broken p (with-kind (Pair j l k))) (λ t. not-both (broken-parts p (with-kind (Pair j l k)) t .0) e)
+  pair-elsewhere k j l e = fails (broken p (with-kind (Pair k j l))) (λ t. not-both (broken-parts p (with-kind (Pair k j l)) t .0) e)

@@ -15,13 +15,13 @@ use Rattle.auction.specs.Page.{at, placed}
 unfoldable pub ownHolds : Page → ℕ → Kind → Bool
 ownHolds p owner (OwnSlot k) = eqb (at p (k .0)) owner
 ownHolds p owner (OtherSlot j l) = true
-ownHolds p owner (Pair j l k) = eqb (at p (k .0)) owner
+ownHolds p owner (Pair k j l) = eqb (at p (k .0)) owner
 
 -- "the other bidder is at the other's place (or there is no other)"
 unfoldable pub otherHolds : Page → Kind → Bool
 otherHolds p (OwnSlot k) = true
 otherHolds p (OtherSlot j l) = eqb (at p (l .0)) (j .0)
-otherHolds p (Pair j l k) = eqb (at p (l .0)) (j .0)
+otherHolds p (Pair k j l) = eqb (at p (l .0)) (j .0)
 
 -- "It is broken when both its parts are true." "A condition binds only if its owner has a place."
 unfoldable pub broken : Page → Constraint → Bool

@@ -162,29 +162,29 @@ module _ (r : Round) (proper : ProperRound r) (p : Page) (k b : ℕ) (s : Sized 
       absurd
       (not-both (parts-broken p (record { owner = owner; kind = OtherSlot j x }) refl (eq-eqb (at p (x .0)) (j .0) e) o) u)
 
-  two-clash : (owner : Bidder) (t : Slot) (j : Bidder) (x : Slot) → Has r (record { owner = owner; kind = Pair j x t }) →
-      Proper (record { owner = owner; kind = Pair j x t }) → broken p (record { owner = owner; kind = Pair j x t }) ≡ false →
+  two-clash : (owner : Bidder) (t : Slot) (j : Bidder) (x : Slot) → Has r (record { owner = owner; kind = Pair t j x }) →
+      Proper (record { owner = owner; kind = Pair t j x }) → broken p (record { owner = owner; kind = Pair t j x }) ≡ false →
       ((t .0 ≡ k) × (owner .0 ≡ b)) ⊎ (at p (t .0) ≡ owner .0) → ((x .0 ≡ k) × (j .0 ≡ b)) ⊎ (at p (x .0) ≡ j .0) → Clashes
   unfolding ownHolds otherHolds
   two-clash owner t j x h q u (inl o) (inl e) = absurd (q .parts .1 (e .1 ∙ sym (o .1)))
   two-clash owner t j x h q u (inl o) (inr e) =
       let some = somebody (x .0) (j .0) e (q .parts .0) in
-      pair-clashes (record { owner = owner; kind = Pair j x t }) h (x .0) some
-      (parts-broken (pair (x .0) some) (record { owner = owner; kind = Pair j x t })
+      pair-clashes (record { owner = owner; kind = Pair t j x }) h (x .0) some
+      (parts-broken (pair (x .0) some) (record { owner = owner; kind = Pair t j x })
       (stands (pair (x .0) some) k b (t .0) (owner .0) (pair-new (x .0) some) (o .0) (o .1))
       (eq-eqb (at (pair (x .0) some) (x .0)) (j .0) (pair-old (x .0) some ∙ e))
       (placed-new (x .0) some (owner .0) (o .1)))
   two-clash owner t j x h q u (inr o) (inl e) =
       let some = somebody (t .0) (owner .0) o (q .owned) in
-      pair-clashes (record { owner = owner; kind = Pair j x t }) h (t .0) some
-      (parts-broken (pair (t .0) some) (record { owner = owner; kind = Pair j x t })
+      pair-clashes (record { owner = owner; kind = Pair t j x }) h (t .0) some
+      (parts-broken (pair (t .0) some) (record { owner = owner; kind = Pair t j x })
       (eq-eqb (at (pair (t .0) some) (t .0)) (owner .0) (pair-old (t .0) some ∙ o))
       (stands (pair (t .0) some) k b (x .0) (j .0) (pair-new (t .0) some) (e .0) (e .1))
       (placed-old (t .0) some (owner .0) (sym o)))
   two-clash owner t j x h q u (inr o) (inr e) =
       absurd
       (not-both
-      (parts-broken p (record { owner = owner; kind = Pair j x t })
+      (parts-broken p (record { owner = owner; kind = Pair t j x })
       (eq-eqb (at p (t .0)) (owner .0) o) (eq-eqb (at p (x .0)) (j .0) e)
       (placed-at p (owner .0) (t .0) (q .parts .5) (q .parts .6) o))
       u)
@@ -199,8 +199,8 @@ module _ (r : Round) (proper : ProperRound r) (p : Page) (k b : ℕ) (s : Sized 
       let parts = broken-parts next (record { owner = owner; kind = OtherSlot j x }) e in
       other-clashes owner j x h q u (new-or-old (x .0) (j .0) (eqb-true (at next (x .0)) (j .0) (parts .1)))
       (placed-put p k b (owner .0) s k-some k-most (parts .2))
-  broken-clashes owner (Pair j x t) h q u e =
-      let parts = broken-parts next (record { owner = owner; kind = Pair j x t }) e in
+  broken-clashes owner (Pair t j x) h q u e =
+      let parts = broken-parts next (record { owner = owner; kind = Pair t j x }) e in
       two-clash owner t j x h q u (new-or-old (t .0) (owner .0) (eqb-true (at next (t .0)) (owner .0) (parts .0)))
       (new-or-old (x .0) (j .0) (eqb-true (at next (x .0)) (j .0) (parts .1)))
 

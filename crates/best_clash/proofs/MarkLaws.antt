@@ -254,7 +254,7 @@ module _ (p : Page) (b k j l : ℕ) (k-some : 0 < k) (k-most : k ≤ 16) (l-some
       or-left (sameAt (i .0) (m .0) b k && eqb (owner .0) j) (and-holds (eq-eqb (owner .0) b o) (same-at (i .0) (m .0) j l (e .0) (e .1)))
   other-told owner i m q (inr e) (inr o) = absurd (q .parts .1 (e .0 ∙ sym o))
 
-  pair-told : (owner : Bidder) (s : Slot) (i : Bidder) (m : Slot) → Proper (record { owner = owner; kind = Pair i m s }) →
+  pair-told : (owner : Bidder) (s : Slot) (i : Bidder) (m : Slot) → Proper (record { owner = owner; kind = Pair s i m }) →
       ((owner .0 ≡ b) × (s .0 ≡ k)) ⊎ ((owner .0 ≡ j) × (s .0 ≡ l)) → ((i .0 ≡ b) × (m .0 ≡ k)) ⊎ ((i .0 ≡ j) × (m .0 ≡ l)) →
       eitherWay (owner .0) (s .0) (i .0) (m .0) b k j l ≡ true
   pair-told owner s i m q (inl o) (inl e) = absurd (q .parts .1 (e .0 ∙ sym (o .0)))
@@ -276,8 +276,8 @@ module _ (p : Page) (b k j l : ℕ) (k-some : 0 < k) (k-most : k ≤ 16) (l-some
       let parts = broken-parts p (record { owner = owner; kind = OtherSlot i m }) e in
       other-told owner i m q (only (m .0) (i .0) (q .parts .0) (eqb-true (at p (m .0)) (i .0) (parts .1)))
       (one-of-two (owner .0) (q .owned) (parts .2))
-  broken-told owner (Pair i m s) q e =
-      let parts = broken-parts p (record { owner = owner; kind = Pair i m s }) e in
+  broken-told owner (Pair s i m) q e =
+      let parts = broken-parts p (record { owner = owner; kind = Pair s i m }) e in
       pair-told owner s i m q (only (s .0) (owner .0) (q .owned) (eqb-true (at p (s .0)) (owner .0) (parts .0)))
       (only (m .0) (i .0) (q .parts .0) (eqb-true (at p (m .0)) (i .0) (parts .1)))
 
@@ -293,11 +293,11 @@ module _ (p : Page) (b k j l : ℕ) (k-some : 0 < k) (k-most : k ≤ 16) (l-some
   unfolding ownHolds otherHolds
   other-broken owner i m e o = parts-broken p (record { owner = owner; kind = OtherSlot i m }) refl (eq-eqb (at p (m .0)) (i .0) e) o
 
-  pair-broken : (owner : Bidder) (s : Slot) (i : Bidder) (m : Slot) → Proper (record { owner = owner; kind = Pair i m s }) →
-      at p (s .0) ≡ owner .0 → at p (m .0) ≡ i .0 → broken p (record { owner = owner; kind = Pair i m s }) ≡ true
+  pair-broken : (owner : Bidder) (s : Slot) (i : Bidder) (m : Slot) → Proper (record { owner = owner; kind = Pair s i m }) →
+      at p (s .0) ≡ owner .0 → at p (m .0) ≡ i .0 → broken p (record { owner = owner; kind = Pair s i m }) ≡ true
   unfolding ownHolds otherHolds
   pair-broken owner s i m q o e =
-      parts-broken p (record { owner = owner; kind = Pair i m s }) (eq-eqb (at p (s .0)) (owner .0) o) (eq-eqb (at p (m .0)) (i .0) e)
+      parts-broken p (record { owner = owner; kind = Pair s i m }) (eq-eqb (at p (s .0)) (owner .0) o) (eq-eqb (at p (m .0)) (i .0) e)
       (placed-at p (owner .0) (s .0) (q .parts .5) (q .parts .6) o)
 
   told-broken : (owner : Bidder) (kind : Kind) → Proper (record { owner = owner; kind = kind }) →
@@ -317,7 +317,7 @@ module _ (p : Page) (b k j l : ℕ) (k-some : 0 < k) (k-most : k ≤ 16) (l-some
       let both = and-parts (sameAt (i .0) (m .0) b k) (eqb (owner .0) j) f in
       other-broken owner i m (at-first (m .0) (i .0) (both .0)) (second-placed (owner .0) (both .1)))
       (or-parts (eqb (owner .0) b && sameAt (i .0) (m .0) j l) (sameAt (i .0) (m .0) b k && eqb (owner .0) j) e)
-  told-broken owner (Pair i m s) q e =
+  told-broken owner (Pair s i m) q e =
       ⊎-elim
       (λ (f : bothAre (owner .0) (s .0) (i .0) (m .0) b k j l ≡ true).
       let both = and-parts (sameAt (owner .0) (s .0) b k) (sameAt (i .0) (m .0) j l) f in
@@ -375,7 +375,7 @@ module _ (owner : Bidder) where
       q .parts .1 (at-same (i .0) (m .0) b k (both .0) .0 ∙ sym (eqb-true (owner .0) b (both .1))))
       (or-parts (eqb (owner .0) b && sameAt (i .0) (m .0) b k) (sameAt (i .0) (m .0) b k && eqb (owner .0) b) e))
 
-  pair-not-alone : (s : Slot) (i : Bidder) (m : Slot) → Proper (record { owner = owner; kind = Pair i m s }) → (b k : ℕ) →
+  pair-not-alone : (s : Slot) (i : Bidder) (m : Slot) → Proper (record { owner = owner; kind = Pair s i m }) → (b k : ℕ) →
       eitherWay (owner .0) (s .0) (i .0) (m .0) b k b k ≡ false
   pair-not-alone s i m q b k =
       fails (eitherWay (owner .0) (s .0) (i .0) (m .0) b k b k)
@@ -396,7 +396,7 @@ module _ (owner : Bidder) where
   breaks-marked (OtherSlot i m) q b k j l =
       nothing-more (anywhere (owner .0) (i .0) (m .0) b k j l) (anywhere (owner .0) (i .0) (m .0) b k b k) (anywhere (owner .0) (i .0) (m .0) j l j l)
       (other-not-alone i m q b k) (other-not-alone i m q j l)
-  breaks-marked (Pair i m s) q b k j l =
+  breaks-marked (Pair s i m) q b k j l =
       nothing-more (eitherWay (owner .0) (s .0) (i .0) (m .0) b k j l) (eitherWay (owner .0) (s .0) (i .0) (m .0) b k b k) (eitherWay (owner .0) (s .0) (i .0) (m .0) j l j l)
       (pair-not-alone s i m q b k) (pair-not-alone s i m q j l)
 
@@ -408,7 +408,7 @@ module _ (owner : Bidder) where
   unfolding pairBreaks marks
   alone-marked (OwnSlot s) b k = twice-once (sameAt (owner .0) (s .0) b k)
   alone-marked (OtherSlot i m) b k = refl
-  alone-marked (Pair i m s) b k = refl
+  alone-marked (Pair s i m) b k = refl
 
 -- the marks of all constraints are the clashes, of one alone and of two at two slots, neither of whom clashes alone
 module _ (r : Round) (proper : ProperRound r) where

@@ -47,10 +47,10 @@ among x s b k j l = sameAt x s j l || sameAt x s b k
 unfoldable pub pairBreaks : Kind → ℕ → ℕ → ℕ → ℕ → ℕ → Bool
 pairBreaks (OwnSlot s) o b k j l = among o (s .0) b k j l
 pairBreaks (OtherSlot i m) o b k j l = anywhere o (i .0) (m .0) b k j l
-pairBreaks (Pair i m s) o b k j l = eitherWay o (s .0) (i .0) (m .0) b k j l
+pairBreaks (Pair s i m) o b k j l = eitherWay o (s .0) (i .0) (m .0) b k j l
 
 -- the constraint marks the entry: as above, but an own-slot constraint marks its owner at that slot alone, and no pair
 unfoldable pub marks : Kind → ℕ → ℕ → ℕ → ℕ → ℕ → Bool
 marks (OwnSlot s) o b k j l = bothAre o (s .0) o (s .0) b k j l
 marks (OtherSlot i m) o b k j l = anywhere o (i .0) (m .0) b k j l
-marks (Pair i m s) o b k j l = eitherWay o (s .0) (i .0) (m .0) b k j l
+marks (Pair s i m) o b k j l = eitherWay o (s .0) (i .0) (m .0) b k j l

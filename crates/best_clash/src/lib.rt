@@ -80,7 +80,7 @@ fn mark_constraint(table: &mut [u64], constraint: Constraint)
         Kind::OtherSlot(other, others) => {
             mark_anywhere(table, owner, other, others);
         }
-        Kind::Pair(other, others, slot) => {
+        Kind::Pair(slot, other, others) => {
             mark_both(table, owner, slot, other, others);
         }
     }

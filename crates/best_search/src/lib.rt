@@ -89,7 +89,7 @@ fn choice_at(ranked: &[u8], index: usize) -> Bidder
     ensures { λ r. ⌜ r .0 ≡ getD (now (ranked .entry)) index 0 ⌝ }
 {
     if index < ranked.len() {
-        return Bidder(ranked[index]);
+        return choice::ranked_at(ranked, index);
     }
     Bidder(0)
 }
@@ -177,7 +177,7 @@ fn search(
     let mut best = answer;
     let mut b: usize = 0;
     while b <= ranked.len() {
-        let bidder = Bidder(b as u8);
+        let bidder = Bidder(b as u16);
         if may_stand(barred, slot, bidder) {
             let next = look_ahead(clashes, ranked, bids, effects, from, barred, had, bidder);
             if best.need <= next.most {
@@ -241,13 +241,13 @@ fn best_page(round: Round) -> Answer
 
 // The bidder numbers of the first slots go to the front of the buffer.
 fn write_page(page: Page, slots: usize, result: &mut [u8])
-    requires { ⌜ (slots ≤ 16) × (slots ≤ length (now result)) ⌝ }
+    requires { ⌜ (slots ≤ 16) × (slots ≤ length (now result)) × ((k : ℕ) → at page k < 256) ⌝ }
     ensures { λ r. ⌜ now (result .exit) ≡ row (λ k. at page (suc k)) slots ++ drop slots (now (result .entry)) ⌝ }
 {
     let mut k: usize = 0;
     while k < slots {
         let bidder = page.bidders[k];
-        result[k] = bidder.0;
+        result[k] = bidder.0 as u8;
         k += 1;
     }
 }

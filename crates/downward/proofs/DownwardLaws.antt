@@ -25,28 +25,28 @@ pub same-kind : (a b : Kind) → sameKind a b ≡ true → a ≡ b
 unfolding sameKind
 same-kind (OwnSlot k) (OwnSlot k′) e = ap (λ (x : ℕ). OwnSlot (slot x)) (eqb-true (k .0) (k′ .0) e)
 same-kind (OwnSlot k) (OtherSlot j l) e = absurd (false≢true e)
-same-kind (OwnSlot k) (Pair j l k′) e = absurd (false≢true e)
+same-kind (OwnSlot k) (Pair k′ j l) e = absurd (false≢true e)
 same-kind (OtherSlot j l) (OwnSlot k) e = absurd (false≢true e)
 same-kind (OtherSlot j l) (OtherSlot j′ l′) e =
     let parts = and-parts (eqb (j .0) (j′ .0)) (eqb (l .0) (l′ .0)) e in
     ap₂ (λ (x y : ℕ). OtherSlot (bidder x) (slot y)) (eqb-true (j .0) (j′ .0) (parts .0)) (eqb-true (l .0) (l′ .0) (parts .1))
-same-kind (OtherSlot j l) (Pair j′ l′ k) e = absurd (false≢true e)
-same-kind (Pair j l k) (OwnSlot k′) e = absurd (false≢true e)
-same-kind (Pair j l k) (OtherSlot j′ l′) e = absurd (false≢true e)
-same-kind (Pair j l k) (Pair j′ l′ k′) e =
+same-kind (OtherSlot j l) (Pair k j′ l′) e = absurd (false≢true e)
+same-kind (Pair k j l) (OwnSlot k′) e = absurd (false≢true e)
+same-kind (Pair k j l) (OtherSlot j′ l′) e = absurd (false≢true e)
+same-kind (Pair k j l) (Pair k′ j′ l′) e =
     let parts = and-parts (eqb (k .0) (k′ .0)) (eqb (j .0) (j′ .0) && eqb (l .0) (l′ .0)) e in
     let others = and-parts (eqb (j .0) (j′ .0)) (eqb (l .0) (l′ .0)) (parts .1) in
     let own = eqb-true (k .0) (k′ .0) (parts .0) in
     let other = eqb-true (j .0) (j′ .0) (others .0) in
     let at = eqb-true (l .0) (l′ .0) (others .1) in
-    λ x. Pair (bidder (other x)) (slot (at x)) (slot (own x))
+    λ x. Pair (slot (own x)) (bidder (other x)) (slot (at x))
 
 -- and a kind passes it with itself
 pub kind-same : (a : Kind) → sameKind a a ≡ true
 unfolding sameKind
 kind-same (OwnSlot k) = eq-eqb (k .0) (k .0) refl
 kind-same (OtherSlot j l) = and-holds (eq-eqb (j .0) (j .0) refl) (eq-eqb (l .0) (l .0) refl)
-kind-same (Pair j l k) =
+kind-same (Pair k j l) =
     and-holds (eq-eqb (k .0) (k .0) refl) (and-holds (eq-eqb (j .0) (j .0) refl) (eq-eqb (l .0) (l .0) refl))
 
 -- a test "where the first holds, so does the second" says so, and is passed so

@@ -22,25 +22,25 @@ use Rattle.downward.proofs.DownwardLaws.{same-kind, kind-same, implied,
 abbrev Ranged : Kind → Type 0
 Ranged (OwnSlot k) = (0 < k .0) × (k .0 < 32)
 Ranged (OtherSlot j l) = (0 < j .0) × (j .0 < 128)
-Ranged (Pair j l k) = (0 < k .0) × (k .0 < 32) × (0 < j .0) × (j .0 < 128)
+Ranged (Pair k j l) = (0 < k .0) × (k .0 < 32) × (0 < j .0) × (j .0 < 128)
 
 proper-ranged : (o : ℕ) (a : Kind) → ProperKind o a → Ranged a
 proper-ranged o (OwnSlot k) p = omega arith
 proper-ranged o (OtherSlot j l) p = (let h = p .0 in omega arith)
-proper-ranged o (Pair j l k) p = (let h = p .0 in omega arith)
+proper-ranged o (Pair k j l) p = (let h = p .0 in omega arith)
 
 -- an own slot 16 one lower is 17, still below 32
 lower-ranged : (o : ℕ) (a : Kind) → ProperKind o a → Ranged (oneLower a)
 unfolding oneLower
 lower-ranged o (OwnSlot k) p = omega arith
 lower-ranged o (OtherSlot j l) p = (let h = p .0 in omega arith)
-lower-ranged o (Pair j l k) p = (let h = p .0 in omega arith)
+lower-ranged o (Pair k j l) p = (let h = p .0 in omega arith)
 
 ranged-parts : (a : Kind) → Ranged a → (ownSlot a < 32) × (otherBidder a < 128)
 unfolding ownSlot otherBidder
 ranged-parts (OwnSlot k) h = omega arith
 ranged-parts (OtherSlot j l) h = omega arith
-ranged-parts (Pair j l k) h = omega arith
+ranged-parts (Pair k j l) h = omega arith
 
 -- a number's parts
 parts-of-key : (a b c a′ b′ c′ : ℕ) → a < 32 → b < 128 → a′ < 32 → b′ < 128 → a + 32 * (b + 128 * c) ≡ a′ + 32 * (b′ + 128 * c′) →
@@ -52,13 +52,13 @@ kind-of-parts : (a b : Kind) → Ranged a → Ranged b → ownSlot a ≡ ownSlot
 unfolding ownSlot otherBidder otherSlot
 kind-of-parts (OwnSlot k) (OwnSlot k′) x y own other at = ap (λ (z : ℕ). OwnSlot (slot z)) own
 kind-of-parts (OwnSlot k) (OtherSlot j l) x y own other at = absurd (omega arith)
-kind-of-parts (OwnSlot k) (Pair j l k′) x y own other at = absurd (omega arith)
+kind-of-parts (OwnSlot k) (Pair k′ j l) x y own other at = absurd (omega arith)
 kind-of-parts (OtherSlot j l) (OwnSlot k) x y own other at = absurd (omega arith)
 kind-of-parts (OtherSlot j l) (OtherSlot j′ l′) x y own other at = ap₂ (λ (z w : ℕ). OtherSlot (bidder z) (slot w)) other at
-kind-of-parts (OtherSlot j l) (Pair j′ l′ k) x y own other at = absurd (omega arith)
-kind-of-parts (Pair j l k) (OwnSlot k′) x y own other at = absurd (omega arith)
-kind-of-parts (Pair j l k) (OtherSlot j′ l′) x y own other at = absurd (omega arith)
-kind-of-parts (Pair j l k) (Pair j′ l′ k′) x y own other at = λ z. Pair (bidder (other z)) (slot (at z)) (slot (own z))
+kind-of-parts (OtherSlot j l) (Pair k j′ l′) x y own other at = absurd (omega arith)
+kind-of-parts (Pair k j l) (OwnSlot k′) x y own other at = absurd (omega arith)
+kind-of-parts (Pair k j l) (OtherSlot j′ l′) x y own other at = absurd (omega arith)
+kind-of-parts (Pair k j l) (Pair k′ j′ l′) x y own other at = λ z. Pair (slot (own z)) (bidder (other z)) (slot (at z))
 
 key-kind : (a b : Kind) → Ranged a → Ranged b → keyOf a ≡ keyOf b → a ≡ b
 unfolding keyOf keyFor
@@ -85,7 +85,7 @@ pub key-lower : (a : Kind) → (ownSlot a ≡ 0 → ⊥) → keyOf (oneLower a) 
 unfolding keyOf keyFor oneLower ownSlot otherBidder otherSlot
 key-lower (OwnSlot k) h = omega arith
 key-lower (OtherSlot j l) h = absurd (h refl)
-key-lower (Pair j l k) h = omega arith
+key-lower (Pair k j l) h = omega arith
 
 -- so a kind that has the next number is the kind one lower
 pub next-key-lower : (o o′ : ℕ) (a b : Kind) → ProperKind o a → ProperKind o′ b → (ownSlot a ≡ 0 → ⊥) → keyOf b ≡ suc (keyOf a) → b ≡ oneLower a

@@ -12,25 +12,25 @@ use Rattle.sheet.specs.Round.{slot, constraintAt}
 unfoldable pub ownSlot : Kind → ℕ
 ownSlot (OwnSlot k) = k .0
 ownSlot (OtherSlot j l) = 0
-ownSlot (Pair j l k) = k .0
+ownSlot (Pair k j l) = k .0
 
 -- "with own place k + 1 and the same other part"
 unfoldable pub oneLower : Kind → Kind
 oneLower (OwnSlot k) = OwnSlot (slot (suc (k .0)))
 oneLower (OtherSlot j l) = OtherSlot j l
-oneLower (Pair j l k) = Pair j l (slot (suc (k .0)))
+oneLower (Pair k j l) = Pair (slot (suc (k .0))) j l
 
 -- two kinds are the same
 unfoldable pub sameKind : Kind → Kind → Bool
 sameKind (OwnSlot k) (OwnSlot k′) = eqb (k .0) (k′ .0)
 sameKind (OwnSlot k) (OtherSlot j l) = false
-sameKind (OwnSlot k) (Pair j l k′) = false
+sameKind (OwnSlot k) (Pair k′ j l) = false
 sameKind (OtherSlot j l) (OwnSlot k) = false
 sameKind (OtherSlot j l) (OtherSlot j′ l′) = eqb (j .0) (j′ .0) && eqb (l .0) (l′ .0)
-sameKind (OtherSlot j l) (Pair j′ l′ k) = false
-sameKind (Pair j l k) (OwnSlot k′) = false
-sameKind (Pair j l k) (OtherSlot j′ l′) = false
-sameKind (Pair j l k) (Pair j′ l′ k′) = eqb (k .0) (k′ .0) && (eqb (j .0) (j′ .0) && eqb (l .0) (l′ .0))
+sameKind (OtherSlot j l) (Pair k j′ l′) = false
+sameKind (Pair k j l) (OwnSlot k′) = false
+sameKind (Pair k j l) (OtherSlot j′ l′) = false
+sameKind (Pair k j l) (Pair k′ j′ l′) = eqb (k .0) (k′ .0) && (eqb (j .0) (j′ .0) && eqb (l .0) (l′ .0))
 
 -- "A bidder's list is the set of conditions that it owns": bidder i's list has the kind
 unfoldable pub listHas : Round → ℕ → Kind → Bool

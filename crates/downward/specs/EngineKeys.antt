@@ -17,13 +17,13 @@ use Rattle.downward.specs.Downward.{ownSlot}
 unfoldable pub otherBidder : Kind → ℕ
 otherBidder (OwnSlot k) = 0
 otherBidder (OtherSlot j l) = j .0
-otherBidder (Pair j l k) = j .0
+otherBidder (Pair k j l) = j .0
 
 -- the other's slot, 0 for no other
 unfoldable pub otherSlot : Kind → ℕ
 otherSlot (OwnSlot k) = 0
 otherSlot (OtherSlot j l) = l .0
-otherSlot (Pair j l k) = l .0
+otherSlot (Pair k j l) = l .0
 
 -- an own slot below 32, a bidder below 128 and a slot as one number
 unfoldable pub keyFor : (own other others : ℕ) → ℕ

@@ -26,8 +26,8 @@ struct Keys {
     count: usize,
 }
 
-// Three of a constraint's bytes as one number: the own slot counts ones, the other bidder 32s, and its slot 32 × 128s.
-fn key_for(own: u8, other: u8, others: u8) -> u32
+// Three of a constraint's parts as one number: the own slot counts ones, the other bidder 32s, and its slot 32 × 128s.
+fn key_for(own: u8, other: u16, others: u8) -> u32
     ensures { λ r. ⌜ r ≡ keyFor own other others ⌝ }
 {
     own as u32 + 32 * (other as u32 + 128 * (others as u32))
@@ -40,7 +40,7 @@ fn key_of(kind: Kind) -> u32
     match kind {
         Kind::OwnSlot(own) => key_for(own.0, 0, 0),
         Kind::OtherSlot(other, slot) => key_for(0, other.0, slot.0),
-        Kind::Pair(other, slot, own) => key_for(own.0, other.0, slot.0),
+        Kind::Pair(own, other, slot) => key_for(own.0, other.0, slot.0),
     }
 }
 
@@ -149,6 +149,6 @@ pub fn test(sheet: &[u8], bidder: u32) -> Tested
     }
     Tested {
         refusal: 0,
-        yes: is_downward(sheet_read::accepted_round(sheet), Bidder(bidder as u8)),
+        yes: is_downward(sheet_read::accepted_round(sheet), Bidder(bidder as u16)),
     }
 }

@@ -4,6 +4,7 @@ use borrow.Author.Tests.{eqb-true, eqb-false, ltb-false, not-false}
 use mathlib.Core.Bool.{not, _||_}
 use mathlib.Core.List.{List}
 use mathlib.Core.Path.{_≡_, refl, sym, _∙_, ap, ap₂, subst}
+use native.Mathlib.Nat.{not-suc-le-zero}
 use native.Mathlib.Omega.{arith}
 use lib.Dec.{eqb, ltb}
 use lib.IntN.{pos}
@@ -11,20 +12,19 @@ use lib.ListN.{getD}
 use Rattle.basis.proofs.FirstLaws.{orElse-left, orElse-right, when-none}
 use Rattle.basis.proofs.TestLaws.{or-none}
 use Rattle.basis.proofs.RowLaws.{getD-padded}
-use Rattle.sheet.specs.declared.Page.{Page}
 use Rattle.sheet.specs.declared.Round.{Round}
-use Rattle.sheet.specs.Sheet.{bidderCount, slotCount}
+use Rattle.sheet.specs.Sheet.{bidderCount, slotCount, effectField}
 use Rattle.sheet.specs.Refusal.{refusalOf, Accepted}
 use Rattle.sheet.specs.Round.{roundOf, effectOf}
 use Rattle.auction.specs.Greedy.{greedyPage}
-use Rattle.sheet.specs.Proper.{ProperRound}
+use Rattle.sheet.proofs.RoundLaws.{round-slots, round-effect, round-proper}
 use Rattle.auction.specs.Price.{price}
 use Rattle.auction.proofs.PriceLaws.{price-low}
 use Rattle.greedy.specs.declared.Outcome.{Outcome}
 use Rattle.greedy.specs.EngineOutcome.{outcomeOf}
 use Rattle.gain.specs.Gain.{slotOf, breaksOwn, gainIf, gainAt, gainOf}
 use Rattle.gain.specs.Call.{laterRefusal, gainRefusal, gainedFor, gainedOf}
-use Rattle.gain.proofs.SlotLaws.{slot-found, slot-won}
+use Rattle.gain.proofs.SlotLaws.{slot-won}
 
 -- a refused call
 for-refused : (k : ℕ) (s t : List ℕ) (i v : ℕ) → (k ≡ 0 → ⊥) → gainedFor k s t i v ≡ record { refusal = k; gain = pos 0 }
@@ -49,60 +49,44 @@ pub gained : (s t : List ℕ) (i v : ℕ) → Accepted s → laterRefusal s t i 
 unfolding gainedOf gainedFor gainRefusal
 gained s t i v ok e = sym (ap (λ (n : ℕ). gainedFor n s t i v) (orElse-right (refusalOf s) (laterRefusal s t i v) ok ∙ e))
 
--- the played round's page and prices give the gain
-module _ (r t : Round) (i v : ℕ) (o : Outcome) (played : o ≡ outcomeOf r) where
-  page-of : o .page ≡ greedyPage r
+-- the played sheet's page, effects and prices give the gain
+module _ (s : List ℕ) (ok : Accepted s) (t : Round) (i v : ℕ) (o : Outcome) (played : o ≡ outcomeOf (roundOf s)) where
+  slot-of : slotOf (greedyPage (roundOf s)) i ≡ slotOf (o .page) i
   unfolding outcomeOf
-  page-of = ap (λ (x : Outcome). x .page) played
+  slot-of = ap (λ (x : Outcome). slotOf (x .page) i) (sym played)
 
-  pub gain-none : slotOf (o .page) i ≡ 0 → pos 0 ≡ gainOf r t i v
+  pub gain-none : slotOf (o .page) i ≡ 0 → pos 0 ≡ gainOf (roundOf s) t i v
   unfolding gainOf gainAt
-  gain-none e = sym (ap (λ (s : ℕ). gainAt s r t i v) (ap (λ (p : Page). slotOf p i) (sym page-of) ∙ e))
+  gain-none e = sym (ap (λ (k : ℕ). gainAt k (roundOf s) t i v) (slot-of ∙ e))
 
-  record Stands (k : ℕ) : Type 0 where
-    slot : slotOf (greedyPage r) i ≡ suc k
-    inside : k < r .slots
-    paid : getD (o .prices) k 0 ≡ price r (suc k)
-    low : price r (suc k) ≤ 1_000_000_000
+  -- what is known of the slot where the bidder stands
+  pub record Stands (k : ℕ) : Type 0 where
+    pub most-slot : k ≤ slotCount s
+    pub low-effect : effectField s k ≤ 1_000_000
+    pub low-price : getD (o .prices) (k - 1) 0 ≤ 1_000_000_000
+    pub gained-there : gainIf (breaksOwn t (o .page) i) (effectField s k) v (getD (o .prices) (k - 1) 0) ≡ gainOf (roundOf s) t i v
 
-  stands-at : ProperRound r → 0 < i → (k : ℕ) → slotOf (o .page) i ≡ suc k → Stands k
-  unfolding outcomeOf
-  stands-at c some k e =
-      let here : slotOf (greedyPage r) i ≡ suc k = ap (λ (p : Page). slotOf p i) (sym page-of) ∙ e in
-      let won = slot-won r c i some k here in
+  pub stands : 0 < i → (k : ℕ) → slotOf (o .page) i ≡ k → 0 < k → Stands k
+  unfolding outcomeOf gainOf gainAt
+  stands some zero e l = absurd (not-suc-le-zero l)
+  stands some (suc k) e l =
+      let r = roundOf s in
+      let proper = round-proper s ok in
+      let inside : k < r .slots = slot-won r proper i some k (slot-of ∙ e) .0 in
+      let most : suc k ≤ slotCount s = subst (λ (m : ℕ). k < m) (round-slots s) inside in
+      let effect = round-effect s ok (suc k) most in
+      let paid : getD (o .prices) (suc k - 1) 0 ≡ price r (suc k)
+      = ap₂ (λ (x : Outcome) (n : ℕ). getD (x .prices) n 0) played (let back : suc k - 1 ≡ k = omega arith in back)
+      ∙ getD-padded (λ j. price r (suc j)) (r .slots) 16 0 0 k inside in
       record {
-        slot = here;
-        inside = won .0;
-        paid = ap (λ (x : Outcome). getD (x .prices) k 0) played ∙ getD-padded (λ j. price r (suc j)) (r .slots) 16 0 0 k (won .0);
-        low = price-low r (suc k) c;
+        most-slot = most;
+        low-effect = (let low = proper .most-effect (suc k) in omega arith);
+        low-price = (let low = price-low r (suc k) proper in omega arith);
+        gained-there =
+            ap₂ (λ (x : Outcome) (f : ℕ). gainIf (breaksOwn t (x .page) i) f v (getD (o .prices) (suc k - 1) 0)) played (sym effect)
+            ∙ ap (gainIf (breaksOwn t (greedyPage r) i) (effectOf r (suc k)) v) paid
+            ∙ sym (ap (λ (n : ℕ). gainAt n r t i v) (slot-of ∙ e));
       }
-
-  pub gain-some : ProperRound r → 0 < i → (s : ℕ) → slotOf (o .page) i ≡ s → (s ≡ 0 → ⊥) →
-      gainIf (breaksOwn t (o .page) i) (getD (r .effects) (s - 1) 0) v (getD (o .prices) (s - 1) 0) ≡ gainOf r t i v
-  unfolding gainOf gainAt effectOf
-  gain-some c some zero e h = absurd (h refl)
-  gain-some c some (suc k) e h =
-      let w = stands-at c some k e in
-      let back : suc k - 1 ≡ k = omega arith in
-      ap (λ (n : ℕ). gainIf (breaksOwn t (o .page) i) (getD (r .effects) n 0) v (getD (o .prices) n 0)) back
-      ∙ ap₂ (λ (p : Page) (x : ℕ). gainIf (breaksOwn t p i) (getD (r .effects) k 0) v x) page-of (w .paid)
-      ∙ sym (ap (λ (n : ℕ). gainAt n r t i v) (w .slot))
-
-  -- and its numbers are in range
-  pub gain-low : ProperRound r → 0 < i → (s : ℕ) → slotOf (o .page) i ≡ s → (s ≡ 0 → ⊥) →
-      (getD (r .effects) (s - 1) 0 ≤ 1_000_000) × (getD (o .prices) (s - 1) 0 ≤ 1_000_000_000)
-  unfolding effectOf
-  gain-low c some zero e h = absurd (h refl)
-  gain-low c some (suc k) e h =
-      let w = stands-at c some k e in
-      let back : suc k - 1 ≡ k = omega arith in (
-        subst (λ (n : ℕ). getD (r .effects) n 0 ≤ 1_000_000) (sym back) (c .most-effect (suc k)),
-        subst (λ (n : ℕ). getD (o .prices) n 0 ≤ 1_000_000_000) (sym back) (subst (λ (x : ℕ). x ≤ 1_000_000_000) (sym (w .paid)) (w .low)),
-      )
-
-pub slot-index : (p : Page) (i s : ℕ) → slotOf p i ≡ s → (s ≡ 0 → ⊥) → s - 1 < 16
-slot-index p i zero e h = absurd (h refl)
-slot-index p i (suc k) e h = let l = slot-found p i k e .1 in omega arith
 
 -- what a call that 14 to 17 leave is known to satisfy
 pub record LaterAccepted (s t : List ℕ) (i v : ℕ) : Type 0 where

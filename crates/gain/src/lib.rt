@@ -6,13 +6,13 @@ ghost use mathlib.Core.Path.{_≡_};
 ghost use Prim.Native.Nat.{_*_, _≤_, _<_};
 ghost use lib.IntN.{pos, negℤ};
 ghost use Rattle.sheet.specs.Refusal.{Accepted};
-ghost use Rattle.sheet.specs.Proper.{Proper, ProperRound};
+ghost use Rattle.sheet.specs.Proper.{Proper};
+ghost use Rattle.sheet.specs.Round.{roundOf};
 ghost use Rattle.gain.specs.Gain.{slotOf, breaksOwn, gainIf, gainOf};
 ghost use Rattle.gain.specs.Call.{laterRefusal, gainedOf};
 use sheet::Bidder;
 use sheet::Constraint;
 use sheet::Page;
-use sheet::Round;
 use sheet::Slot;
 
 // "v, 0 to 1,000,000,000"
@@ -50,15 +50,17 @@ fn own_broken(page: Page, constraint: Constraint, bidder: Bidder) -> bool
     false
 }
 
-// Whether a constraint of the bidder is broken on the page.
-fn breaks_own(truth: Round, page: Page, bidder: Bidder) -> bool
-    requires { ⌜ ProperRound truth ⌝ }
-    ensures { λ r. ⌜ r ≡ breaksOwn truth page (bidder .0) ⌝ }
+// Whether a constraint of the bidder is broken on the page. The truth sheet's constraints are read one by one, and no round is made of them.
+fn breaks_own(truth: &[u8], page: Page, bidder: Bidder) -> bool
+    requires { ⌜ Accepted (now truth) ⌝ }
+    ensures { λ r. ⌜ r ≡ breaksOwn (roundOf (now (truth .entry))) page (bidder .0) ⌝ }
 {
-    let used = truth.used;
+    let used = sheet_read::constraint_count(truth);
+    let start = sheet_read::constraints_start(truth);
     let mut a = 0;
     while a < used {
-        if own_broken(page, truth.constraints[a], bidder) {
+        let constraint = sheet_read::constraint_at(truth, start, a);
+        if own_broken(page, constraint, bidder) {
             return true;
         }
         a += 1;
@@ -96,12 +98,11 @@ fn minus(size: u64) -> i64
     0 - size as i64
 }
 
-// The gain of a bidder from a played round.
-fn gain_of(played: Round, truth: Round, bidder: Bidder, worth: u32) -> i64
-    requires { ⌜ ProperRound played × ProperRound truth × (worth ≤ 1000000000) × (0 < bidder .0) ⌝ }
-    ensures { λ r. ⌜ r ≡ gainOf played truth (bidder .0) worth ⌝ }
+// The gain of a bidder from a played sheet.
+fn gain_of(played: &[u8], truth: &[u8], bidder: Bidder, worth: u32) -> i64
+    requires { ⌜ Accepted (now played) × Accepted (now truth) × (worth ≤ 1000000000) × (0 < bidder .0) ⌝ }
+    ensures { λ r. ⌜ r ≡ gainOf (roundOf (now (played .entry))) (roundOf (now (truth .entry))) (bidder .0) worth ⌝ }
 {
-    let effects = played.effects;
     let outcome = greedy::played(played);
     let page = outcome.page;
     let prices = outcome.prices;
@@ -110,12 +111,8 @@ fn gain_of(played: Round, truth: Round, bidder: Bidder, worth: u32) -> i64
         return 0;
     }
     let k = slot.0 as usize - 1;
-    gain_if(
-        breaks_own(truth, page, bidder),
-        effects[k],
-        worth,
-        prices[k],
-    )
+    let effect = sheet_read::effect_at(played, slot);
+    gain_if(breaks_own(truth, page, bidder), effect, worth, prices[k])
 }
 
 // 14 to 17: the truth sheet, and the numbers of the call.
@@ -149,8 +146,7 @@ fn later_refusal(played: &[u8], truth: &[u8], bidder: u32, worth: u32) -> u32
 pub fn gain(played: &[u8], truth: &[u8], bidder: u32, worth: u32) -> Gained
     ensures { λ r. ⌜ r ≡ gainedOf (now (played .entry)) (now (truth .entry)) bidder worth ⌝ }
 {
-    let reading = sheet_read::read(played);
-    let refusal = reading.refusal;
+    let refusal = sheet_check::check(played);
     if refusal != 0 {
         return Gained { refusal, gain: 0 };
     }
@@ -161,11 +157,8 @@ pub fn gain(played: &[u8], truth: &[u8], bidder: u32, worth: u32) -> Gained
             gain: 0,
         };
     }
-    let round = reading.round;
-    let told = sheet_read::read(truth);
-    let true_round = told.round;
     Gained {
         refusal: 0,
-        gain: gain_of(round, true_round, Bidder(bidder as u8), worth),
+        gain: gain_of(played, truth, Bidder(bidder as u16), worth),
     }
 }

@@ -1,5 +1,3 @@
--- Why the table says who is eligible.
-pub mod BarredLaws
-pub mod TableLaws
+-- Why the marks and the links say who is eligible, slot after slot.
+pub mod EligibleLaws
 pub mod FillLaws
-pub mod ChainLaws

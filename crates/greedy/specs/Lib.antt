@@ -1,3 +1,2 @@
 pub mod EngineOutcome
-pub mod EngineTable
-pub mod EngineChains
+pub mod EngineEligible

@@ -30,7 +30,7 @@ use Rattle.downward.proofs.DownwardLaws.{downward-lower}
 abbrev OwnAt : Kind → ℕ → Type 0
 OwnAt (OwnSlot k) l = k .0 ≡ l
 OwnAt (OtherSlot j x) l = Unit {0}
-OwnAt (Pair j x k) l = k .0 ≡ l
+OwnAt (Pair k j x) l = k .0 ≡ l
 
 -- a constraint of i whose own part is true of slot l and whose other part is true on the page p
 pub record Blocked (r : Round) (i : ℕ) (p : Page) (l : ℕ) : Type 0 where
@@ -66,7 +66,7 @@ module _ (p : Page) (k i : ℕ) (s : Sized p) (k-some : 0 < k) (k-most : k ≤ 1
   unfolding ownHolds otherHolds
   block-parts (OwnSlot t) proper own other = (only-here (t .0) own, refl)
   block-parts (OtherSlot j x) proper own other = (tt, other-before (x .0) (j .0) (proper .1) other)
-  block-parts (Pair j x t) proper own other = (only-here (t .0) own, other-before (x .0) (j .0) (proper .1) other)
+  block-parts (Pair t j x) proper own other = (only-here (t .0) own, other-before (x .0) (j .0) (proper .1) other)
 
   -- a constraint of i that is broken with i at k blocks it there
   pub broken-blocks : (r : Round) (q : Constraint) → Has r q → Proper q → q .owner .0 ≡ i → broken (put p k i) q ≡ true → Blocked r i p k
@@ -81,20 +81,20 @@ lower-own : (kind : Kind) (l : ℕ) → OwnAt kind l → OwnAt (oneLower kind) (
 unfolding oneLower
 lower-own (OwnSlot k) l e = ap suc e
 lower-own (OtherSlot j x) l e = tt
-lower-own (Pair j x k) l e = ap suc e
+lower-own (Pair k j x) l e = ap suc e
 
 lower-other : (p : Page) (kind : Kind) → otherHolds p kind ≡ true → otherHolds p (oneLower kind) ≡ true
 unfolding otherHolds oneLower
 lower-other p (OwnSlot k) e = refl
 lower-other p (OtherSlot j x) e = e
-lower-other p (Pair j x k) e = e
+lower-other p (Pair k j x) e = e
 
 -- a kind with an own slot has it at l; the kind without one needs no other
 own-slot-at : (kind : Kind) (l : ℕ) → OwnAt kind l → (ownSlot kind ≡ l) ⊎ (oneLower kind ≡ kind)
 unfolding ownSlot oneLower
 own-slot-at (OwnSlot k) l e = inl e
 own-slot-at (OtherSlot j x) l e = inr refl
-own-slot-at (Pair j x k) l e = inl e
+own-slot-at (Pair k j x) l e = inl e
 
 pub blocked-lower : (r : Round) (i : ℕ) (p : Page) (l : ℕ) → downward r i ≡ true → 0 < l → l < r .slots → Blocked r i p l → Blocked r i p (suc l)
 blocked-lower r i p l down some less b =
@@ -126,7 +126,7 @@ own-holds : (p : Page) (kind : Kind) (i l : ℕ) → at p l ≡ i → OwnAt kind
 unfolding ownHolds
 own-holds p (OwnSlot k) i l h e = eq-eqb (at p (k .0)) i (ap (at p) e ∙ h)
 own-holds p (OtherSlot j x) i l h e = refl
-own-holds p (Pair j x k) i l h e = eq-eqb (at p (k .0)) i (ap (at p) e ∙ h)
+own-holds p (Pair k j x) i l h e = eq-eqb (at p (k .0)) i (ap (at p) e ∙ h)
 
 -- A blocked bidder is not eligible, on the page or on any that has filled further.
 pub blocked-ineligible : (r : Round) → ProperRound r → (i : ℕ) (p p′ : Page) (l : ℕ) → Blocked r i p l → Keeps p p′ → Sized p′ → 0 < l → l ≤ 16 →

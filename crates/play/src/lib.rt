@@ -1,9 +1,10 @@
 // Play a round: a lent sheet in, the page with its prices in a lent buffer out.
 ghost use mathlib.Core.List.{_++_};
 ghost use mathlib.Core.Path.{_≡_};
-ghost use Prim.Native.Nat.{_*_, _≤_};
+ghost use Prim.Native.Nat.{ℕ, _*_, _<_, _≤_};
 ghost use lib.ListN.{length, drop};
 ghost use Rattle.basis.specs.Rows.{joined};
+ghost use Rattle.auction.specs.Page.{at};
 ghost use Rattle.play.specs.Play.{Played};
 ghost use Rattle.play.specs.EngineEntries.{entryIn};
 use greedy::Outcome;
@@ -13,24 +14,22 @@ use greedy::Outcome;
 pub fn play(sheet: &[u8], result: &mut [u8]) -> u32
     ensures { λ r. ⌜ Played (now (sheet .entry)) (now (result .entry)) r (now (result .exit)) ⌝ }
 {
-    let reading = sheet_read::read(sheet);
-    let refusal = reading.refusal;
+    let refusal = sheet_check::check(sheet);
     if refusal != 0 {
         return refusal;
     }
-    let round = reading.round;
-    let slots = round.slots;
+    let slots = sheet[6] as usize;
     if result.len() < 5 * slots {
         return 19;
     }
-    write_result(greedy::played(round), slots, result);
+    write_result(greedy::played(sheet), slots, result);
     0
 }
 
 // The page and the prices go to the front of the buffer.
 fn write_result(outcome: Outcome, slots: usize, result: &mut [u8])
     requires { ⌜ (slots ≤ 16) × (5 * slots ≤ length (now result)) ⌝ }
-    requires { ⌜ (length (outcome .page .bidders) ≡ 16) × (length (outcome .prices) ≡ 16) ⌝ }
+    requires { ⌜ (length (outcome .page .bidders) ≡ 16) × (length (outcome .prices) ≡ 16) × ((k : ℕ) → at (outcome .page) k < 256) ⌝ }
     ensures { λ r. ⌜ now (result .exit) ≡ joined (entryIn outcome) slots ++ drop (5 * slots) (now (result .entry)) ⌝ }
 {
     let page = outcome.page;
@@ -38,7 +37,7 @@ fn write_result(outcome: Outcome, slots: usize, result: &mut [u8])
     let mut k = 0;
     while k < slots {
         let winner = page.bidders[k];
-        result[5 * k] = winner.0;
+        result[5 * k] = winner.0 as u8;
         basis::put_word32(result, 5 * k + 1, prices[k]);
         k += 1;
     }

@@ -13,7 +13,7 @@ use Rattle.sheet.specs.Round.{bidOf, effectOf, Has}
 abbrev pub ProperKind : ℕ → Kind → Type 0
 ProperKind owner (OwnSlot k) = (0 < k .0) × (k .0 ≤ 16)
 ProperKind owner (OtherSlot j l) = (j .0 ≡ 0 → ⊥) × (j .0 ≡ owner → ⊥) × (j .0 ≤ 64) × (0 < l .0) × (l .0 ≤ 16)
-ProperKind owner (Pair j l k) =
+ProperKind owner (Pair k j l) =
     (j .0 ≡ 0 → ⊥) × (j .0 ≡ owner → ⊥) × (j .0 ≤ 64) × (0 < l .0) × (l .0 ≤ 16) × (0 < k .0) × (k .0 ≤ 16)
 
 -- a constraint has an owner, and its parts are proper

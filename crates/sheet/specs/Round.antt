@@ -33,7 +33,7 @@ slot k = record { 0 = k }
 unfoldable pub kindOf : (own other others : ℕ) → Kind
 kindOf own zero others = OwnSlot (slot own)
 kindOf zero (suc other) others = OtherSlot (bidder (suc other)) (slot others)
-kindOf (suc own) (suc other) others = Pair (bidder (suc other)) (slot others) (slot (suc own))
+kindOf (suc own) (suc other) others = Pair (slot (suc own)) (bidder (suc other)) (slot others)
 
 -- the constraint at index k of the sheet
 unfoldable pub constraintField : List ℕ → ℕ → Constraint

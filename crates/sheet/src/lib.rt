@@ -6,8 +6,9 @@ pub const MAX_SLOTS: usize = 16;
 // "c, conditions, 0 to 1,024"
 pub const MAX_CONSTRAINTS: usize = 1024;
 
-// A bidder's number, counted from 1; 0 is nobody.
-pub struct Bidder(pub u8);
+// A bidder's number, counted from 1; 0 is nobody. It has 16 bits, so that a constraint is 8 bytes in memory and each of its parts stands at the
+// same bytes in every kind: the reader stores two at once.
+pub struct Bidder(pub u16);
 
 // A slot of the page ("place" in document 01), counted from 1.
 pub struct Slot(pub u8);
@@ -18,8 +19,8 @@ pub enum Kind {
     OwnSlot(Slot),
     // "other's place only": the other bidder and its slot, wherever the owner stands
     OtherSlot(Bidder, Slot),
-    // "the pair of them": the other bidder and its slot, where the kind above has them too, and the owner's slot
-    Pair(Bidder, Slot, Slot),
+    // "the pair of them": the owner's slot, the other bidder and its slot
+    Pair(Slot, Bidder, Slot),
 }
 
 // A constraint ("condition" in document 01) with its owner.

@@ -14,7 +14,7 @@ kind-other own zero others h e = absurd (h refl)
 kind-other own (suc other) others h e = rw e
 
 pub kind-pair : (own other others : ℕ) → (other ≡ 0 → ⊥) → (own ≡ 0 → ⊥) →
-    kindOf own other others ≡ Pair (bidder other) (slot others) (slot own)
+    kindOf own other others ≡ Pair (slot own) (bidder other) (slot others)
 unfolding kindOf
 kind-pair own zero others h g = absurd (h refl)
 kind-pair zero (suc other) others h g = absurd (g refl)

@@ -1,3 +1,3 @@
--- The kinds of constraint by the source's tests, and what a reading says.
+-- The kinds of constraint by the source's tests, and a constraint by the number that its four bytes make.
 pub mod KindLaws
-pub mod ReadingLaws
+pub mod WordLaws

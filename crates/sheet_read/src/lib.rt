@@ -1,12 +1,11 @@
 // The reader: the round that an accepted sheet's bytes say.
 ghost use mathlib.Core.Path.{_≡_};
-ghost use Prim.Native.Nat.{suc, _+_, _*_, _≤_};
+ghost use Prim.Native.Nat.{suc, _+_, _*_, _<_, _≤_};
 ghost use lib.ListN.{length};
 ghost use Rattle.basis.specs.Rows.{padded};
-ghost use Rattle.sheet.specs.Sheet.{effectsStart, bidsStart, constraintsStart, effectField, bidField};
+ghost use Rattle.sheet.specs.Sheet.{slotCount, constraintCount, effectsStart, bidsStart, constraintsStart, effectField, bidField};
 ghost use Rattle.sheet.specs.Refusal.{Accepted};
 ghost use Rattle.sheet.specs.Round.{kindOf, constraintField, blank, roundOf};
-ghost use Rattle.sheet_read.specs.Reading.{blankRound, readingOf};
 use basis::word16;
 use basis::word32;
 use sheet::Bidder;
@@ -15,20 +14,14 @@ use sheet::Kind;
 use sheet::Round;
 use sheet::Slot;
 
-// What reading a sheet gives: 0 and its round, or the refusal's number and a blank round.
-pub struct Reading {
-    pub refusal: u32,
-    pub round: Round,
-}
-
 // What a constraint's three bytes after its owner forbid. A narrower kind takes the pair's place, and no test returns early: the machine
 // then selects the bytes, and has no branch on a kind that it cannot foretell.
 fn kind_of(own: u8, other: u8, others: u8) -> Kind
     ensures { λ r. ⌜ r ≡ kindOf own other others ⌝ }
 {
-    let mut kind = Kind::Pair(Bidder(other), Slot(others), Slot(own));
+    let mut kind = Kind::Pair(Slot(own), Bidder(other as u16), Slot(others));
     if own == 0 {
-        kind = Kind::OtherSlot(Bidder(other), Slot(others));
+        kind = Kind::OtherSlot(Bidder(other as u16), Slot(others));
     }
     if other == 0 {
         kind = Kind::OwnSlot(Slot(own));
@@ -77,27 +70,50 @@ fn blank_constraint() -> Constraint
     }
 }
 
-// The constraints in sheet order, with blank ones after them.
-fn read_constraints(sheet: &[u8], start: usize, used: usize) -> [Constraint; 1024]
-    requires { ⌜ (used ≤ 1024) × (start + 4 * used ≤ length (now sheet)) ⌝ }
-    requires { ⌜ start ≡ constraintsStart (now sheet) ⌝ }
-    ensures { λ r. ⌜ r ≡ padded (constraintField (now (sheet .entry))) used 1024 blank ⌝ }
+// The effect of a slot of an accepted sheet.
+pub fn effect_at(sheet: &[u8], slot: Slot) -> u32
+    requires { ⌜ Accepted (now sheet) × (0 < slot .0) × (slot .0 ≤ slotCount (now sheet)) ⌝ }
+    ensures { λ r. ⌜ r ≡ effectField (now (sheet .entry)) (slot .0) ⌝ }
 {
-    let mut constraints = [blank_constraint(); 1024];
-    let mut k = 0;
-    while k < used {
-        let at = start + 4 * k;
-        let kind = kind_of(sheet[at + 1], sheet[at + 2], sheet[at + 3]);
-        constraints[k] = Constraint {
-            owner: Bidder(sheet[at]),
-            kind,
-        };
-        k += 1;
-    }
-    constraints
+    let index = slot.0 as usize - 1;
+    word32(sheet, 9 + 4 * index)
 }
 
-// The round of an accepted sheet, for a call that has checked it already.
+// Where the constraints of an accepted sheet start.
+pub fn constraints_start(sheet: &[u8]) -> usize
+    requires { ⌜ Accepted (now sheet) ⌝ }
+    ensures { λ r. ⌜ r ≡ constraintsStart (now (sheet .entry)) ⌝ }
+{
+    9 + 4 * (sheet[6] as usize) + 4 * (sheet[5] as usize)
+}
+
+// How many constraints an accepted sheet has.
+pub fn constraint_count(sheet: &[u8]) -> usize
+    requires { ⌜ Accepted (now sheet) ⌝ }
+    ensures { λ r. ⌜ r ≡ constraintCount (now (sheet .entry)) ⌝ }
+{
+    word16(sheet, 7) as usize
+}
+
+// One constraint of an accepted sheet, read from its bytes: for a call that needs no round of them.
+pub fn constraint_at(sheet: &[u8], start: usize, index: usize) -> Constraint
+    requires { ⌜ (start ≡ constraintsStart (now sheet)) × (start + 4 * index + 4 ≤ length (now sheet)) ⌝ }
+    ensures { λ r. ⌜ r ≡ constraintField (now (sheet .entry)) index ⌝ }
+{
+    let word = word32(sheet, start + 4 * index);
+    let kind = kind_of(
+        (word / 256 % 256) as u8,
+        (word / 65536 % 256) as u8,
+        (word / 16777216) as u8,
+    );
+    Constraint {
+        owner: Bidder((word % 256) as u16),
+        kind,
+    }
+}
+
+// The round of an accepted sheet, for a call that has checked it. The array of blank constraints is filled where it stands, a constraint
+// from one word of the sheet, which the machine does for two at once.
 pub fn accepted_round(sheet: &[u8]) -> Round
     requires { ⌜ Accepted (now sheet) ⌝ }
     ensures { λ r. ⌜ r ≡ roundOf (now (sheet .entry)) ⌝ }
@@ -109,44 +125,27 @@ pub fn accepted_round(sheet: &[u8]) -> Round
     let constraints_start = bids_start + 4 * bidders;
     let effects = read_effects(sheet, slots);
     let bids = read_bids(sheet, bids_start, bidders);
-    let constraints = read_constraints(sheet, constraints_start, used);
-    Round {
+    let mut round = Round {
         bidders,
         slots,
         used,
         effects,
         bids,
-        constraints,
-    }
-}
-
-// No bidder, no slot, no constraint: what stands beside a refusal.
-fn blank_round() -> Round
-    ensures { λ r. ⌜ r ≡ blankRound ⌝ }
-{
-    Round {
-        bidders: 0,
-        slots: 0,
-        used: 0,
-        effects: [0u32; 16],
-        bids: [0u32; 64],
         constraints: [blank_constraint(); 1024],
-    }
-}
-
-// The round of an accepted sheet with the number 0, or a refused sheet's number with a blank round.
-pub fn read(sheet: &[u8]) -> Reading
-    ensures { λ r. ⌜ r ≡ readingOf (now (sheet .entry)) ⌝ }
-{
-    let refusal = sheet_check::check(sheet);
-    if refusal != 0 {
-        return Reading {
-            refusal,
-            round: blank_round(),
+    };
+    let mut k = 0;
+    while k < used {
+        let word = word32(sheet, constraints_start + 4 * k);
+        let kind = kind_of(
+            (word / 256 % 256) as u8,
+            (word / 65536 % 256) as u8,
+            (word / 16777216) as u8,
+        );
+        round.constraints[k] = Constraint {
+            owner: Bidder((word % 256) as u16),
+            kind,
         };
+        k += 1;
     }
-    Reading {
-        refusal: 0,
-        round: accepted_round(sheet),
-    }
+    round
 }

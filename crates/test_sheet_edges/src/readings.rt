@@ -1,8 +1,7 @@
-// What is read of a refused, a small and a full sheet. The bytes of each longer number differ, so that their order shows.
-use crate::show;
+// What is read of a small and a full sheet, and that nothing is of a refused one. The bytes of each longer number differ, so that their
+// order shows.
 use sheet::Kind;
 use sheet::Round;
-use sheet_read::Reading;
 use test_edge_sheets::build;
 use test_edge_sheets::line;
 
@@ -49,12 +48,12 @@ fn kind_parts(kind: Kind) {
             line::byte(b", own place ", own.0);
         }
         Kind::OtherSlot(other, others) => {
-            line::byte(b", other ", other.0);
+            line::number(b", other ", other.0 as u64);
             line::byte(b" at place ", others.0);
         }
-        Kind::Pair(other, others, own) => {
+        Kind::Pair(own, other, others) => {
             line::byte(b", own place ", own.0);
-            line::byte(b", other ", other.0);
+            line::number(b", other ", other.0 as u64);
             line::byte(b" at place ", others.0);
         }
     }
@@ -68,24 +67,68 @@ fn constraint(round: Round, index: usize) {
         let owner = found.owner;
         let kind = found.kind;
         line::number(b"  condition at ", index as u64);
-        line::byte(b": owner ", owner.0);
+        line::number(b": owner ", owner.0 as u64);
         kind_parts(kind);
         line::text(b"\n");
     }
 }
 
-// Five bidders, three slots and 0x0102 constraints, with a bid out of range: what is read is blank.
+// The effects: the last one, and where the sheet leaves some blank, before it those up to the first blank one.
+fn effects(round: Round) {
+    if round.slots < 16 {
+        effect(round, 0);
+        effect(round, 1);
+        effect(round, 2);
+        effect(round, 3);
+    }
+    effect(round, 15);
+}
+
+// The bids: the last one, and where the sheet leaves some blank, before it the first, the last that is set and the first blank one.
+fn bids(round: Round) {
+    if round.bidders < 64 {
+        bid(round, 0);
+        bid(round, 4);
+        bid(round, 5);
+    }
+    bid(round, 63);
+}
+
+// The constraints: the last one, and where the sheet leaves some blank, before it one of each kind, the last that is set and the first
+// blank one.
+fn constraints(round: Round) {
+    if round.used < 1024 {
+        constraint(round, 0);
+        constraint(round, 1);
+        constraint(round, 2);
+        constraint(round, 257);
+        constraint(round, 258);
+    }
+    constraint(round, 1023);
+}
+
+// A line with the number that the check gives the first `length` bytes, and where it accepts them, what is read of them.
+fn reading(name: &[u8], buf: &[u8], length: usize) {
+    let sheet = line::front(buf, length);
+    let refusal = sheet_check::check(sheet);
+    line::text(name);
+    line::end(refusal as u64);
+    if refusal == 0 {
+        let round = sheet_read::accepted_round(sheet);
+        counts(round);
+        effects(round);
+        bids(round);
+        constraints(round);
+    }
+}
+
+// Five bidders, three slots and 0x0102 constraints, with a bid out of range.
 fn refused() {
     let mut space = [0u8; build::ROOM];
     let buf: &mut [u8] = &mut space;
     let length = build::base(buf, 5, 3, 0x0102);
     build::set_bid(buf, 5, 1000000001);
-    let reading = show::reading(b"reading a refused sheet", buf, length);
-    let round = reading.round;
-    counts(round);
-    effect(round, 0);
-    bid(round, 0);
-    constraint(round, 0);
+    reading(b"reading a refused sheet", buf, length);
 }
 
 // Five bidders, three slots and 0x0102 constraints.
@@ -100,7 +143,7 @@ fn build_small(buf: &mut [u8]) -> usize {
 }
 
 // The same with a constraint of each kind, and the last one set.
-fn read_small() -> Reading {
+fn small() {
     let mut space = [0u8; build::ROOM];
     let buf: &mut [u8] = &mut space;
     let length = build_small(buf);
@@ -108,33 +151,7 @@ fn read_small() -> Reading {
     build::set_constraint(buf, 2, [3, 0, 1, 2]);
     build::set_constraint(buf, 3, [4, 2, 0, 0]);
     build::set_constraint(buf, 0x0102, [5, 1, 4, 3]);
-    show::reading(b"reading a small sheet", buf, length)
-}
-
-// Each array up to the first that the sheet does not fill, and its last element.
-fn small() {
-    let reading = read_small();
-    let round = reading.round;
-    counts(round);
-    effect(round, 0);
-    effect(round, 1);
-    effect(round, 2);
-    effect(round, 3);
-    effect(round, 15);
-    bid(round, 0);
-    bid(round, 4);
-    bid(round, 5);
-    bid(round, 63);
-    small_constraints(round);
-}
-
-fn small_constraints(round: Round) {
-    constraint(round, 0);
-    constraint(round, 1);
-    constraint(round, 2);
-    constraint(round, 257);
-    constraint(round, 258);
-    constraint(round, 1023);
+    reading(b"reading a small sheet", buf, length);
 }
 
 // The largest counts, with the last field of each kind set.
@@ -145,10 +162,5 @@ fn full() {
     build::set_effect(buf, 16, 0x0102);
     build::set_bid(buf, 64, 0x01020304);
     build::set_constraint(buf, 1024, [64, 16, 63, 15]);
-    let reading = show::reading(b"reading a full sheet", buf, length);
-    let round = reading.round;
-    counts(round);
-    effect(round, 15);
-    bid(round, 63);
-    constraint(round, 1023);
+    reading(b"reading a full sheet", buf, length);
 }

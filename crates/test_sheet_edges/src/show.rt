@@ -1,5 +1,4 @@
 // The lines that the program writes.
-use sheet_read::Reading;
 use test_edge_sheets::line::end;
 use test_edge_sheets::line::front;
 use test_edge_sheets::line::text;
@@ -14,13 +13,4 @@ pub fn verdict(buf: &[u8], length: usize) {
 pub fn case(name: &[u8], buf: &[u8], length: usize) {
     text(name);
     verdict(buf, length);
-}
-
-// What is read of the first `length` bytes, and a line with its number.
-pub fn reading(name: &[u8], buf: &[u8], length: usize) -> Reading {
-    let reading = sheet_read::read(front(buf, length));
-    let refusal = reading.refusal;
-    text(name);
-    end(refusal as u64);
-    reading
 }

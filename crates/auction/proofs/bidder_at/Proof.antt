@@ -10,6 +10,9 @@ cast-k c = search needs
 sub-k : tie.Need-sub-k
 sub-k c = search needs
 
+mul-result : tie.Need-mul-result
+mul-result c = search needs
+
 element-copy-out-result : tie.Need-element-copy-out-result
 element-copy-out-result c = search needs
 
@@ -17,4 +20,4 @@ returns : tie.Need-returns
 returns c = at-index (c .before .before .args .t1) (c .before .before .args .slot .0) (c .before .before .pre .0)
 
 pub bidder-at-spec : {M : Type 1} → statement M
-bidder-at-spec = tie.close (tie.spec cast-k sub-k element-copy-out-result returns)
+bidder-at-spec = tie.close (tie.spec cast-k sub-k mul-result element-copy-out-result returns)

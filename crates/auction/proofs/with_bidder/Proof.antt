@@ -10,6 +10,9 @@ cast-k c = search needs
 sub-k : tie.Need-sub-k
 sub-k c = search needs
 
+mul-bidder : tie.Need-mul-bidder
+mul-bidder c = search needs
+
 element-set-from-bidder : tie.Need-element-set-from-bidder
 element-set-from-bidder c = search needs
 
@@ -17,4 +20,4 @@ returns : tie.Need-returns
 returns c = put-index (c .before .args .page) (c .before .args .slot .0) (c .before .args .bidder .0) (c .before .pre .0)
 
 pub with-bidder-spec : {M : Type 1} → statement M
-with-bidder-spec = tie.close (tie.spec cast-k sub-k element-set-from-bidder returns)
+with-bidder-spec = tie.close (tie.spec cast-k sub-k mul-bidder element-set-from-bidder returns)

@@ -95,7 +95,13 @@ best-page-requires c κs =
     (subst ProperRound (sym round) (round-proper s ok), omega arith, omega arith)
 
 write-page-requires : tie.Need-write-page-requires
-write-page-requires c κs = search needs
+write-page-requires c κs =
+    let s = c .before .before .before .before .before .before .before .before .before .before .before .before .args .sheet .now in
+    let n = ap (λ (r : Round). r .bidders) (c .before .before .accepted-round .ensures) ∙ round-bidders s in
+    let few = c .before .before .before .before .before .if2 .left in
+    let few′ = c .before .before .before .before .if3 .left in
+    let size = c .before .before .before .if4 .left in
+    (omega arith, omega arith, λ k. omega (arith, c .before .best-page .ensures .0 .allowed .page .bidders k))
 
 sub-t16 : tie.Need-sub-t16
 sub-t16 c = search needs

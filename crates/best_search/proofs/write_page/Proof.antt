@@ -1,4 +1,5 @@
--- `best_search::write_page` meets its contract: after k turns the first k bidder numbers stand at the front. Assumes nothing.
+-- `best_search::write_page` meets its contract: after k turns the first k bidder numbers stand at the front, none of them cut.
+-- Assumes nothing.
 use Prim.Native.Nat.{ℕ, suc, _+_, _-_, _≤_, _<_}
 use mathlib.Core.List.{List, [], _∷_, _++_}
 use mathlib.Core.Path.{_≡_, refl, sym, _∙_, ap}
@@ -43,12 +44,19 @@ loop-holds : tie.Need-loop-holds Inv-loop μ-loop
 unfolding row
 loop-holds c = record { some = omega arith; size = refl; front = refl }
 
+mul-bidder : tie.Need-mul-bidder Inv-loop μ-loop
+mul-bidder c = omega arith
+
 element-copy-out-bidder : tie.Need-element-copy-out-bidder Inv-loop μ-loop
 element-copy-out-bidder c = omega arith
 
+cast-result : tie.Need-cast-result Inv-loop μ-loop
+unfolding at
+cast-result c = omega (arith, c .before .before .before .before .pre .2 (suc (c .before .before .before .loop .k)))
+
 slice-write-result : tie.Need-slice-write-result Inv-loop μ-loop
 slice-write-result c =
-    let v = c .before .before .loop .inv in
+    let v = c .before .before .before .loop .inv in
     let e = v .size in
     omega arith
 
@@ -61,13 +69,13 @@ loop-less c = omega arith
 loop-again : tie.Need-loop-again Inv-loop μ-loop
 unfolding row at
 loop-again c =
-    let v = c .before .before .loop .inv in
-    let k = c .before .before .loop .k in
-    let p = c .before .before .before .args .t1 in
-    let out = c .before .before .before .args .result .now in
+    let v = c .before .before .before .loop .inv in
+    let k = c .before .before .before .loop .k in
+    let p = c .before .before .before .before .args .t1 in
+    let out = c .before .before .before .before .args .result .now in
     record {
       some = omega arith;
-      size = length-set (c .before .before .loop .result) k (getD (p .bidders) k (bidder 0) .0) ∙ v .size;
+      size = length-set (c .before .before .before .loop .result) k (getD (p .bidders) k (bidder 0) .0) ∙ v .size;
       front =
           ap (λ (l : List ℕ). set l k (getD (p .bidders) k (bidder 0) .0)) (v .front)
           ∙ row-stored (λ j. at p (suc j)) k out (omega arith)
@@ -90,7 +98,9 @@ write-page-spec =
     Inv-loop
     μ-loop
     loop-holds
+    mul-bidder
     element-copy-out-bidder
+    cast-result
     slice-write-result
     add-k
     loop-less

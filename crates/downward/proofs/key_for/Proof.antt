@@ -1,4 +1,5 @@
--- `downward::key_for` meets its contract: the sum is the number's definition, and three bytes keep it below 2 ^ 32. Assumes nothing.
+-- `downward::key_for` meets its contract: the sum is the number's definition, and two bytes and a number of 16 bits keep it below 2 ^ 32.
+-- Assumes nothing.
 use mathlib.Core.Path.{refl}
 use Rattle.downward.specs.EngineKeys.{keyFor}
 use borrow.Author.Needs.{needs}

@@ -51,8 +51,8 @@ returns-3 c =
 accepted-round-requires : tie.Need-accepted-round-requires
 accepted-round-requires c κs = sym (c .before .before .before .before .check .ensures) ∙ c .before .before .before .if1 .left
 
-cast-t7 : tie.Need-cast-t7
-cast-t7 c =
+cast-t10 : tie.Need-cast-t10
+cast-t10 c =
     let s = c .before .before .before .before .before .before .before .args .sheet .now in
     let ok : Accepted s = sym (c .before .before .before .before .before .check .ensures) ∙ c .before .before .before .before .if1 .left in
     let few = accepted-sheet s ok .counts .most-bidders in
@@ -83,6 +83,6 @@ test-spec =
     returns-2
     returns-3
     accepted-round-requires
-    cast-t7
+    cast-t10
     is-downward-requires
     returns-4)

@@ -5,7 +5,7 @@ use mathlib.Core.Path.{sym, subst}
 use native.Mathlib.Numerals.{add-one}
 use native.Mathlib.Omega.{arith}
 use Rattle.choice.specs.EngineRanking.{NextAt}
-use Rattle.greedy.specs.EngineChains.{free}
+use Rattle.greedy.specs.EngineEligible.{free}
 use borrow.Author.Needs.{needs}
 use Rattle.greedy.proofs.award_slot.Statement.{statement}
 use Rattle.greedy.proofs.award_slot.Tie as tie
@@ -41,17 +41,17 @@ placing-at-requires c κs =
 
 returns : tie.Need-returns
 returns c = λ r h.
-    let a = c .before .before .before .before .before .before .before .before .before .before .before .args in
-    let first = c .before .before .before .next-eligible .result in
-    let placed = c .before .placing-at .ensures (free r (a .table .now) (a .held .now) (a .slot .0)) (c .before .before .before .next-eligible .ensures .1 r h)
+    let a = c .before .before .before .before .before .before .before .before .before .before .args in
+    let first = c .before .before .next-eligible .result in
+    let placed = c .placing-at .ensures (free r (a .barred .now) (a .held .now) (a .slot .0)) (c .before .before .next-eligible .ensures .1 r h)
     (λ below.
     ⊎-elim
     (λ w.
-    subst (λ (k : ℕ). NextAt (free r (a .table .now) (a .held .now) (a .slot .0)) (a .ranked .now) (a .bidders) (suc first) k) (sym (w .2))
-    (subst (λ (s : ℕ). NextAt (free r (a .table .now) (a .held .now) (a .slot .0)) (a .ranked .now) (a .bidders) s (w .1 .result)) (add-one first)
+    subst (λ (k : ℕ). NextAt (free r (a .barred .now) (a .held .now) (a .slot .0)) (a .ranked .now) (a .bidders) (suc first) k) (sym (w .2))
+    (subst (λ (s : ℕ). NextAt (free r (a .barred .now) (a .held .now) (a .slot .0)) (a .ranked .now) (a .bidders) s (w .1 .result)) (add-one first)
     (w .1 .ensures .1 r h)))
     (λ w. let off = w .0 .left in absurd (omega arith))
-    (c .before .before .if1 .came)) in
+    (c .before .if1 .came)) in
     record { won-by = placed .0; paid-as = placed .1 }
 
 pub award-slot-spec : {M : Type 1} → statement M

@@ -1,73 +1,131 @@
--- `greedy::is_eligible` meets its contract: the table's entry, and then the chain of the candidate at the slot. Assumes nothing.
-use Prim.Native.Nat.{ℕ, _+_, _*_, _-_}
-use mathlib.Core.Bool.{Bool, not, _&&_}
-use mathlib.Core.Path.{sym, _∙_, ap}
-use borrow.Author.Tests.{eq-eqb, ne-eqb}
-use lib.ListN.{getD}
-use Rattle.greedy.specs.EngineChains.{standing, named, free}
-use Rattle.greedy.proofs.TableLaws.{entry-open}
+-- `greedy::is_eligible` meets its contract: who stands where, then the chain of the candidate at the slot, then the bars. Assumes nothing.
+use Prim.Native.Nat.{ℕ, _≤_}
+use mathlib.Core.Bool.{Bool, true, false, not, _&&_, _||_, and-false}
+use mathlib.Core.Path.{_≡_, refl, sym, _∙_, ap, ap₂}
+use native.Mathlib.Omega.{arith}
+use lib.Dec.{eqb}
+use Rattle.sheet.specs.declared.Round.{Round}
+use Rattle.greedy_links.specs.declared.Named.{Named}
+use Rattle.greedy_links.specs.declared.Named.the-variants.{ByEarlierWinner, ByItself, ByNobody}
+use Rattle.greedy_links.specs.EngineKeys.{key, isMarked}
+use Rattle.greedy_links.specs.EngineLinks.{Linked, someOwner, namedFor}
+use Rattle.greedy.specs.EngineEligible.{isNamed, isBarred, free}
 use borrow.Author.Needs.{needs}
 use Rattle.greedy.proofs.is_eligible.Statement.{statement}
 use Rattle.greedy.proofs.is_eligible.Tie as tie
 
-cast-l : tie.Need-cast-l
-cast-l c = search needs
+-- whether somebody's constraint names the candidate
+abbrev names : Named → Bool
+names ByEarlierWinner = true
+names ByItself = true
+names ByNobody = false
 
-sub-l : tie.Need-sub-l
-sub-l c = search needs
+names-for : (earlier own : Bool) → names (namedFor earlier own) ≡ (earlier || own)
+unfolding namedFor
+names-for true own = refl
+names-for false true = refl
+names-for false false = refl
 
-cast-b : tie.Need-cast-b
-cast-b c = search needs
+owner-key-requires : tie.Need-owner-key-requires
+owner-key-requires c κs = search needs
 
-sub-b : tie.Need-sub-b
-sub-b c = search needs
+is-marked-requires : tie.Need-is-marked-requires
+is-marked-requires c κs = search needs
 
-mul-if1 : tie.Need-mul-if1
-mul-if1 c = search needs
+-- who stands where was asked by the candidate's number
+placed-told : (c : tie.After-is-marked) → c .is-marked .result ≡ isMarked (c .before .before .before .before .before .before .before .args .held .now) (c .before .before .before .before .before .before .before .args .bidder .0)
+placed-told c =
+    let e = c .before .owner-key .ensures in
+    let any : c .before .owner-key .result .0 ≡ c .before .before .before .before .before .before .before .args .bidder .0 = omega arith in
+    c .is-marked .ensures ∙ ap (isMarked (c .before .before .before .before .before .before .before .args .held .now)) any
 
-add-if1 : tie.Need-add-if1
-add-if1 c = search needs
+-- what the walk along the chain has said
+named-told : (c : tie.After-named-by) (q : Round) → Linked q (q .used) (c .before .before .before .before .before .before .before .before .before .before .args .last .now) (c .before .before .before .before .before .before .before .before .before .before .args .links .now) (c .before .before .before .before .before .before .before .before .before .before .args .owners .now) →
+    isNamed q (c .before .before .before .before .before .before .before .before .before .before .args .held .now) (c .before .before .before .before .before .before .before .before .before .before .args .slot .0) (c .before .before .before .before .before .before .before .before .before .before .args .bidder .0) ≡ names (c .named-by .result)
+named-told c q h =
+    sym
+    (ap names (c .named-by .ensures q h)
+    ∙ names-for _ _
+    ∙ ap (λ (x : ℕ). someOwner q x (isMarked (c .before .before .before .before .before .before .before .before .before .before .args .held .now)) (q .used) || someOwner q x (λ y. eqb y 0) (q .used)) (c .before .chain-key .ensures))
 
-shared-slice-read-if1 : tie.Need-shared-slice-read-if1
-shared-slice-read-if1 c = search needs
+-- a candidate that is named is not free
+named-out : (c : tie.After-named-by) (q : Round) → Linked q (q .used) (c .before .before .before .before .before .before .before .before .before .before .args .last .now) (c .before .before .before .before .before .before .before .before .before .before .args .links .now) (c .before .before .before .before .before .before .before .before .before .before .args .owners .now) →
+    names (c .named-by .result) ≡ true → false ≡ free q (c .before .before .before .before .before .before .before .before .before .before .args .barred .now) (c .before .before .before .before .before .before .before .before .before .before .args .held .now) (c .before .before .before .before .before .before .before .before .before .before .args .slot .0) (c .before .before .before .before .before .before .before .before .before .before .args .bidder .0)
+unfolding free
+named-out c q h e =
+    let a = c .before .before .before .before .before .before .before .before .before .before .args in
+    sym
+    (ap (λ (t : Bool). not (isMarked (a .held .now) (a .bidder .0)) && not (t || isBarred (a .barred .now) (a .slot .0) (a .bidder .0)))
+    (named-told c q h ∙ e)
+    ∙ and-false (not (isMarked (a .held .now) (a .bidder .0))))
 
 returns : tie.Need-returns
 unfolding free
-returns c = λ r h.
-    let a = c .before .before .before .before .before .before .before .before .before .args in
-    let p = c .before .before .before .before .before .before .before .before .before .pre .1 in
+returns c = λ q h.
+    let a = c .before .before .before .before .before .before .before .before .args in
     sym
-    (ap (λ (t : Bool). t && not (named r (a .held .now) (standing (a .bidder .0) (a .slot .0)) (r .used)))
-    (entry-open (a .table .now) (a .slot .0) (a .bidder .0) (p .1 .0) (p .0 .0) ∙ ne-eqb (getD (a .table .now) (64 * (a .slot .0 - 1) + (a .bidder .0 - 1)) 0) 0 (c .if1 .taken)))
+    (ap (λ (t : Bool). not t && not (isNamed q (a .held .now) (a .slot .0) (a .bidder .0) || isBarred (a .barred .now) (a .slot .0) (a .bidder .0)))
+    (sym (placed-told (c .before)) ∙ c .if1 .taken))
 
-standing-key-requires : tie.Need-standing-key-requires
-standing-key-requires c κs = search needs
+chain-key-requires : tie.Need-chain-key-requires
+chain-key-requires c κs = search needs
 
-is-named-requires : tie.Need-is-named-requires
-is-named-requires c κs = search needs
+named-by-requires : tie.Need-named-by-requires
+named-by-requires c κs = search needs
+
+enum-told : tie.Need-enum-told
+enum-told c = search needs
+
+enum-told-2 : tie.Need-enum-told-2
+enum-told-2 c = search needs
+
+enum-told-3 : tie.Need-enum-told-3
+enum-told-3 c = search needs
+
+owner-key-requires-2 : tie.Need-owner-key-requires-2
+owner-key-requires-2 c κs = search needs
+
+is-marked-requires-2 : tie.Need-is-marked-requires-2
+is-marked-requires-2 c κs = search needs
+
+is-marked-requires-3 : tie.Need-is-marked-requires-3
+is-marked-requires-3 c κs = search needs
 
 returns-2 : tie.Need-returns-2
+returns-2 c = λ q h. named-out (c .before .before) q h (ap names (c .enum-told .given .1))
+
+returns-3 : tie.Need-returns-3
+returns-3 c = λ q h. named-out (c .before .before) q h (ap names (c .enum-told2 .given .1))
+
+returns-4 : tie.Need-returns-4
 unfolding free
-returns-2 c = λ r h.
-    let a = c .before .before .before .before .before .before .before .before .before .before .before .args in
-    let p = c .before .before .before .before .before .before .before .before .before .before .before .pre .1 in
-    ap not (c .is-named .ensures r h ∙ ap (λ (x : ℕ). named r (a .held .now) x (r .used)) (c .before .standing-key .ensures))
+returns-4 c = λ q h.
+    let a = c .before .before .before .before .before .before .before .before .before .before .before .before .before .before .before .args in
+    let e = c .before .before .before .before .before .before .before .before .before .owner-key .ensures in
+    let any : c .before .before .before .before .before .before .before .before .before .owner-key .result .0 ≡ a .bidder .0 = omega arith in
+    ap₂ (λ (t u : Bool). not (t || u))
+    (c .before .is-marked2 .ensures ∙ ap (isMarked (a .barred .now)) any)
+    (c .is-marked3 .ensures ∙ ap (isMarked (a .barred .now)) (c .before .before .owner-key2 .ensures))
     ∙ sym
-    (ap (λ (t : Bool). t && not (named r (a .held .now) (standing (a .bidder .0) (a .slot .0)) (r .used)))
-    (entry-open (a .table .now) (a .slot .0) (a .bidder .0) (p .1 .0) (p .0 .0) ∙ eq-eqb (getD (a .table .now) (64 * (a .slot .0 - 1) + (a .bidder .0 - 1)) 0) 0 (c .before .before .if1 .left)))
+    (ap₂ (λ (t u : Bool). not t && not (u || isBarred (a .barred .now) (a .slot .0) (a .bidder .0)))
+    (sym (placed-told (c .before .before .before .before .before .before .before .before)) ∙ c .before .before .before .before .before .before .before .if1 .left)
+    (named-told (c .before .before .before .before .before) q h ∙ ap names (c .before .before .before .enum-told3 .given .1)))
 
 pub is-eligible-spec : {M : Type 1} → statement M
 is-eligible-spec =
     tie.close
     (tie.spec
-    cast-l
-    sub-l
-    cast-b
-    sub-b
-    mul-if1
-    add-if1
-    shared-slice-read-if1
+    owner-key-requires
+    is-marked-requires
     returns
-    standing-key-requires
-    is-named-requires
-    returns-2)
+    chain-key-requires
+    named-by-requires
+    enum-told
+    enum-told-2
+    enum-told-3
+    owner-key-requires-2
+    is-marked-requires-2
+    is-marked-requires-3
+    returns-2
+    returns-3
+    returns-4)

@@ -1,28 +1,29 @@
 -- `greedy::next_eligible` meets its contract: the ranked bidders are tried one after the other. Assumes nothing.
 use Prim.Native.Nat.{ℕ, _-_, _<_, _≤_}
-use mathlib.Core.Bool.{false}
+use mathlib.Core.Bool.{Bool, false}
 use mathlib.Core.List.{List}
 use mathlib.Core.Logic.{⊎-elim}
-use mathlib.Core.Path.{_≡_, sym, _∙_, subst}
+use mathlib.Core.Path.{_≡_, sym, _∙_, ap}
 use native.Mathlib.Nat.{eq-or-lt-of-le}
 use native.Mathlib.Omega.{arith}
 use lib.ListN.{getD}
 use Rattle.sheet.specs.declared.Round.{Round}
-use Rattle.greedy.specs.EngineChains.{Chained, free}
+use Rattle.greedy_links.specs.EngineLinks.{Linked}
+use Rattle.greedy.specs.EngineEligible.{free}
 use Rattle.greedy.proofs.next_eligible.Statement.{statement}
 use Rattle.greedy.proofs.next_eligible.Tie as tie
 
--- none of the bidders from `start` to before i is eligible
-record Going (ranked table held last earlier owners : List ℕ) (bidders slot start i : ℕ) : Type 0 where
+-- none of the bidders from `start` to before i is free
+record Going (ranked barred held last links owners : List ℕ) (bidders slot start i : ℕ) : Type 0 where
   low : start ≤ i
   high : i ≤ bidders
-  passed : (r : Round) → Chained r (r .used) last earlier owners → (j : ℕ) → start ≤ j → j < i → free r table held slot (getD ranked j 0) ≡ false
+  passed : (r : Round) → Linked r (r .used) last links owners → (j : ℕ) → start ≤ j → j < i → free r barred held slot (getD ranked j 0) ≡ false
 
 abbrev Inv-loop : tie.InvT-loop
-Inv-loop ranked table held last earlier owners bidders slot start i₀ i = Going ranked table held last earlier owners bidders (slot .0) start i
+Inv-loop ranked barred held last links owners bidders slot start i₀ i = Going ranked barred held last links owners bidders (slot .0) start i
 
 abbrev μ-loop : tie.MeasureT-loop
-μ-loop ranked table held last earlier owners bidders slot start i₀ i = bidders - i
+μ-loop ranked barred held last links owners bidders slot start i₀ i = bidders - i
 
 loop-holds : tie.Need-loop-holds Inv-loop μ-loop
 loop-holds c =
@@ -33,19 +34,25 @@ loop-holds c =
       passed = λ r h j from below. absurd (omega arith);
     }
 
-shared-slice-read-t14 : tie.Need-shared-slice-read-t14 Inv-loop μ-loop
-shared-slice-read-t14 c =
-    let p = c .before .before .before .before .before .before .before .before .before .pre .1 .0 in
-    let below = c .before .loop-test .taken in
+ranked-at-requires : tie.Need-ranked-at-requires Inv-loop μ-loop
+ranked-at-requires c κs =
+    let p = c .before .before .before .before .before .before .before .before .pre .1 .0 in
+    let below = c .loop-test .taken in
     omega arith
 
 is-eligible-requires : tie.Need-is-eligible-requires Inv-loop μ-loop
 is-eligible-requires c κs =
     let p = c .before .before .before .before .before .before .before .before .before .pre in
     let named = p .1 .1 (c .before .before .loop .i) (c .before .loop-test .taken) in
+    let b = c .ranked-at .ensures in
     let few = p .1 .0 .1 in
-    let most = named .1 in
-    (p .0, ((named .0, omega arith), p .1 .0 .3))
+    (p .0, ((omega arith, omega arith), p .1 .0 .3))
+
+-- what is_eligible said of the bidder at this rank
+said : (c : tie.After-is-eligible Inv-loop μ-loop) (r : Round) → Linked r (r .used) (c .before .before .before .before .before .before .before .before .before .before .args .last .now) (c .before .before .before .before .before .before .before .before .before .before .args .links .now) (c .before .before .before .before .before .before .before .before .before .before .args .owners .now) →
+    free r (c .before .before .before .before .before .before .before .before .before .before .args .barred .now) (c .before .before .before .before .before .before .before .before .before .before .args .held .now) (c .before .before .before .before .before .before .before .before .before .before .args .slot .0) (getD (c .before .before .before .before .before .before .before .before .before .before .args .ranked .now) (c .before .before .before .loop .i) 0) ≡ c .is-eligible .result
+said c r h =
+    sym (c .is-eligible .ensures r h ∙ ap (free r (c .before .before .before .before .before .before .before .before .before .before .args .barred .now) (c .before .before .before .before .before .before .before .before .before .before .args .held .now) (c .before .before .before .before .before .before .before .before .before .before .args .slot .0)) (c .before .ranked-at .ensures))
 
 returns : tie.Need-returns Inv-loop μ-loop
 returns c =
@@ -56,7 +63,7 @@ returns c =
             low = v .low;
             high = v .high;
             passed = v .passed r h;
-            here = λ below. sym (c .before .is-eligible .ensures r h) ∙ c .if1 .taken;
+            here = λ below. said (c .before) r h ∙ c .if1 .taken;
           },
     )
 
@@ -68,7 +75,6 @@ add-i c =
 
 loop-less : tie.Need-loop-less Inv-loop μ-loop
 loop-less c =
-    let p = c .before .before .before .before .before .before .before .before .before .before .before .pre .1 .0 in
     let below = c .before .before .before .loop-test .taken in
     omega arith
 
@@ -85,8 +91,7 @@ loop-again c =
       passed = λ r h j from under.
           ⊎-elim
           (λ (e : j ≡ i).
-          subst (λ (z : ℕ). free r (a .table .now) (a .held .now) (a .slot .0) (getD (a .ranked .now) z 0) ≡ false) (sym e)
-          (sym (c .before .is-eligible .ensures r h) ∙ c .if1 .left))
+          ap (λ (z : ℕ). free r (a .barred .now) (a .held .now) (a .slot .0) (getD (a .ranked .now) z 0)) e ∙ said (c .before) r h ∙ c .if1 .left)
           (λ (lt : j < i). v .passed r h j from lt)
           (eq-or-lt-of-le (let s : j ≤ i = omega arith in s));
     }
@@ -112,7 +117,7 @@ next-eligible-spec =
     Inv-loop
     μ-loop
     loop-holds
-    shared-slice-read-t14
+    ranked-at-requires
     is-eligible-requires
     returns
     add-i

@@ -1,15 +1,19 @@
--- `greedy::settle` meets its contract, by whether somebody won the slot. Assumes nothing.
-use mathlib.Core.Path.{sym, _∙_}
-use Rattle.greedy.specs.EngineTable.{openAt}
-use Rattle.greedy.specs.EngineChains.{isHeld}
-use Rattle.greedy.proofs.BarredLaws.{open-nobody, open-somebody}
-use Rattle.greedy.proofs.ChainLaws.{held-nobody, held-somebody}
+-- `greedy::settle` meets its contract: a winner adds the owners along its chain to the one list, and its two keys to the other. Assumes nothing.
+use Prim.Native.Nat.{ℕ}
+use mathlib.Core.Bool.{Bool, _||_}
+use mathlib.Core.Path.{refl, _∙_, ap}
+use lib.Dec.{eqb}
+use Rattle.greedy_links.specs.EngineKeys.{isMarked}
+use Rattle.greedy_links.specs.EngineLinks.{someOwner}
 use borrow.Author.Needs.{needs}
 use Rattle.greedy.proofs.settle.Statement.{statement}
 use Rattle.greedy.proofs.settle.Tie as tie
 
-seat-requires : tie.Need-seat-requires
-seat-requires c κs = search needs
+chain-key-requires : tie.Need-chain-key-requires
+chain-key-requires c κs = search needs
+
+bar-chain-requires : tie.Need-bar-chain-requires
+bar-chain-requires c κs = search needs
 
 hold-requires : tie.Need-hold-requires
 hold-requires c κs = search needs
@@ -21,21 +25,28 @@ same-length-2 : tie.Need-same-length-2
 same-length-2 c = search needs
 
 returns : tie.Need-returns
-returns c =
-    let a = c .before .before .before .before .before .before .before .before .before .before .before .before .before .before .before .args in
-    let some = c .before .before .before .before .before .before .before .before .if1 .taken in (
-      λ r p h l b l-most b-most.
-          c .before .before .before .before .before .before .seat .ensures r p h l b l-most b-most ∙ sym (open-somebody r (a .winner .0) (a .at .0) (openAt (a .table .now) l b) l b some),
-      λ x. c .before .before .hold .ensures x ∙ sym (held-somebody (a .winner .0) (a .at .0) (isHeld (a .held .now) x) x some),
-    )
+returns c = λ q h.
+    record {
+      nobody = λ z. absurd (c .before .before .before .before .before .before .before .before .before .if1 .taken z);
+      somebody = λ s. (
+        c .before .before .hold .ensures,
+        λ y.
+            c .before .before .before .before .before .before .bar-chain .ensures q h y
+            ∙ ap (λ (x : ℕ). isMarked (c .before .before .before .before .before .before .before .before .before .before .before .before .before .before .before .before .args .barred .now) y || someOwner q x (λ z. eqb z y) (q .used)) (c .before .before .before .before .before .before .before .before .chain-key .ensures),
+      );
+    }
 
 returns-2 : tie.Need-returns-2
-returns-2 c =
-    let a = c .before .before .before .before .before .before .before .args in
-    let none = c .if1 .left in (
-      λ r p h l b l-most b-most. sym (open-nobody r (a .winner .0) (a .at .0) (openAt (a .table .now) l b) l b none),
-      λ x. sym (held-nobody (a .winner .0) (a .at .0) (isHeld (a .held .now) x) x none),
-    )
+returns-2 c = λ q h. record { nobody = λ z. (refl, refl); somebody = λ s. absurd (s (c .if1 .left)) }
 
 pub settle-spec : {M : Type 1} → statement M
-settle-spec = tie.close (tie.spec seat-requires hold-requires same-length same-length-2 returns returns-2)
+settle-spec =
+    tie.close
+    (tie.spec
+    chain-key-requires
+    bar-chain-requires
+    hold-requires
+    same-length
+    same-length-2
+    returns
+    returns-2)

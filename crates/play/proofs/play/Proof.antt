@@ -1,8 +1,7 @@
--- `play::play` meets its contract, by the cases of the call; a played round is read, filled and written by its own functions.
--- Assumes nothing.
+-- `play::play` meets its contract, by the cases of the call; an accepted sheet is played and written by its own functions. Assumes nothing.
 use Prim.Native.Nat.{ℕ, suc, _*_, _<_, _≤_}
 use mathlib.Core.List.{List, _++_}
-use mathlib.Core.Path.{_≡_, sym, _∙_, ap, subst}
+use mathlib.Core.Path.{_≡_, sym, _∙_, ap}
 use native.Mathlib.Omega.{arith}
 use lib.ListN.{length, drop}
 use Rattle.basis.specs.Rows.{joined}
@@ -10,12 +9,13 @@ use Rattle.basis.proofs.RowLaws.{length-padded}
 use Rattle.sheet.specs.declared.Round.{Round}
 use Rattle.sheet.specs.Refusal.{Accepted}
 use Rattle.sheet.specs.Round.{roundOf}
-use Rattle.sheet_read.proofs.ReadingLaws.{read-number, read-round}
 use Rattle.sheet.specs.Proper.{ProperRound}
+use Rattle.sheet.proofs.AcceptedLaws.{accepted-sheet}
 use Rattle.sheet.proofs.RoundLaws.{round-proper}
+use Rattle.auction.specs.Page.{at}
 use Rattle.auction.specs.Greedy.{greedyPage}
 use Rattle.auction.specs.Price.{price}
-use Rattle.auction.proofs.GreedyLaws.{upTo-sized}
+use Rattle.auction.proofs.GreedyLaws.{upTo-sized, upTo-bidders}
 use Rattle.greedy.specs.declared.Outcome.{Outcome}
 use Rattle.greedy.specs.EngineOutcome.{outcomeOf}
 use Rattle.play.specs.Play.{playedBuffer}
@@ -25,59 +25,50 @@ use borrow.Author.Needs.{needs}
 use Rattle.play.proofs.play.Statement.{statement}
 use Rattle.play.proofs.play.Tie as tie
 
--- a played round has a page of 16 slots and as many prices
-outcome-sized : (r : Round) (o : Outcome) → ProperRound r → o ≡ outcomeOf r → (length (o .page .bidders) ≡ 16) × (length (o .prices) ≡ 16)
+-- a played round has a page of 16 slots, as many prices, and bidders whose numbers fit a byte
+outcome-fits : (r : Round) (o : Outcome) → ProperRound r → o ≡ outcomeOf r →
+    (length (o .page .bidders) ≡ 16) × (length (o .prices) ≡ 16) × ((k : ℕ) → at (o .page) k < 256)
 unfolding outcomeOf greedyPage
-outcome-sized r o c e = (
+outcome-fits r o c e = (
   ap (λ (x : Outcome). length (x .page .bidders)) e ∙ upTo-sized r (r .slots),
   ap (λ (x : Outcome). length (x .prices)) e ∙ length-padded (λ i. price r (suc i)) (r .slots) 16 0 (c .most-slots),
+  λ k.
+      let here = ap (λ (x : Outcome). at (x .page) k) e in
+      let most = upTo-bidders r (r .slots) k in
+      let many = c .most-bidders in
+      omega arith,
 )
 
-read-requires : tie.Need-read-requires
-read-requires c κs = search needs
+check-requires : tie.Need-check-requires
+check-requires c κs = search needs
 
 returns : tie.Need-returns
-returns c =
-    let s = c .before .before .before .before .args .sheet .now in
-    sheet-refused s (c .before .before .before .before .args .result .now) _ (read-number s (c .before .read .result) (c .before .read .ensures)) (c .if1 .taken)
+returns c = sheet-refused (c .before .before .before .before .args .sheet .now) (c .before .before .before .before .args .result .now) _ (c .before .check .ensures) (c .if1 .taken)
+
+-- past the check the sheet is accepted
+accepted : (c : tie.Else1) → Accepted (c .before .before .before .before .args .sheet .now)
+accepted c = sym (c .before .check .ensures) ∙ c .if1 .left
+
+shared-slice-read-slots : tie.Need-shared-slice-read-slots
+shared-slice-read-slots c = let known = accepted-sheet _ (accepted (c .before)) .counts in omega arith
+
+cast-slots : tie.Need-cast-slots
+cast-slots c = let known = accepted-sheet _ (accepted (c .before)) .counts in omega arith
 
 mul-if2 : tie.Need-mul-if2
-mul-if2 c =
-    let s = c .before .before .before .before .before .args .sheet .now in
-    let ok : Accepted s = sym (read-number s (c .before .before .read .result) (c .before .before .read .ensures)) ∙ c .before .if1 .left in
-    let round = read-round s (c .before .before .read .result) ok (c .before .before .read .ensures) in
-    let proper = round-proper s ok in
-    let few = proper .most-slots in
-    let same = ap (λ (r : Round). r .slots) round in
-    omega arith
+mul-if2 c = let known = accepted-sheet _ (accepted (c .before)) .counts in omega arith
 
 returns-2 : tie.Need-returns-2
-unfolding roundOf
-returns-2 c =
-    let s = c .before .before .before .before .before .before .args .sheet .now in
-    let ok : Accepted s = sym (read-number s (c .before .before .before .read .result) (c .before .before .before .read .ensures)) ∙ c .before .before .if1 .left in
-    let round = read-round s (c .before .before .before .read .result) ok (c .before .before .before .read .ensures) in
-    let proper = round-proper s ok in
-    buffer-short s (c .before .before .before .before .before .before .args .result .now) ok (subst (λ (r : Round). length (c .before .before .before .before .before .before .args .result .now) < 5 * r .slots) round (c .if2 .taken))
+returns-2 c = buffer-short (c .before .before .before .before .before .before .args .sheet .now) (c .before .before .before .before .before .before .args .result .now) (accepted (c .before .before)) (c .if2 .taken)
 
 played-requires : tie.Need-played-requires
-played-requires c κs =
-    let s = c .before .before .before .before .before .before .args .sheet .now in
-    let ok : Accepted s = sym (read-number s (c .before .before .before .read .result) (c .before .before .before .read .ensures)) ∙ c .before .before .if1 .left in
-    let round = read-round s (c .before .before .before .read .result) ok (c .before .before .before .read .ensures) in
-    let proper = round-proper s ok in
-    subst ProperRound (sym round) proper
+played-requires c κs = accepted (c .before .before)
 
 write-result-requires : tie.Need-write-result-requires
 write-result-requires c κs =
-    let s = c .before .before .before .before .before .before .before .before .args .sheet .now in
-    let ok : Accepted s = sym (read-number s (c .before .before .before .before .before .read .result) (c .before .before .before .before .before .read .ensures)) ∙ c .before .before .before .before .if1 .left in
-    let round = read-round s (c .before .before .before .before .before .read .result) ok (c .before .before .before .before .before .read .ensures) in
-    let proper = round-proper s ok in
-    let few = proper .most-slots in
-    let same = ap (λ (r : Round). r .slots) round in
-    let sizes = outcome-sized _ (c .before .played .result) (subst ProperRound (sym round) proper) (c .before .played .ensures) in
-    ((omega arith, c .before .before .if2 .left), sizes)
+    let ok = accepted (c .before .before .before .before) in
+    let known = accepted-sheet _ ok .counts in
+    ((omega arith, c .before .before .if2 .left), outcome-fits _ (c .before .played .result) (round-proper _ ok) (c .before .played .ensures))
 
 same-length : tie.Need-same-length
 same-length c = search needs
@@ -86,23 +77,21 @@ returns-3 : tie.Need-returns-3
 unfolding roundOf playedBuffer
 returns-3 c =
     let s = c .before .before .before .before .before .before .before .before .before .before .before .args .sheet .now in
-    let ok : Accepted s = sym (read-number s (c .before .before .before .before .before .before .before .before .read .result) (c .before .before .before .before .before .before .before .before .read .ensures)) ∙ c .before .before .before .before .before .before .before .if1 .left in
-    let round = read-round s (c .before .before .before .before .before .before .before .before .read .result) ok (c .before .before .before .before .before .before .before .before .read .ensures) in
-    let proper = round-proper s ok in
     let out = c .before .before .before .before .before .before .before .before .before .before .before .args .result .now in
-    let r = c .before .before .before .before .before .before .before .before .read .result .round in
-    round-played s out _ ok (subst (λ (x : Round). 5 * x .slots ≤ length out) round (c .before .before .before .before .before .if2 .left))
+    let r = roundOf s in
+    round-played s out _ (accepted (c .before .before .before .before .before .before .before)) (c .before .before .before .before .before .if2 .left)
     (c .before .before .write-result .ensures
     ∙ ap (λ (o : Outcome). joined (entryIn o) (r .slots) ++ drop (5 * r .slots) out) (c .before .before .before .before .played .ensures)
-    ∙ ap (λ (l : List ℕ). l ++ drop (5 * r .slots) out) (entries-same r)
-    ∙ ap (λ (x : Round). playedBuffer x out) round)
+    ∙ ap (λ (l : List ℕ). l ++ drop (5 * r .slots) out) (entries-same r))
 
 pub play-spec : {M : Type 1} → statement M
 play-spec =
     tie.close
     (tie.spec
-    read-requires
+    check-requires
     returns
+    shared-slice-read-slots
+    cast-slots
     mul-if2
     returns-2
     played-requires

@@ -12,6 +12,7 @@ use Rattle.basis.specs.Rows.{joined}
 use Rattle.basis.proofs.BytesLaws.{length-bytes32}
 use Rattle.basis.proofs.RowLaws.{joined-none, joined-next}
 use Rattle.sheet.specs.Round.{bidder}
+use Rattle.auction.specs.Page.{at}
 use Rattle.greedy.specs.declared.Outcome.{Outcome}
 use Rattle.play.specs.EngineEntries.{entryIn}
 use Rattle.play.proofs.write_result.Statement.{statement}
@@ -36,15 +37,22 @@ abbrev μ-loop : tie.MeasureT-loop
 loop-holds : tie.Need-loop-holds Inv-loop μ-loop
 loop-holds c = record { some = omega arith; size = refl; front = joined-none (entryIn (c .before .before .before .args .outcome)) 5 (length-entry (c .before .before .before .args .outcome)) _ }
 
+mul-winner : tie.Need-mul-winner Inv-loop μ-loop
+mul-winner c = omega arith
+
 element-copy-out-winner : tie.Need-element-copy-out-winner Inv-loop μ-loop
 element-copy-out-winner c = omega arith
+
+cast-result : tie.Need-cast-result Inv-loop μ-loop
+unfolding at
+cast-result c = let low = c .before .before .before .before .before .before .before .pre .1 .2 (suc (c .before .before .before .loop .k)) in omega arith
 
 mul-result : tie.Need-mul-result Inv-loop μ-loop
 mul-result c = omega arith
 
 slice-write-result : tie.Need-slice-write-result Inv-loop μ-loop
 slice-write-result c =
-    let v = c .before .before .loop .inv in
+    let v = c .before .before .before .loop .inv in
     omega arith
 
 mul-put-word32 : tie.Need-mul-put-word32 Inv-loop μ-loop
@@ -61,7 +69,7 @@ array-read-put-word32 c = omega arith
 
 put-word32-requires : tie.Need-put-word32-requires Inv-loop μ-loop
 put-word32-requires c κs =
-    let v = c .before .before .before .loop .inv in
+    let v = c .before .before .before .before .loop .inv in
     simp length-set (omega arith)
 
 add-k : tie.Need-add-k Inv-loop μ-loop
@@ -73,19 +81,19 @@ loop-less c = omega arith
 loop-again : tie.Need-loop-again Inv-loop μ-loop
 unfolding entryIn
 loop-again c =
-    let v = c .before .before .before .before .before .before .loop .inv in
-    let o = c .before .before .before .before .before .before .before .before .before .before .args .outcome in
-    let k = c .before .before .before .before .before .before .loop .k in
-    let room : 5 * suc k ≤ length (c .before .before .before .before .before .before .before .before .before .before .args .result .now) = omega (arith, mul-suc 5 k) in
+    let v = c .before .before .before .before .before .before .before .loop .inv in
+    let o = c .before .before .before .before .before .before .before .before .before .before .before .args .outcome in
+    let k = c .before .before .before .before .before .before .before .loop .k in
+    let room : 5 * suc k ≤ length (c .before .before .before .before .before .before .before .before .before .before .before .args .result .now) = omega (arith, mul-suc 5 k) in
     record {
       some = omega arith;
-      size = c .before .before .put-word32 .kept .0 ∙ length-set (c .before .before .before .before .before .before .loop .result) (5 * k) (getD (o .page .bidders) k (bidder 0) .0) ∙ v .size;
+      size = c .before .before .put-word32 .kept .0 ∙ length-set (c .before .before .before .before .before .before .before .loop .result) (5 * k) (getD (o .page .bidders) k (bidder 0) .0) ∙ v .size;
       front =
           c .before .before .put-word32 .ensures
-          ∙ ap (λ (n : ℕ). sets (set (c .before .before .before .before .before .before .loop .result) (5 * k) (getD (o .page .bidders) k (bidder 0) .0)) n (bytes32 (getD (o .prices) k 0))) (add-one (5 * k))
+          ∙ ap (λ (n : ℕ). sets (set (c .before .before .before .before .before .before .before .loop .result) (5 * k) (getD (o .page .bidders) k (bidder 0) .0)) n (bytes32 (getD (o .prices) k 0))) (add-one (5 * k))
           ∙ ap (λ (l : List ℕ). sets l (5 * k) (entryIn o k)) (v .front)
-          ∙ joined-next (entryIn o) 5 (length-entry o) k (c .before .before .before .before .before .before .before .before .before .before .args .result .now) room
-          ∙ ap (λ (n : ℕ). joined (entryIn o) n ++ drop (5 * n) (c .before .before .before .before .before .before .before .before .before .before .args .result .now)) (sym (add-one k));
+          ∙ joined-next (entryIn o) 5 (length-entry o) k (c .before .before .before .before .before .before .before .before .before .before .before .args .result .now) room
+          ∙ ap (λ (n : ℕ). joined (entryIn o) n ++ drop (5 * n) (c .before .before .before .before .before .before .before .before .before .before .before .args .result .now)) (sym (add-one k));
     }
 
 same-length : tie.Need-same-length Inv-loop μ-loop
@@ -104,7 +112,9 @@ write-result-spec =
     Inv-loop
     μ-loop
     loop-holds
+    mul-winner
     element-copy-out-winner
+    cast-result
     mul-result
     slice-write-result
     mul-put-word32

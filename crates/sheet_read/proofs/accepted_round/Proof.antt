@@ -1,108 +1,169 @@
--- `sheet_read::accepted_round` meets its contract: acceptance keeps each read within the sheet, and each field is its reader's.
--- Assumes nothing.
-use Prim.Native.Nat.{ℕ}
-use mathlib.Core.Path.{_∙_, ap}
+-- `sheet_read::accepted_round` meets its contract: acceptance keeps each read within the sheet, the effects and the bids are their readers',
+-- and after k turns the constraints are the row of the first k with blanks after it. Assumes nothing.
+use Prim.Native.Nat.{ℕ, suc, _-_, _<_, _≤_}
+use mathlib.Core.List.{List}
+use mathlib.Core.Path.{_≡_, refl, sym, _∙_, ap}
+use native.Mathlib.Nat.{le-antisymm}
+use native.Mathlib.Numerals.{add-one}
 use native.Mathlib.Omega.{arith}
+use borrow.Author.Needs.{needs}
+use lib.ListN.{replicate, set}
+use Rattle.basis.specs.Bytes.{byteAt}
 use Rattle.basis.specs.Rows.{padded}
-use Rattle.sheet.specs.Sheet.{bidderCount, slotCount}
+use Rattle.basis.proofs.RowLaws.{padded-none, padded-next}
+use Rattle.sheet.specs.declared.Constraint.{Constraint}
+use Rattle.sheet.specs.declared.Round.{Round}
+use Rattle.sheet.specs.Sheet.{bidderCount, slotCount, constraintCount, effectField, bidField}
 use Rattle.sheet.specs.Round.{blank, constraintField, roundOf}
 use Rattle.sheet.proofs.AcceptedLaws.{accepted-sheet}
-use borrow.Author.Needs.{needs}
+use Rattle.sheet_read.proofs.WordLaws.{word-constraint}
 use Rattle.sheet_read.proofs.accepted_round.Statement.{statement}
 use Rattle.sheet_read.proofs.accepted_round.Tie as tie
 
-shared-slice-read-bidders : tie.Need-shared-slice-read-bidders
-shared-slice-read-bidders c =
-    let s = c .before .before .args .sheet .now in
-    let known = accepted-sheet s (c .before .before .pre) .counts in
-    omega arith
-
-cast-bidders : tie.Need-cast-bidders
-cast-bidders c =
-    let s = c .before .before .args .sheet .now in
-    let known = accepted-sheet s (c .before .before .pre) .counts in
-    omega arith
-
-shared-slice-read-slots : tie.Need-shared-slice-read-slots
-shared-slice-read-slots c =
-    let s = c .before .before .before .args .sheet .now in
-    let known = accepted-sheet s (c .before .before .before .pre) .counts in
-    omega arith
-
-cast-slots : tie.Need-cast-slots
-cast-slots c =
-    let s = c .before .before .before .args .sheet .now in
-    let known = accepted-sheet s (c .before .before .before .pre) .counts in
-    omega arith
-
-word16-requires : tie.Need-word16-requires
-word16-requires c κs =
-    let s = c .before .before .before .args .sheet .now in
-    let known = accepted-sheet s (c .before .before .before .pre) .counts in
-    omega arith
-
-cast-used : tie.Need-cast-used
-cast-used c = search needs
-
-mul-bids-start : tie.Need-mul-bids-start
-mul-bids-start c =
-    let s = c .before .before .before .before .args .sheet .now in
-    let known = accepted-sheet s (c .before .before .before .before .pre) .counts in
-    omega arith
-
-add-bids-start : tie.Need-add-bids-start
-add-bids-start c =
-    let s = c .before .before .before .before .args .sheet .now in
-    let known = accepted-sheet s (c .before .before .before .before .pre) .counts in
-    omega arith
-
-mul-constraints-start : tie.Need-mul-constraints-start
-mul-constraints-start c =
-    let s = c .before .before .before .before .args .sheet .now in
-    let known = accepted-sheet s (c .before .before .before .before .pre) .counts in
-    omega arith
-
-add-constraints-start : tie.Need-add-constraints-start
-add-constraints-start c =
-    let s = c .before .before .before .before .args .sheet .now in
-    let known = accepted-sheet s (c .before .before .before .before .pre) .counts in
-    omega arith
-
-read-effects-requires : tie.Need-read-effects-requires
-read-effects-requires c κs =
-    let s = c .before .before .before .before .args .sheet .now in
-    let known = accepted-sheet s (c .before .before .before .before .pre) .counts in
-    omega arith
-
-read-bids-requires : tie.Need-read-bids-requires
-read-bids-requires c κs =
-    let s = c .before .before .before .before .before .args .sheet .now in
-    let known = accepted-sheet s (c .before .before .before .before .before .pre) .counts in
-    omega arith
-
-read-constraints-requires : tie.Need-read-constraints-requires
-read-constraints-requires c κs =
-    let s = c .before .before .before .before .before .before .args .sheet .now in
-    let known = accepted-sheet s (c .before .before .before .before .before .before .pre) .counts in
-    omega arith
-
-returns : tie.Need-returns
-unfolding roundOf
-returns c =
-    let s = c .before .before .before .before .before .before .before .args .sheet .now in
-    λ i. record {
+-- the sheet's round but for its constraints
+abbrev roundWith : List ℕ → List Constraint → Round
+roundWith s constraints =
+    record {
       bidders = bidderCount s;
       slots = slotCount s;
-      used = (c .before .before .before .word16 .ensures .0) i;
-      effects = (c .before .before .read-effects .ensures) i;
-      bids = (c .before .read-bids .ensures) i;
-      constraints = (c .read-constraints .ensures ∙ ap (λ (n : ℕ). padded (constraintField s) n 1024 blank) (c .before .before .before .word16 .ensures .0)) i;
+      used = constraintCount s;
+      effects = padded (λ k. effectField s (suc k)) (slotCount s) 16 0;
+      bids = padded (λ i. bidField s (suc i)) (bidderCount s) 64 0;
+      constraints = constraints;
     }
+
+-- the round whose first k constraints are read
+abbrev readTo : List ℕ → ℕ → Round
+readTo s k = roundWith s (padded (constraintField s) k 1024 blank)
+
+-- one more constraint read and stored
+one-more : (s : List ℕ) (k : ℕ) (q : Constraint) → k < 1024 → q ≡ constraintField s k →
+    roundWith s (set (padded (constraintField s) k 1024 blank) k q) ≡ readTo s (suc k)
+one-more s k q l e =
+    ap (λ (x : Constraint). roundWith s (set (padded (constraintField s) k 1024 blank) k x)) e
+    ∙ ap (roundWith s) (padded-next (constraintField s) k 1024 blank l)
+
+abbrev Inv-loop : tie.InvT-loop
+Inv-loop sheet bidders slots used bids-start constraints-start round₀ k₀ round k =
+    (k ≤ used) × (round ≡ readTo sheet k)
+
+abbrev μ-loop : tie.MeasureT-loop
+μ-loop sheet bidders slots used bids-start constraints-start round₀ k₀ round k = used - k
+
+shared-slice-read-bidders : tie.Need-shared-slice-read-bidders Inv-loop μ-loop
+shared-slice-read-bidders c = omega (arith, accepted-sheet _ (c .before .before .pre) .counts)
+
+cast-bidders : tie.Need-cast-bidders Inv-loop μ-loop
+cast-bidders c = omega (arith, accepted-sheet _ (c .before .before .pre) .counts)
+
+shared-slice-read-slots : tie.Need-shared-slice-read-slots Inv-loop μ-loop
+shared-slice-read-slots c = omega (arith, accepted-sheet _ (c .before .before .before .pre) .counts)
+
+cast-slots : tie.Need-cast-slots Inv-loop μ-loop
+cast-slots c = omega (arith, accepted-sheet _ (c .before .before .before .pre) .counts)
+
+word16-requires : tie.Need-word16-requires Inv-loop μ-loop
+word16-requires c κs = omega (arith, accepted-sheet _ (c .before .before .before .pre) .counts)
+
+cast-used : tie.Need-cast-used Inv-loop μ-loop
+cast-used c = search needs
+
+mul-bids-start : tie.Need-mul-bids-start Inv-loop μ-loop
+mul-bids-start c = omega (arith, accepted-sheet _ (c .before .before .before .before .pre) .counts)
+
+add-bids-start : tie.Need-add-bids-start Inv-loop μ-loop
+add-bids-start c = omega (arith, accepted-sheet _ (c .before .before .before .before .pre) .counts)
+
+mul-constraints-start : tie.Need-mul-constraints-start Inv-loop μ-loop
+mul-constraints-start c = omega (arith, accepted-sheet _ (c .before .before .before .before .pre) .counts)
+
+add-constraints-start : tie.Need-add-constraints-start Inv-loop μ-loop
+add-constraints-start c = omega (arith, accepted-sheet _ (c .before .before .before .before .pre) .counts)
+
+read-effects-requires : tie.Need-read-effects-requires Inv-loop μ-loop
+read-effects-requires c κs = omega (arith, accepted-sheet _ (c .before .before .before .before .pre) .counts)
+
+read-bids-requires : tie.Need-read-bids-requires Inv-loop μ-loop
+read-bids-requires c κs = omega (arith, accepted-sheet _ (c .before .before .before .before .before .pre) .counts)
+
+blank-constraint-requires : tie.Need-blank-constraint-requires Inv-loop μ-loop
+blank-constraint-requires c κs = search needs
+
+loop-holds : tie.Need-loop-holds Inv-loop μ-loop
+loop-holds c =
+    let s = c .before .before .before .before .before .before .before .args .sheet .now in (
+      omega arith,
+      λ i. record {
+        bidders = bidderCount s;
+        slots = slotCount s;
+        used = (c .before .before .before .word16 .ensures .0) i;
+        effects = (c .before .before .read-effects .ensures) i;
+        bids = (c .before .read-bids .ensures) i;
+        constraints = (ap (replicate 1024) (c .blank-constraint .ensures) ∙ sym (padded-none (constraintField s) 1024 blank)) i;
+      },
+    )
+
+mul-word32 : tie.Need-mul-word32 Inv-loop μ-loop
+mul-word32 c = omega (arith, accepted-sheet _ (c .before .before .before .before .before .before .before .before .before .pre) .counts)
+
+add-word32 : tie.Need-add-word32 Inv-loop μ-loop
+add-word32 c = omega (arith, accepted-sheet _ (c .before .before .before .before .before .before .before .before .before .pre) .counts)
+
+word32-requires : tie.Need-word32-requires Inv-loop μ-loop
+word32-requires c κs = omega (arith, accepted-sheet _ (c .before .before .before .before .before .before .before .before .before .pre) .counts)
+
+cast-kind-of : tie.Need-cast-kind-of Inv-loop μ-loop
+cast-kind-of c = search needs
+
+cast-kind-of-2 : tie.Need-cast-kind-of-2 Inv-loop μ-loop
+cast-kind-of-2 c = search needs
+
+cast-kind-of-3 : tie.Need-cast-kind-of-3 Inv-loop μ-loop
+cast-kind-of-3 c = search needs
+
+kind-of-requires : tie.Need-kind-of-requires Inv-loop μ-loop
+kind-of-requires c κs = search needs
+
+cast-t31 : tie.Need-cast-t31 Inv-loop μ-loop
+cast-t31 c = search needs
+
+mul-t21 : tie.Need-mul-t21 Inv-loop μ-loop
+mul-t21 c = omega (arith, accepted-sheet _ (c .before .before .before .before .before .before .before .before .before .before .before .pre) .counts)
+
+element-set-from-round : tie.Need-element-set-from-round Inv-loop μ-loop
+element-set-from-round c = omega (arith, accepted-sheet _ (c .before .before .before .before .before .before .before .before .before .before .before .pre) .counts)
+
+add-k : tie.Need-add-k Inv-loop μ-loop
+add-k c = omega arith
+
+loop-less : tie.Need-loop-less Inv-loop μ-loop
+loop-less c = omega arith
+
+loop-again : tie.Need-loop-again Inv-loop μ-loop
+loop-again c =
+    let start = c .before .before .before .before .before .before .before .before .before .before .before in
+    let s = start .args .sheet .now in
+    let k = c .before .before .before .loop .k in
+    let counts = accepted-sheet s (start .pre) .counts in
+    let low : (i : ℕ) → byteAt s i < 256 = λ i. omega (arith, c .before .before .before .before .before .before .before .before .before .before .shared-slice-known .given i) in
+    let read = word-constraint s low _ _ k _ refl (c .before .word32 .ensures) (c .kind-of .ensures) in (
+      omega arith,
+      rw (c .before .before .before .loop .inv .1, add-one k) (one-more s k _ (omega arith) read),
+    )
+
+returns : tie.Need-returns Inv-loop μ-loop
+unfolding roundOf
+returns c =
+    let v = c .before .loop .inv in
+    let s = c .before .before .before .before .before .before .before .before .before .args .sheet .now in
+    v .1 ∙ ap (readTo s) (le-antisymm (v .0) (c .loop-test .left) ∙ c .before .before .before .before .before .word16 .ensures .0)
 
 pub accepted-round-spec : {M : Type 1} → statement M
 accepted-round-spec =
     tie.close
     (tie.spec
+    Inv-loop
+    μ-loop
     shared-slice-read-bidders
     cast-bidders
     shared-slice-read-slots
@@ -115,5 +176,19 @@ accepted-round-spec =
     add-constraints-start
     read-effects-requires
     read-bids-requires
-    read-constraints-requires
+    blank-constraint-requires
+    loop-holds
+    mul-word32
+    add-word32
+    word32-requires
+    cast-kind-of
+    cast-kind-of-2
+    cast-kind-of-3
+    kind-of-requires
+    cast-t31
+    mul-t21
+    element-set-from-round
+    add-k
+    loop-less
+    loop-again
     returns)

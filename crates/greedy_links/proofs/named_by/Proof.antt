@@ -1,0 +1,192 @@
+-- `greedy_links::named_by` meets its contract: each turn asks for the owner of one link, and goes to the one before it in the chain. Assumes nothing.
+use Prim.Native.Nat.{ℕ, _-_, _<_, _≤_}
+use mathlib.Core.Bool.{Bool, true, false, _||_, or-false}
+use mathlib.Core.List.{List}
+use mathlib.Core.Path.{_≡_, sym, _∙_, ap, ap₂}
+use native.Mathlib.Omega.{arith}
+use lib.Dec.{eqb}
+use lib.ListN.{length, getD}
+use Rattle.basis.proofs.TestLaws.{or-assoc}
+use Rattle.greedy_links.specs.EngineKeys.{isMarked}
+use Rattle.greedy_links.specs.EngineLinks.{someOwner, namedFor}
+use Rattle.greedy_links.proofs.LinkLaws.{Whichever, Walking, walk-start, all-from-last, link-fits, walk-next, one-then-rest, none-left}
+use borrow.Author.Needs.{needs}
+use Rattle.greedy_links.proofs.named_by.Statement.{statement}
+use Rattle.greedy_links.proofs.named_by.Tie as tie
+
+-- on the way along the chain: no owner that stands where its link says was met, and `own` says whether a link was met that is always so
+record Going (held last links owners : List ℕ) (chain next : ℕ) (own : Bool) : Type 0 where
+  walks : Whichever last links owners (λ r. Walking r chain next)
+  left : Whichever last links owners (λ r. someOwner r chain (isMarked held) (r .used) ≡ someOwner r chain (isMarked held) next)
+  itself : Whichever last links owners (λ r. someOwner r chain (λ y. eqb y 0) (r .used) ≡ (own || someOwner r chain (λ y. eqb y 0) next))
+
+abbrev Inv-loop : tie.InvT-loop
+Inv-loop held last links owners at next₀ own₀ next own = Going held last links owners at next own
+
+abbrev μ-loop : tie.MeasureT-loop
+μ-loop held last links owners at next₀ own₀ next own = next
+
+chain-index-requires : tie.Need-chain-index-requires Inv-loop μ-loop
+chain-index-requires c κs = search needs
+
+mul-next : tie.Need-mul-next Inv-loop μ-loop
+mul-next c =
+    let p = c .before .before .before .before .before .pre .1 in
+    let e = c .chain-index .ensures in
+    omega arith
+
+shared-slice-read-next : tie.Need-shared-slice-read-next Inv-loop μ-loop
+shared-slice-read-next c =
+    let p = c .before .before .before .before .before .before .pre .1 in
+    let e = c .before .chain-index .ensures in
+    let s = c .before .before .before .before .before .before .pre .2 .1 .sized-last in
+    omega arith
+
+cast-next : tie.Need-cast-next Inv-loop μ-loop
+cast-next c = omega (arith, c .shared-slice-known5 .given (c .before .chain-index .result))
+
+-- the chain is one of those that are kept
+chain-most : (c : tie.After-chain-index Inv-loop μ-loop) → c .chain-index .result ≤ 1088
+chain-most c =
+    let e = c .chain-index .ensures in
+    let p = c .before .before .before .before .before .pre .1 in
+    omega arith
+
+-- where the walk stands: its link and what the link says are within the lists
+here : (c : tie.In-loop Inv-loop μ-loop) →
+    (c .before .loop .next - 1 < 1024)
+    × (getD (c .before .before .before .before .before .before .before .before .args .owners .now) (c .before .loop .next - 1) 0 ≤ 1088)
+    × (getD (c .before .before .before .before .before .before .before .before .args .links .now) (c .before .loop .next - 1) 0 ≤ c .before .loop .next - 1)
+here c =
+    let p = c .before .before .before .before .before .before .before .before .pre .2 in
+    let next = c .before .loop .next in
+    let going = c .loop-test .taken in
+    link-fits (p .0) _ _ _ _ (chain-most (c .before .before .before)) (p .1) next (next - 1) (omega arith) (c .before .loop .inv .walks (p .0) (p .1))
+
+loop-holds : tie.Need-loop-holds Inv-loop μ-loop
+loop-holds c =
+    record {
+      walks = λ r h. walk-start r (c .before .chain-index .result) _ _ _ (chain-most (c .before)) h;
+      left = λ r h. all-from-last r (c .before .chain-index .result) _ _ _ (chain-most (c .before)) h (isMarked (c .before .before .before .before .before .before .args .held .now));
+      itself = λ r h. all-from-last r (c .before .chain-index .result) _ _ _ (chain-most (c .before)) h (λ y. eqb y 0);
+    }
+
+sub-owner-at : tie.Need-sub-owner-at Inv-loop μ-loop
+sub-owner-at c = let going = c .loop-test .taken in omega arith
+
+owner-at-requires : tie.Need-owner-at-requires Inv-loop μ-loop
+owner-at-requires c κs = let s = c .before .before .before .before .before .before .before .before .pre .2 .1 .sized-owners in omega (arith, here c)
+
+is-marked-requires : tie.Need-is-marked-requires Inv-loop μ-loop
+is-marked-requires c κs =
+    let s = c .before .before .before .before .before .before .before .before .before .pre .0 in
+    let e = c .owner-at .ensures in
+    omega (arith, here (c .before))
+
+returns : tie.Need-returns Inv-loop μ-loop
+unfolding namedFor
+returns c = λ r h.
+    let a = c .before .before .before .before .before .before .before .before .before .before .before .args in
+    let v = c .before .before .before .before .loop .inv in
+    let next = c .before .before .before .before .loop .next in
+    let going = c .before .before .before .loop-test .taken in
+    let x = c .before .before .before .before .before .before .chain-index .result in
+    sym
+    (ap (λ (y : ℕ). namedFor (someOwner r y (isMarked (a .held .now)) (r .used)) (someOwner r y (λ z. eqb z 0) (r .used))) (sym (c .before .before .before .before .before .before .chain-index .ensures))
+    ∙ ap (λ (t : Bool). namedFor t (someOwner r x (λ z. eqb z 0) (r .used)))
+    (v .left r h
+    ∙ one-then-rest r x _ _ _ (chain-most (c .before .before .before .before .before .before)) h next (next - 1) (omega arith) (v .walks r h) (isMarked (a .held .now))
+    ∙ ap (λ (t : Bool). t || someOwner r x (isMarked (a .held .now)) (getD (a .links .now) (next - 1) 0))
+    (ap (isMarked (a .held .now)) (sym (c .before .before .owner-at .ensures)) ∙ sym (c .before .is-marked .ensures) ∙ c .if1 .taken)))
+
+is-always-so-requires : tie.Need-is-always-so-requires Inv-loop μ-loop
+is-always-so-requires c κs = search needs
+
+sub-next : tie.Need-sub-next Inv-loop μ-loop
+sub-next c = let going = c .before .before .before .before .loop-test .taken in omega arith
+
+mul-next-2 : tie.Need-mul-next-2 Inv-loop μ-loop
+mul-next-2 c = omega (arith, here (c .before .before .before .before))
+
+shared-slice-read-next-2 : tie.Need-shared-slice-read-next-2 Inv-loop μ-loop
+shared-slice-read-next-2 c = let s = c .before .before .before .before .before .before .before .before .before .before .before .before .before .pre .2 .1 .sized-links in omega (arith, here (c .before .before .before .before .before))
+
+cast-next-2 : tie.Need-cast-next-2 Inv-loop μ-loop
+cast-next-2 c = omega (arith, here (c .before .before .before .before .before))
+
+loop-less : tie.Need-loop-less Inv-loop μ-loop
+loop-less c = let going = c .before .before .before .before .before .loop-test .taken in omega (arith, here (c .before .before .before .before .before))
+
+loop-again : tie.Need-loop-again Inv-loop μ-loop
+loop-again c =
+    let a = c .before .before .before .before .before .before .before .before .before .before .before .before .before .args in
+    let v = c .before .before .before .before .before .before .loop .inv in
+    let own = c .before .before .before .before .before .before .loop .own in
+    let next = c .before .before .before .before .before .before .loop .next in
+    let going = c .before .before .before .before .before .loop-test .taken in
+    let x = c .before .before .before .before .before .before .before .before .chain-index .result in
+    let most = chain-most (c .before .before .before .before .before .before .before .before) in
+    let earlier = getD (a .links .now) (next - 1) 0 in
+    record {
+      walks = λ r h. walk-next r x _ _ _ most h next (next - 1) (omega arith) (v .walks r h);
+      left = λ r h.
+          v .left r h
+          ∙ one-then-rest r x _ _ _ most h next (next - 1) (omega arith) (v .walks r h) (isMarked (a .held .now))
+          ∙ ap (λ (t : Bool). t || someOwner r x (isMarked (a .held .now)) earlier)
+          (ap (isMarked (a .held .now)) (sym (c .before .before .before .before .owner-at .ensures)) ∙ sym (c .before .before .before .is-marked .ensures) ∙ c .before .before .if1 .left);
+      itself = λ r h.
+          v .itself r h
+          ∙ ap (λ (t : Bool). own || t) (one-then-rest r x _ _ _ most h next (next - 1) (omega arith) (v .walks r h) (λ y. eqb y 0))
+          ∙ sym (or-assoc own (eqb (getD (a .owners .now) (next - 1) 0) 0) (someOwner r x (λ y. eqb y 0) earlier))
+          ∙ ap (λ (t : Bool). (own || t) || someOwner r x (λ y. eqb y 0) earlier)
+          (sym (c .before .is-always-so .ensures ∙ ap (λ (z : ℕ). eqb z 0) (c .before .before .before .before .owner-at .ensures)));
+    }
+
+returns-2 : tie.Need-returns-2 Inv-loop μ-loop
+unfolding namedFor
+returns-2 c = λ r h.
+    let v = c .before .before .loop .inv in
+    let x = c .before .before .before .before .chain-index .result in
+    let done = c .before .loop-test .left in
+    sym
+    (ap (λ (y : ℕ). namedFor (someOwner r y (isMarked (c .before .before .before .before .before .before .before .before .before .args .held .now)) (r .used)) (someOwner r y (λ z. eqb z 0) (r .used))) (sym (c .before .before .before .before .chain-index .ensures))
+    ∙ ap₂ namedFor
+    (v .left r h ∙ none-left r x (c .before .before .loop .next) (isMarked (c .before .before .before .before .before .before .before .before .before .args .held .now)) done)
+    (v .itself r h ∙ ap (λ (t : Bool). t || someOwner r x (λ y. eqb y 0) (c .before .before .loop .next)) (c .if2 .taken)))
+
+returns-3 : tie.Need-returns-3 Inv-loop μ-loop
+unfolding namedFor
+returns-3 c = λ r h.
+    let v = c .before .before .loop .inv in
+    let x = c .before .before .before .before .chain-index .result in
+    let done = c .before .loop-test .left in
+    sym
+    (ap (λ (y : ℕ). namedFor (someOwner r y (isMarked (c .before .before .before .before .before .before .before .before .before .args .held .now)) (r .used)) (someOwner r y (λ z. eqb z 0) (r .used))) (sym (c .before .before .before .before .chain-index .ensures))
+    ∙ ap₂ namedFor
+    (v .left r h ∙ none-left r x (c .before .before .loop .next) (isMarked (c .before .before .before .before .before .before .before .before .before .args .held .now)) done)
+    (v .itself r h ∙ ap₂ _||_ (c .if2 .left) (none-left r x (c .before .before .loop .next) (λ y. eqb y 0) done)))
+
+pub named-by-spec : {M : Type 1} → statement M
+named-by-spec =
+    tie.close
+    (tie.spec
+    Inv-loop
+    μ-loop
+    chain-index-requires
+    mul-next
+    shared-slice-read-next
+    cast-next
+    loop-holds
+    sub-owner-at
+    owner-at-requires
+    is-marked-requires
+    returns
+    is-always-so-requires
+    sub-next
+    mul-next-2
+    shared-slice-read-next-2
+    cast-next-2
+    loop-less
+    loop-again
+    returns-2
+    returns-3)

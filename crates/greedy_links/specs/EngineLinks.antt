@@ -1,0 +1,51 @@
+-- The engine's own: nothing here need be believed.
+-- The links of a round's constraints, chain by chain.
+use Prim.Native.Nat.{ℕ, zero, suc, _≤_, _<_}
+use mathlib.Core.Bool.{Bool, true, false, cond, _&&_}
+use mathlib.Core.List.{List}
+use mathlib.Core.Path.{_≡_}
+use lib.Dec.{eqb}
+use lib.ListN.{length, getD}
+use Rattle.basis.specs.Tests.{anyBelow}
+use Rattle.sheet.specs.declared.Round.{Round}
+use Rattle.sheet.specs.Round.{constraintAt}
+use Rattle.greedy_links.specs.declared.Named.{Named}
+use Rattle.greedy_links.specs.declared.Named.the-variants.{ByEarlierWinner, ByItself, ByNobody}
+use Rattle.greedy_links.specs.EngineKeys.{key, chainBidder, chainSlot, ownerBidder, ownerSlot}
+
+-- the two keys of the constraint at index i
+abbrev pub linkKey : Round → ℕ → ℕ
+linkKey r i = key (chainBidder (constraintAt r i .owner .0) (constraintAt r i .kind)) (chainSlot (constraintAt r i .kind))
+
+abbrev pub linkOwner : Round → ℕ → ℕ
+linkOwner r i = key (ownerBidder (constraintAt r i .owner .0) (constraintAt r i .kind)) (ownerSlot (constraintAt r i .kind))
+
+-- the last of the first n that passes, counted from 1; 0 where none does
+unfoldable pub lastOf : (ℕ → Bool) → ℕ → ℕ
+lastOf f zero = 0
+lastOf f (suc n) = cond (f n) (suc n) (lastOf f n)
+
+-- the first n constraints of a round are in the chains of their keys
+pub record Linked (r : Round) (n : ℕ) (last links owners : List ℕ) : Type 0 where
+  pub sized-last : length last ≡ 1089
+  pub sized-links : length links ≡ 1024
+  pub sized-owners : length owners ≡ 1024
+  pub few : n ≤ 1024
+  pub last-is : (x : ℕ) → x ≤ 1088 → getD last x 0 ≡ lastOf (λ i. eqb (linkKey r i) x) n
+  pub link-is : (i : ℕ) → i < n → getD links i 0 ≡ lastOf (λ j. eqb (linkKey r j) (linkKey r i)) i
+  pub owner-is : (i : ℕ) → i < n → getD owners i 0 ≡ linkOwner r i
+  pub owner-within : (i : ℕ) → i < n → linkOwner r i ≤ 1088
+
+-- the lists are some round's
+abbrev pub SomeLinked : List ℕ → List ℕ → List ℕ → Type 0
+SomeLinked last links owners = (r : Round) × Linked r (r .used) last links owners
+
+-- some link of the chain x among the first n has an owner whose key passes the test
+unfoldable pub someOwner : Round → ℕ → (ℕ → Bool) → ℕ → Bool
+someOwner r x test n = anyBelow (λ i. eqb (linkKey r i) x && test (linkOwner r i)) n
+
+-- by whose constraint a candidate is named: an earlier winner's, else one of its own, else nobody's
+unfoldable pub namedFor : Bool → Bool → Named
+namedFor true own = ByEarlierWinner
+namedFor false true = ByItself
+namedFor false false = ByNobody

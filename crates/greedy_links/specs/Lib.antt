@@ -1,0 +1,2 @@
+pub mod EngineKeys
+pub mod EngineLinks
