@@ -19,9 +19,9 @@ pub fn rows() -> Vec<Row> {
     rows
 }
 
-/// The quick calls on sheets of four sizes.
+/// The quick calls on sheets of five sizes; the smallest is round H's.
 fn sizes() -> Vec<Row> {
-    let sizes = [size(8, 4, 16), size(16, 8, 128), size(32, 12, 512), size(64, 16, 1024)];
+    let sizes = [size(4, 3, 9), size(8, 4, 16), size(16, 8, 128), size(32, 12, 512), size(64, 16, 1024)];
     let of_call = |call| sizes.map(|size| Row { part: "sizes", call, size, manner: Manner::Mixed });
     QUICK_CALLS.into_iter().flat_map(of_call).collect()
 }

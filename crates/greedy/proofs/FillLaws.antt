@@ -1,19 +1,21 @@
 -- The page and its prices, slot after slot: while slots 1 to k are filled, the marks know the page so far, and so tell who is eligible for the
 -- next slot; its winner and the winner's critical bid are the slot's entry. Assumes nothing.
 use Prim.Native.Nat.{ℕ, zero, suc, _-_, _<_, _≤_}
-use mathlib.Core.Bool.{Bool, true, false, _||_}
+use mathlib.Core.Bool.{Bool, not, _&&_, _||_}
 use mathlib.Core.List.{List}
 use mathlib.Core.Logic.{⊎-elim}
 use mathlib.Core.Path.{_≡_, refl, sym, _∙_, ap, ap₂, subst}
 use native.Mathlib.Omega.{arith}
 use lib.Dec.{eqb}
-use lib.ListN.{length, set, replicate}
+use lib.ListN.{length, getD, set, replicate}
+use Rattle.basis.specs.Tests.{anyBelow}
 use Rattle.basis.specs.Rows.{padded}
 use Rattle.basis.proofs.RowLaws.{padded-none, padded-next}
 use Rattle.basis.proofs.NumberLaws.{same-or-not}
 use Rattle.sheet.specs.declared.Page.{Page}
 use Rattle.sheet.specs.declared.Round.{Round}
-use Rattle.sheet.specs.Round.{bidOf}
+use Rattle.sheet.specs.declared.Constraint.{Constraint}
+use Rattle.sheet.specs.Round.{bidOf, constraintAt, blank, roundOf}
 use Rattle.sheet.specs.Proper.{ProperRound}
 use Rattle.choice.specs.EngineBids.{bidIn}
 use Rattle.choice.proofs.WinnerLaws.{winner-same}
@@ -24,9 +26,9 @@ use Rattle.auction.specs.Price.{price}
 use Rattle.auction.proofs.PageLaws.{at-put-same, put-nobody}
 use Rattle.auction.proofs.GreedyLaws.{bid-in, upTo-next, upTo-sized, upTo-later, upTo-unbroken, slot-winner, winner-bidder, empty-nobody}
 use Rattle.auction.proofs.PriceLaws.{price-critical, empty-costs-nothing}
-use Rattle.greedy_links.specs.EngineKeys.{key, madeSo, isMarked}
+use Rattle.greedy_links.specs.EngineKeys.{key, chainBidder, chainSlot, ownerBidder, ownerSlot, isMarked}
 use Rattle.greedy_links.specs.EngineLinks.{someOwner}
-use Rattle.greedy.specs.EngineEligible.{free, Awarded, Settled, Lent}
+use Rattle.greedy.specs.EngineEligible.{isBarred, free, Awarded, Settled, Lent}
 use Rattle.greedy.proofs.EligibleLaws.{Known, known-start, known-next, free-eligible}
 
 -- slots 1 to k are filled
@@ -51,11 +53,6 @@ pub seated : (r : Round) (k : ℕ) (barred held : List ℕ) (page : Page) (price
     (s w : ℕ) → 0 < s → s ≤ 16 → at (put page s w) s ≡ w
 seated r k barred held page prices f s w some most =
     at-put-same page s w (ap (λ (q : Page). length (q .bidders)) (f .page-is) ∙ upTo-sized r k) some most
-
--- marks that are settled for who stands there are settled for the winner
-pub settled-for : (r : Round) (v w s : ℕ) (barred held barred′ held′ : List ℕ) → v ≡ w → Settled r v s barred held barred′ held′ →
-    Settled r w s barred held barred′ held′
-settled-for r v w s barred held barred′ held′ e h = subst (λ (x : ℕ). Settled r x s barred held barred′ held′) e h
 
 module _ (r : Round) (c : ProperRound r) (k : ℕ) (inside : k < r .slots) (barred held : List ℕ) (page : Page) (prices : List ℕ)
     (f : Filled r k barred held page prices) (w paid : ℕ)
@@ -127,8 +124,8 @@ module _ (r : Round) (c : ProperRound r) (k : ℕ) (inside : k < r .slots) (barr
             ∙ padded-next (λ i. price r (suc i)) k 16 0 (omega arith);
       }
 
--- The same of the lent lists, at the slot that comes next.
-module _ (r : Round) (last links owners bids : List ℕ) (bidders slots : ℕ) (lent : Lent r last links owners bids bidders slots) where
+-- The same of what is lent, at the slot that comes next.
+module _ (r : Round) (s : List ℕ) (start : ℕ) (last links bids : List ℕ) (bidders slots : ℕ) (lent : Lent r s start last links bids bidders slots) where
   pub lent-few : (bidders ≤ 64) × (length bids ≡ 64) × (slots ≤ 16)
   lent-few =
       let n = lent .bidders-are in
@@ -143,27 +140,60 @@ module _ (r : Round) (last links owners bids : List ℕ) (bidders slots : ℕ) (
       let m = lent .proper .most-bid b in
       omega arith
 
+  -- the sheet's links and the round's say the same
+  some-same : (x : ℕ) (test : ℕ → Bool) → someOwner (roundOf s) x test (roundOf s .used) ≡ someOwner r x test (r .used)
+  unfolding someOwner constraintAt
+  some-same x test =
+      ap₂ (λ (cs : List Constraint) (n : ℕ). anyBelow (λ i. asks (getD cs i blank)) n) (sym (lent .constraints-are)) (sym (lent .used-are))
+    where
+      asks : Constraint → Bool
+      asks q =
+          eqb (key (chainBidder (q .owner .0) (q .kind)) (chainSlot (q .kind))) x
+          && test (key (ownerBidder (q .owner .0) (q .kind)) (ownerSlot (q .kind)))
+
+  free-same : (barred held : List ℕ) (l : ℕ) → free (roundOf s) barred held l ≡ free r barred held l
+  unfolding free
+  free-same barred held l = λ i b.
+      not (isMarked held b)
+      && not ((some-same (key b l) (isMarked held) i || some-same (key b l) (λ y. eqb y 0) i) || isBarred barred l b)
+
   module _ (barred held : List ℕ) (page : Page) (prices : List ℕ) (w paid : ℕ) where
     -- the award, in the round's own terms
-    awarded-of : (s : ℕ) → Awarded (free r barred held s) (bidIn bids) bidders w paid → Awarded (free r barred held s) (bidIn (r .bids)) (r .bidders) w paid
-    awarded-of s a =
-        subst (λ (bs : List ℕ). Awarded (free r barred held s) (bidIn bs) (r .bidders) w paid) (lent .bids-are)
-        (subst (λ (n : ℕ). Awarded (free r barred held s) (bidIn bids) n w paid) (lent .bidders-are) a)
+    awarded-of : (k : ℕ) → Awarded (free (roundOf s) barred held k) (bidIn bids) bidders w paid →
+        Awarded (free r barred held k) (bidIn (r .bids)) (r .bidders) w paid
+    awarded-of k a =
+        subst (λ (f : ℕ → Bool). Awarded f (bidIn (r .bids)) (r .bidders) w paid) (free-same barred held k)
+        (subst (λ (bs : List ℕ). Awarded (free (roundOf s) barred held k) (bidIn bs) (r .bidders) w paid) (lent .bids-are)
+        (subst (λ (n : ℕ). Awarded (free (roundOf s) barred held k) (bidIn bids) n w paid) (lent .bidders-are) a))
+
+    -- and so the marks
+    settled-of : (v k : ℕ) (barred′ held′ : List ℕ) → v ≡ w → Settled (roundOf s) v k barred held barred′ held′ → Settled r w k barred held barred′ held′
+    settled-of v k barred′ held′ e h =
+        subst (λ (x : ℕ). Settled r x k barred held barred′ held′) e
+        (record {
+          nobody = h .nobody;
+          somebody = λ some. (
+            h .somebody some .0,
+            λ y. h .somebody some .1 y ∙ ap (λ (t : Bool). isMarked barred y || t) (some-same (key v k) (λ z. eqb z y)),
+          );
+        })
 
     inside-at : (k : ℕ) → suc k ≤ slots → k < r .slots
     inside-at k most = let e = lent .slots-are in omega arith
 
-    pub slot-won : (s : ℕ) → 0 < s → s ≤ slots → Filled r (s - 1) barred held page prices →
-        Awarded (free r barred held s) (bidIn bids) bidders w paid → w ≤ 64
+    pub slot-won : (k : ℕ) → 0 < k → k ≤ slots → Filled r (k - 1) barred held page prices →
+        Awarded (free (roundOf s) barred held k) (bidIn bids) bidders w paid → w ≤ 64
     slot-won zero some most f a = absurd (omega arith)
     slot-won (suc k) some most f a =
         let e : suc k - 1 ≡ k = omega arith in
         won-most r (lent .proper) k (inside-at k most) barred held page prices (rw e at f) w paid (awarded-of (suc k) a)
 
-    pub slot-filled : (s : ℕ) → 0 < s → s ≤ slots → Filled r (s - 1) barred held page prices →
-        Awarded (free r barred held s) (bidIn bids) bidders w paid → (barred′ held′ : List ℕ) → Settled r w s barred held barred′ held′ →
-        Filled r s barred′ held′ (put page s w) (set prices (s - 1) paid)
-    slot-filled zero some most f a barred′ held′ settled = absurd (omega arith)
-    slot-filled (suc k) some most f a barred′ held′ settled =
+    pub slot-filled : (k : ℕ) → 0 < k → k ≤ slots → Filled r (k - 1) barred held page prices →
+        Awarded (free (roundOf s) barred held k) (bidIn bids) bidders w paid → (v : ℕ) (barred′ held′ : List ℕ) → v ≡ w →
+        Settled (roundOf s) v k barred held barred′ held′ → Filled r k barred′ held′ (put page k w) (set prices (k - 1) paid)
+    slot-filled zero some most f a v barred′ held′ stands settled = absurd (omega arith)
+    slot-filled (suc k) some most f a v barred′ held′ stands settled =
         let e : suc k - 1 ≡ k = omega arith in
-        rw e (filled-next r (lent .proper) k (inside-at k most) barred held page prices (rw e at f) w paid (awarded-of (suc k) a) barred′ held′ settled)
+        rw e
+        (filled-next r (lent .proper) k (inside-at k most) barred held page prices (rw e at f) w paid (awarded-of (suc k) a) barred′ held′
+        (settled-of v (suc k) barred′ held′ stands settled))

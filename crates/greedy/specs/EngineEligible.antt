@@ -6,11 +6,12 @@ use mathlib.Core.List.{List}
 use mathlib.Core.Path.{_≡_}
 use lib.Dec.{eqb}
 use Rattle.sheet.specs.declared.Round.{Round}
+use Rattle.sheet.specs.Round.{roundOf}
 use Rattle.sheet.specs.Proper.{ProperRound}
 use Rattle.choice.specs.Winner.{winner}
 use Rattle.choice.specs.Critical.{criticalBid}
 use Rattle.greedy_links.specs.EngineKeys.{key, madeSo, isMarked}
-use Rattle.greedy_links.specs.EngineLinks.{Linked, someOwner}
+use Rattle.greedy_links.specs.EngineLinks.{Kept, someOwner}
 
 -- a constraint names b at slot l: an earlier winner's, or an own-slot constraint of its own
 abbrev pub isNamed : Round → List ℕ → ℕ → ℕ → Bool
@@ -36,10 +37,12 @@ pub record Settled (r : Round) (w k : ℕ) (barred held barred′ held′ : List
       ((x : ℕ) → isMarked held′ x ≡ (isMarked held x || madeSo w k x))
       × ((y : ℕ) → isMarked barred′ y ≡ (isMarked barred y || someOwner r (key w k) (λ z. eqb z y) (r .used)))
 
--- the lists that the page is filled from are the round's
-pub record Lent (r : Round) (last links owners bids : List ℕ) (bidders slots : ℕ) : Type 0 where
+-- what the page is filled from is the round's: its constraints are those of the lent sheet, whose links are lent too
+pub record Lent (r : Round) (s : List ℕ) (start : ℕ) (last links bids : List ℕ) (bidders slots : ℕ) : Type 0 where
   pub proper : ProperRound r
-  pub linked : Linked r (r .used) last links owners
+  pub kept : Kept s start last links
+  pub constraints-are : r .constraints ≡ roundOf s .constraints
+  pub used-are : r .used ≡ roundOf s .used
   pub bids-are : bids ≡ r .bids
   pub bidders-are : bidders ≡ r .bidders
   pub slots-are : slots ≡ r .slots

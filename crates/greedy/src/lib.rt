@@ -5,13 +5,14 @@
 // constraint of its own keeps from where, since its other stands where it says, is marked in `barred`, by key. A winner adds its two keys to
 // `held`, and to `barred` the owners' keys along its chain.
 //
-// What depends on the constraints (`greedy_links::link_all`) stands apart from what depends on the bids (`fill`).
+// What depends on the constraints (`greedy_links::link_all`) stands apart from what depends on the bids (`fill`). A sheet is lent on for its
+// constraints, which start at `start`; its bids are those that are handed on.
 ghost use mathlib.Core.Path.{_≡_};
 ghost use Prim.Native.Nat.{ℕ, suc, _+_, _-_, _<_, _≤_};
 ghost use lib.ListN.{length, getD};
 ghost use Rattle.sheet.specs.Refusal.{Accepted};
 ghost use Rattle.sheet.specs.Round.{roundOf};
-ghost use Rattle.greedy_links.specs.EngineLinks.{Linked, SomeLinked};
+ghost use Rattle.greedy_links.specs.EngineLinks.{Kept};
 ghost use Rattle.greedy.specs.EngineOutcome.{outcomeOf};
 ghost use Rattle.greedy.specs.EngineEligible.{free, Awarded, Settled, Lent};
 ghost use Rattle.choice.specs.EngineRanking.{InOrder, NextAt};
@@ -35,20 +36,21 @@ fn is_eligible(
     held: &[u8],
     last: &[u16],
     links: &[u16],
-    owners: &[u16],
+    sheet: &[u8],
+    start: usize,
     bidder: Bidder,
     slot: Slot,
 ) -> bool
-    requires { ⌜ (length (now barred) ≡ 1089) × (length (now held) ≡ 1089) × SomeLinked (now last) (now links) (now owners) ⌝ }
+    requires { ⌜ (length (now barred) ≡ 1089) × (length (now held) ≡ 1089) × Kept (now sheet) start (now last) (now links) ⌝ }
     requires { ⌜ ((0 < bidder .0) × (bidder .0 ≤ 64)) × ((0 < slot .0) × (slot .0 ≤ 16)) ⌝ }
-    ensures { λ r. ⌜ ((q : Round) → Linked q (q .used) (now (last .entry)) (now (links .entry)) (now (owners .entry)) → r ≡ free q (now (barred .entry)) (now (held .entry)) (slot .0) (bidder .0)) ⌝ }
+    ensures { λ r. ⌜ (r ≡ free (roundOf (now (sheet .entry))) (now (barred .entry)) (now (held .entry)) (slot .0) (bidder .0)) ⌝ }
 {
     let anywhere = greedy_links::owner_key(bidder, Slot(0));
     if greedy_links::is_marked(held, anywhere) {
         return false;
     }
     let chain = greedy_links::chain_key(bidder, slot);
-    let by = greedy_links::named_by(held, last, links, owners, chain);
+    let by = greedy_links::named_by(held, last, links, sheet, start, chain);
     match by {
         Named::ByEarlierWinner => false,
         Named::ByItself => false,
@@ -61,28 +63,29 @@ fn is_eligible(
     }
 }
 
-// The first rank from `start` on whose bidder is eligible, or the number of bidders.
+// The first rank from `from` on whose bidder is eligible, or the number of bidders.
 fn next_eligible(
     ranked: &[u8],
     barred: &[u8],
     held: &[u8],
     last: &[u16],
     links: &[u16],
-    owners: &[u16],
+    sheet: &[u8],
+    start: usize,
     bidders: usize,
     slot: Slot,
-    start: usize,
+    from: usize,
 ) -> usize
-    requires { ⌜ (length (now barred) ≡ 1089) × (length (now held) ≡ 1089) × SomeLinked (now last) (now links) (now owners) ⌝ }
-    requires { ⌜ (start ≤ bidders) × (bidders ≤ 64) × (bidders ≤ length (now ranked)) × ((0 < slot .0) × (slot .0 ≤ 16)) ⌝ }
+    requires { ⌜ (length (now barred) ≡ 1089) × (length (now held) ≡ 1089) × Kept (now sheet) start (now last) (now links) ⌝ }
+    requires { ⌜ (from ≤ bidders) × (bidders ≤ 64) × (bidders ≤ length (now ranked)) × ((0 < slot .0) × (slot .0 ≤ 16)) ⌝ }
     requires { ⌜ ((i : ℕ) → i < bidders → (0 < getD (now ranked) i 0) × (getD (now ranked) i 0 ≤ bidders)) ⌝ }
     ensures { λ r. ⌜ r ≤ bidders ⌝ }
-    ensures { λ r. ⌜ ((q : Round) → Linked q (q .used) (now (last .entry)) (now (links .entry)) (now (owners .entry)) → NextAt (free q (now (barred .entry)) (now (held .entry)) (slot .0)) (now (ranked .entry)) bidders start r) ⌝ }
+    ensures { λ r. ⌜ (NextAt (free (roundOf (now (sheet .entry))) (now (barred .entry)) (now (held .entry)) (slot .0)) (now (ranked .entry)) bidders from r) ⌝ }
 {
-    let mut i: usize = start;
+    let mut i: usize = from;
     while i < bidders {
         let bidder = choice::ranked_at(ranked, i);
-        if is_eligible(barred, held, last, links, owners, bidder, slot) {
+        if is_eligible(barred, held, last, links, sheet, start, bidder, slot) {
             return i;
         }
         i += 1;
@@ -97,17 +100,29 @@ fn award_slot(
     held: &[u8],
     last: &[u16],
     links: &[u16],
-    owners: &[u16],
+    sheet: &[u8],
+    start: usize,
     bids: &[u32],
     bidders: usize,
     slot: Slot,
 ) -> Placing
-    requires { ⌜ (length (now barred) ≡ 1089) × (length (now held) ≡ 1089) × SomeLinked (now last) (now links) (now owners) ⌝ }
+    requires { ⌜ (length (now barred) ≡ 1089) × (length (now held) ≡ 1089) × Kept (now sheet) start (now last) (now links) ⌝ }
     requires { ⌜ (bidders ≤ 64) × (bidders ≤ length (now bids)) × ((0 < slot .0) × (slot .0 ≤ 16)) ⌝ }
     requires { ⌜ InOrder (bidIn (now bids)) bidders (now ranked) × ((b : ℕ) → bidIn (now bids) b ≤ 1000000000) ⌝ }
-    ensures { λ r. ⌜ ((q : Round) → Linked q (q .used) (now (last .entry)) (now (links .entry)) (now (owners .entry)) → Awarded (free q (now (barred .entry)) (now (held .entry)) (slot .0)) (bidIn (now (bids .entry))) bidders (r .winner .0) (r .critical)) ⌝ }
+    ensures { λ r. ⌜ (Awarded (free (roundOf (now (sheet .entry))) (now (barred .entry)) (now (held .entry)) (slot .0)) (bidIn (now (bids .entry))) bidders (r .winner .0) (r .critical)) ⌝ }
 {
-    let first = next_eligible(ranked, barred, held, last, links, owners, bidders, slot, 0);
+    let first = next_eligible(
+        ranked,
+        barred,
+        held,
+        last,
+        links,
+        sheet,
+        start,
+        bidders,
+        slot,
+        0,
+    );
     let mut second = bidders;
     if first < bidders {
         second = next_eligible(
@@ -116,7 +131,8 @@ fn award_slot(
             held,
             last,
             links,
-            owners,
+            sheet,
+            start,
             bidders,
             slot,
             first + 1,
@@ -131,17 +147,18 @@ fn settle(
     held: &mut [u8],
     last: &[u16],
     links: &[u16],
-    owners: &[u16],
+    sheet: &[u8],
+    start: usize,
     winner: Bidder,
     at: Slot,
 )
-    requires { ⌜ (length (now barred) ≡ 1089) × (length (now held) ≡ 1089) × SomeLinked (now last) (now links) (now owners) ⌝ }
+    requires { ⌜ (length (now barred) ≡ 1089) × (length (now held) ≡ 1089) × Kept (now sheet) start (now last) (now links) ⌝ }
     requires { ⌜ (winner .0 ≤ 64) × (at .0 ≤ 16) ⌝ }
-    ensures { λ r. ⌜ ((q : Round) → Linked q (q .used) (now (last .entry)) (now (links .entry)) (now (owners .entry)) → Settled q (winner .0) (at .0) (now (barred .entry)) (now (held .entry)) (now (barred .exit)) (now (held .exit))) ⌝ }
+    ensures { λ r. ⌜ (Settled (roundOf (now (sheet .entry))) (winner .0) (at .0) (now (barred .entry)) (now (held .entry)) (now (barred .exit)) (now (held .exit))) ⌝ }
 {
     if winner.0 != 0 {
         let here = greedy_links::chain_key(winner, at);
-        greedy_links::bar_chain(barred, last, links, owners, here);
+        greedy_links::bar_chain(barred, last, links, sheet, start, here);
         greedy_links::hold(held, winner, at);
     }
 }
@@ -166,13 +183,14 @@ fn price_index(slot: Slot) -> usize
 pub fn fill(
     last: &[u16],
     links: &[u16],
-    owners: &[u16],
+    sheet: &[u8],
+    start: usize,
     bids: &[u32],
     bidders: usize,
     slots: usize,
 ) -> Outcome
-    requires { ⌜ ((q : Round) × Lent q (now last) (now links) (now owners) (now bids) bidders slots) ⌝ }
-    ensures { λ r. ⌜ ((q : Round) → Lent q (now (last .entry)) (now (links .entry)) (now (owners .entry)) (now (bids .entry)) bidders slots → r ≡ outcomeOf q) ⌝ }
+    requires { ⌜ ((q : Round) × Lent q (now sheet) start (now last) (now links) (now bids) bidders slots) ⌝ }
+    ensures { λ r. ⌜ ((q : Round) → Lent q (now (sheet .entry)) start (now (last .entry)) (now (links .entry)) (now (bids .entry)) bidders slots → r ≡ outcomeOf q) ⌝ }
 {
     let ranked = choice::ranking_of(bids, bidders);
     let mut barred = [0u8; greedy_links::KEYS];
@@ -187,7 +205,8 @@ pub fn fill(
             &held,
             last,
             links,
-            owners,
+            sheet,
+            start,
             bids,
             bidders,
             slot,
@@ -197,7 +216,16 @@ pub fn fill(
         let index = price_index(slot);
         prices[index] = awarded.critical;
         let standing = auction::bidder_at(page, slot);
-        settle(&mut barred, &mut held, last, links, owners, standing, slot);
+        settle(
+            &mut barred,
+            &mut held,
+            last,
+            links,
+            sheet,
+            start,
+            standing,
+            slot,
+        );
         slot = next_slot(slot);
     }
     Outcome { page, prices }
@@ -209,9 +237,9 @@ pub fn played(sheet: &[u8]) -> Outcome
 {
     let mut last = [0u16; greedy_links::KEYS];
     let mut links = [0u16; greedy_links::LINKS];
-    let mut owners = [0u16; greedy_links::LINKS];
-    let bids = greedy_links::link_all(&mut last, &mut links, &mut owners, sheet);
+    let bids = greedy_links::link_all(&mut last, &mut links, sheet);
+    let start = sheet_read::constraints_start(sheet);
     let bidders = sheet[5] as usize;
     let slots = sheet[6] as usize;
-    fill(&last, &links, &owners, &bids, bidders, slots)
+    fill(&last, &links, sheet, start, &bids, bidders, slots)
 }

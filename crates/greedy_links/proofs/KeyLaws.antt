@@ -20,7 +20,10 @@ use Rattle.sheet.specs.declared.Kind.the-variants.{OwnSlot, OtherSlot, Pair}
 use Rattle.sheet.specs.declared.Constraint.{Constraint}
 use Rattle.sheet.specs.declared.Page.{Page}
 use Rattle.sheet.specs.declared.Round.{Round}
-use Rattle.sheet.specs.Round.{constraintAt, Has}
+use Rattle.sheet.specs.Sheet.{constraintCount}
+use Rattle.sheet.specs.Refusal.{Accepted}
+use Rattle.sheet.specs.Round.{constraintAt, Has, roundOf}
+use Rattle.sheet.proofs.RoundLaws.{round-proper}
 use Rattle.sheet.specs.Proper.{ProperKind, Proper, ProperRound}
 use Rattle.auction.specs.Page.{at, put, emptyPage, placed, Sized}
 use Rattle.auction.specs.Broken.{ownHolds, otherHolds, broken, breaks}
@@ -118,6 +121,22 @@ keys-fit owner (Pair k j l) c =
       apart = λ e. c .parts .1 (sym e);
       nobody = λ e. absurd (c .owned e);
     }
+
+-- those of an accepted sheet's round
+pub round-fits : (s : List ℕ) → Accepted s → (i : ℕ) → i < constraintCount s →
+    Fits (constraintAt (roundOf s) i .owner .0) (constraintAt (roundOf s) i .kind)
+unfolding roundOf
+round-fits s ok i below =
+    let q = constraintAt (roundOf s) i in
+    keys-fit (q .owner) (q .kind) (round-proper s ok .proper q (i, below, refl))
+
+-- an owner's key is one of those that are marked
+pub owner-within : (s : List ℕ) → Accepted s → (i : ℕ) → i < constraintCount s → linkOwner (roundOf s) i ≤ 1088
+owner-within s ok i below =
+    let f = round-fits s ok i below in
+    let o = f .owner-most in
+    let k = f .own-most in
+    omega arith
 
 -- on an empty page no bidder is anywhere
 pub so-empty : (b l : ℕ) → (b ≡ 0 → ⊥) → isSo emptyPage b l ≡ false

@@ -75,33 +75,27 @@ unfolding isMarked
 no-mark n x = ap (λ (v : ℕ). not (eqb v 0)) (zeros n x)
 
 -- no link yet
-pub linked-none : (r : Round) → Linked r 0 (replicate 1089 0) (replicate 1024 0) (replicate 1024 0)
+pub linked-none : (r : Round) → Linked r 0 (replicate 1089 0) (replicate 1024 0)
 unfolding lastOf
 linked-none r =
     record {
       sized-last = refl;
       sized-links = refl;
-      sized-owners = refl;
       few = omega arith;
       last-is = λ x most. zeros 1089 x;
       link-is = λ i below. absurd (omega arith);
-      owner-is = λ i below. absurd (omega arith);
-      owner-within = λ i below. absurd (omega arith);
     }
 
--- one link more, with the chain x and the owner's key y
-pub linked-next : (r : Round) (n x y : ℕ) (last links owners : List ℕ) → x ≤ 1088 → y ≤ 1088 → n < 1024 →
-    x ≡ linkKey r n → y ≡ linkOwner r n → Linked r n last links owners →
-    Linked r (suc n) (set last x (suc n)) (set links n (getD last x 0)) (set owners n y)
+-- one link more, with the chain x
+pub linked-next : (r : Round) (n x : ℕ) (last links : List ℕ) → x ≤ 1088 → n < 1024 → x ≡ linkKey r n → Linked r n last links →
+    Linked r (suc n) (set last x (suc n)) (set links n (getD last x 0))
 unfolding lastOf
-linked-next r n x y last links owners x-most y-most room key owner h =
+linked-next r n x last links x-most room key h =
     let in-last : x < length last = (let s = h .sized-last in omega arith) in
     let in-links : n < length links = (let s = h .sized-links in omega arith) in
-    let in-owners : n < length owners = (let s = h .sized-owners in omega arith) in
     record {
       sized-last = length-set last x (suc n) ∙ h .sized-last;
       sized-links = length-set links n (getD last x 0) ∙ h .sized-links;
-      sized-owners = length-set owners n y ∙ h .sized-owners;
       few = room;
       last-is = λ z most.
           after-set (λ v. v ≡ lastOf (λ i. eqb (linkKey r i) z) (suc n)) last x (suc n) z in-last
@@ -113,13 +107,6 @@ linked-next r n x y last links owners x-most y-most room key owner h =
           after-set (λ v. v ≡ lastOf (λ j. eqb (linkKey r j) (linkKey r i)) i) links n (getD last x 0) i in-links
           (λ e. h .last-is x x-most ∙ ap₂ (λ (z m : ℕ). lastOf (λ j. eqb (linkKey r j) z) m) (key ∙ sym (ap (linkKey r) e)) (sym e))
           (λ d. h .link-is i (omega arith));
-      owner-is = λ i below.
-          after-set (λ v. v ≡ linkOwner r i) owners n y i in-owners (λ e. owner ∙ sym (ap (linkOwner r) e)) (λ d. h .owner-is i (omega arith));
-      owner-within = λ i below.
-          ⊎-elim
-          (λ (e : i ≡ n). let same : linkOwner r i ≡ y = ap (linkOwner r) e ∙ sym owner in omega arith)
-          (λ (d : i ≡ n → ⊥). h .owner-within i (omega arith))
-          (same-or-not i n);
     }
 
 -- On the way along the chain x: the next link, if any, is of that chain.
@@ -127,7 +114,7 @@ pub record Walking (r : Round) (x next : ℕ) : Type 0 where
   pub some : next ≤ r .used
   pub keyed : (i : ℕ) → next ≡ suc i → linkKey r i ≡ x
 
-module _ (r : Round) (x : ℕ) (last links owners : List ℕ) (most : x ≤ 1088) (h : Linked r (r .used) last links owners) where
+module _ (r : Round) (x : ℕ) (last links : List ℕ) (most : x ≤ 1088) (h : Linked r (r .used) last links) where
   abbrev has-key : ℕ → Bool
   has-key i = eqb (linkKey r i) x
 
@@ -158,16 +145,12 @@ module _ (r : Round) (x : ℕ) (last links owners : List ℕ) (most : x ≤ 1088
     before : getD links i 0 ≡ lastOf has-key i
     before = h .link-is i within ∙ ap (λ (y : ℕ). lastOf (λ j. eqb (linkKey r j) y) i) here
 
-    -- the link's index and its owner's key are within the lists, and the link before it has a lower number
-    pub link-fits : (i < 1024) × (getD owners i 0 ≤ 1088) × (getD links i 0 ≤ i)
+    -- the link is one of the round's, and the link before it has a lower number
+    pub link-fits : (i < r .used) × (r .used ≤ 1024) × (getD links i 0 ≤ i)
     link-fits =
-        let s = within in
-        let m = h .few in
-        let o = h .owner-is i within in
-        let k = h .owner-within i within in
         let e = before in
         let w = last-below has-key i in
-        (omega arith, omega arith, omega arith)
+        (within, h .few, omega arith)
 
     pub walk-next : Walking r x (getD links i 0)
     walk-next =
@@ -181,19 +164,14 @@ module _ (r : Round) (x : ℕ) (last links owners : List ℕ) (most : x ≤ 1088
     last-one test = ap (λ (t : Bool). someOwner r x test i || (t && test (linkOwner r i))) (eq-eqb (linkKey r i) x here)
 
     -- one link, and those before it
-    pub one-then-rest : (test : ℕ → Bool) → someOwner r x test next ≡ (test (getD owners i 0) || someOwner r x test (getD links i 0))
+    pub one-then-rest : (test : ℕ → Bool) → someOwner r x test next ≡ (test (linkOwner r i) || someOwner r x test (getD links i 0))
     one-then-rest test =
         ap (someOwner r x test) at
         ∙ last-one test
         ∙ or-comm (someOwner r x test i) (test (linkOwner r i))
-        ∙ ap₂ (λ (y : ℕ) (t : Bool). test y || t) (sym (h .owner-is i within))
-        (along-last test i ∙ ap (someOwner r x test) (sym before))
+        ∙ ap (λ (t : Bool). test (linkOwner r i) || t) (along-last test i ∙ ap (someOwner r x test) (sym before))
 
 -- at the end of the chain nothing is left
 pub none-left : (r : Round) (x next : ℕ) (test : ℕ → Bool) → next ≡ 0 → someOwner r x test next ≡ false
 unfolding someOwner anyBelow
 none-left r x next test e = ap (someOwner r x test) e
-
--- for whichever round has these links
-abbrev pub Whichever : List ℕ → List ℕ → List ℕ → (Round → Type 0) → Type 0
-Whichever last links owners P = (r : Round) → Linked r (r .used) last links owners → P r

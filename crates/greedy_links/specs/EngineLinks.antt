@@ -8,7 +8,9 @@ use lib.Dec.{eqb}
 use lib.ListN.{length, getD}
 use Rattle.basis.specs.Tests.{anyBelow}
 use Rattle.sheet.specs.declared.Round.{Round}
-use Rattle.sheet.specs.Round.{constraintAt}
+use Rattle.sheet.specs.Sheet.{constraintsStart}
+use Rattle.sheet.specs.Refusal.{Accepted}
+use Rattle.sheet.specs.Round.{constraintAt, roundOf}
 use Rattle.greedy_links.specs.declared.Named.{Named}
 use Rattle.greedy_links.specs.declared.Named.the-variants.{ByEarlierWinner, ByItself, ByNobody}
 use Rattle.greedy_links.specs.EngineKeys.{key, chainBidder, chainSlot, ownerBidder, ownerSlot}
@@ -26,19 +28,18 @@ lastOf f zero = 0
 lastOf f (suc n) = cond (f n) (suc n) (lastOf f n)
 
 -- the first n constraints of a round are in the chains of their keys
-pub record Linked (r : Round) (n : ℕ) (last links owners : List ℕ) : Type 0 where
+pub record Linked (r : Round) (n : ℕ) (last links : List ℕ) : Type 0 where
   pub sized-last : length last ≡ 1089
   pub sized-links : length links ≡ 1024
-  pub sized-owners : length owners ≡ 1024
   pub few : n ≤ 1024
   pub last-is : (x : ℕ) → x ≤ 1088 → getD last x 0 ≡ lastOf (λ i. eqb (linkKey r i) x) n
   pub link-is : (i : ℕ) → i < n → getD links i 0 ≡ lastOf (λ j. eqb (linkKey r j) (linkKey r i)) i
-  pub owner-is : (i : ℕ) → i < n → getD owners i 0 ≡ linkOwner r i
-  pub owner-within : (i : ℕ) → i < n → linkOwner r i ≤ 1088
 
--- the lists are some round's
-abbrev pub SomeLinked : List ℕ → List ℕ → List ℕ → Type 0
-SomeLinked last links owners = (r : Round) × Linked r (r .used) last links owners
+-- the lists have the links of an accepted sheet, whose constraints start at `start`
+pub record Kept (s : List ℕ) (start : ℕ) (last links : List ℕ) : Type 0 where
+  pub accepted : Accepted s
+  pub starts : start ≡ constraintsStart s
+  pub linked : Linked (roundOf s) (roundOf s .used) last links
 
 -- some link of the chain x among the first n has an owner whose key passes the test
 unfoldable pub someOwner : Round → ℕ → (ℕ → Bool) → ℕ → Bool

@@ -5,18 +5,20 @@
 // owner's: the owner at its own slot, or at any slot, or, of an own-slot constraint, always so.
 //
 // So the constraints that a bidder at a slot could break are along one chain. It goes from the last link of a key (`last`) to the one before
-// it with the same key (`links`), and so on; links are counted from 1 there, and 0 ends a chain. `owners` has the owner's key of each link.
-// Lists of keys and marks are lent as numbers: what is a bidder, a slot or a key becomes a type where it is read.
+// it with the same key (`links`), and so on; links are counted from 1 there, and 0 ends a chain. The owner's key of a link is worked out
+// where the link is met, from the sheet: most links are met by nobody. Lists of links and marks are lent as numbers; what is a bidder, a
+// slot or a key becomes a type where it is read.
 ghost use mathlib.Core.Bool.{_||_};
 ghost use mathlib.Core.Path.{_≡_};
 ghost use Prim.Native.Nat.{ℕ, suc, _<_, _≤_};
 ghost use lib.Dec.{eqb};
-ghost use lib.ListN.{length, getD};
+ghost use lib.ListN.{length};
+ghost use Rattle.sheet.specs.Sheet.{constraintCount, constraintsStart};
 ghost use Rattle.sheet.specs.Refusal.{Accepted};
 ghost use Rattle.sheet.specs.Round.{constraintAt, roundOf};
 ghost use Rattle.sheet.specs.Proper.{Proper};
 ghost use Rattle.greedy_links.specs.EngineKeys.{key, chainBidder, chainSlot, ownerBidder, ownerSlot, isMarked, madeSo};
-ghost use Rattle.greedy_links.specs.EngineLinks.{linkKey, linkOwner, Linked, SomeLinked, someOwner, namedFor};
+ghost use Rattle.greedy_links.specs.EngineLinks.{linkKey, linkOwner, Linked, Kept, someOwner, namedFor};
 use sheet::Bidder;
 use sheet::Constraint;
 use sheet::Kind;
@@ -68,14 +70,6 @@ fn owner_index(owner: OwnerKey) -> usize
     ensures { λ r. ⌜ r ≡ owner .0 ⌝ }
 {
     owner.0 as usize
-}
-
-// The owner's key of a link: here a number of the lent list becomes a key again.
-fn owner_at(owners: &[u16], number: usize) -> OwnerKey
-    requires { ⌜ number < length (now owners) ⌝ }
-    ensures { λ r. ⌜ r .0 ≡ getD (now (owners .entry)) number 0 ⌝ }
-{
-    OwnerKey(owners[number])
 }
 
 // Whether a key is the one that is always so.
@@ -144,54 +138,48 @@ fn owner_slot(kind: Kind) -> Slot
     }
 }
 
+// The owner's key of a link.
+fn owner_at(sheet: &[u8], start: usize, number: usize) -> OwnerKey
+    requires { ⌜ Accepted (now sheet) × (start ≡ constraintsStart (now sheet)) × (number < constraintCount (now sheet)) ⌝ }
+    ensures { λ r. ⌜ r .0 ≡ linkOwner (roundOf (now (sheet .entry))) number ⌝ }
+{
+    let constraint = sheet_read::constraint_at(sheet, start, number);
+    let owner = constraint.owner;
+    let kind = constraint.kind;
+    owner_key(owner_bidder(owner, kind), owner_slot(kind))
+}
+
 // A constraint becomes the last link of its chain, and the last one until now comes before it.
-fn link(
-    last: &mut [u16],
-    links: &mut [u16],
-    owners: &mut [u16],
-    chain: ChainKey,
-    owner: OwnerKey,
-    number: usize,
-)
-    requires { ⌜ (length (now last) ≡ 1089) × (length (now links) ≡ 1024) × (length (now owners) ≡ 1024) ⌝ }
-    requires { ⌜ (chain .0 ≤ 1088) × (owner .0 ≤ 1088) × (number < 1024) ⌝ }
-    ensures { λ r. ⌜ ((q : Round) → chain .0 ≡ linkKey q number → owner .0 ≡ linkOwner q number → Linked q number (now (last .entry)) (now (links .entry)) (now (owners .entry)) → Linked q (suc number) (now (last .exit)) (now (links .exit)) (now (owners .exit))) ⌝ }
+fn link(last: &mut [u16], links: &mut [u16], chain: ChainKey, number: usize)
+    requires { ⌜ (length (now last) ≡ 1089) × (length (now links) ≡ 1024) × (chain .0 ≤ 1088) × (number < 1024) ⌝ }
+    ensures { λ r. ⌜ ((q : Round) → chain .0 ≡ linkKey q number → Linked q number (now (last .entry)) (now (links .entry)) → Linked q (suc number) (now (last .exit)) (now (links .exit))) ⌝ }
 {
     let at = chain_index(chain);
     links[number] = last[at];
     last[at] = (number + 1) as u16;
-    owners[number] = owner_index(owner) as u16;
 }
 
 // One more constraint is linked.
-fn enter(
-    last: &mut [u16],
-    links: &mut [u16],
-    owners: &mut [u16],
-    constraint: Constraint,
-    number: usize,
-)
-    requires { ⌜ (length (now last) ≡ 1089) × (length (now links) ≡ 1024) × (length (now owners) ≡ 1024) ⌝ }
-    requires { ⌜ Proper constraint × (number < 1024) ⌝ }
-    ensures { λ r. ⌜ ((q : Round) → constraintAt q number ≡ constraint → Linked q number (now (last .entry)) (now (links .entry)) (now (owners .entry)) → Linked q (suc number) (now (last .exit)) (now (links .exit)) (now (owners .exit))) ⌝ }
+fn enter(last: &mut [u16], links: &mut [u16], constraint: Constraint, number: usize)
+    requires { ⌜ (length (now last) ≡ 1089) × (length (now links) ≡ 1024) × Proper constraint × (number < 1024) ⌝ }
+    ensures { λ r. ⌜ ((q : Round) → constraintAt q number ≡ constraint → Linked q number (now (last .entry)) (now (links .entry)) → Linked q (suc number) (now (last .exit)) (now (links .exit))) ⌝ }
 {
     let owner = constraint.owner;
     let kind = constraint.kind;
     let chain = chain_key(chain_bidder(owner, kind), chain_slot(kind));
-    let own = owner_key(owner_bidder(owner, kind), owner_slot(kind));
-    link(last, links, owners, chain, own, number);
+    link(last, links, chain, number);
 }
 
 // The constraints of an accepted sheet are linked, in lent lists of zeros. The round is made here and used where it was made; its bids go on.
-pub fn link_all(last: &mut [u16], links: &mut [u16], owners: &mut [u16], sheet: &[u8]) -> [u32; 64]
-    requires { ⌜ Accepted (now sheet) × Linked (roundOf (now sheet)) 0 (now last) (now links) (now owners) ⌝ }
-    ensures { λ r. ⌜ (r ≡ roundOf (now (sheet .entry)) .bids) × Linked (roundOf (now (sheet .entry))) (roundOf (now (sheet .entry)) .used) (now (last .exit)) (now (links .exit)) (now (owners .exit)) ⌝ }
+pub fn link_all(last: &mut [u16], links: &mut [u16], sheet: &[u8]) -> [u32; 64]
+    requires { ⌜ Accepted (now sheet) × Linked (roundOf (now sheet)) 0 (now last) (now links) ⌝ }
+    ensures { λ r. ⌜ (r ≡ roundOf (now (sheet .entry)) .bids) × Linked (roundOf (now (sheet .entry))) (roundOf (now (sheet .entry)) .used) (now (last .exit)) (now (links .exit)) ⌝ }
 {
     let round = sheet_read::accepted_round(sheet);
     let used = round.used;
     let mut i = 0;
     while i < used {
-        enter(last, links, owners, round.constraints[i], i);
+        enter(last, links, round.constraints[i], i);
         i += 1;
     }
     round.bids
@@ -209,14 +197,21 @@ pub fn hold(held: &mut [u8], winner: Bidder, at: Slot)
 }
 
 // A chain's key is true: the owners of its links must not stand where their links say, and these keys are marked.
-pub fn bar_chain(barred: &mut [u8], last: &[u16], links: &[u16], owners: &[u16], chain: ChainKey)
-    requires { ⌜ (length (now barred) ≡ 1089) × (chain .0 ≤ 1088) × SomeLinked (now last) (now links) (now owners) ⌝ }
-    ensures { λ r. ⌜ ((q : Round) → Linked q (q .used) (now (last .entry)) (now (links .entry)) (now (owners .entry)) → (y : ℕ) → isMarked (now (barred .exit)) y ≡ (isMarked (now (barred .entry)) y || someOwner q (chain .0) (λ z. eqb z y) (q .used))) ⌝ }
+pub fn bar_chain(
+    barred: &mut [u8],
+    last: &[u16],
+    links: &[u16],
+    sheet: &[u8],
+    start: usize,
+    chain: ChainKey,
+)
+    requires { ⌜ (length (now barred) ≡ 1089) × (chain .0 ≤ 1088) × Kept (now sheet) start (now last) (now links) ⌝ }
+    ensures { λ r. ⌜ ((y : ℕ) → isMarked (now (barred .exit)) y ≡ (isMarked (now (barred .entry)) y || someOwner (roundOf (now (sheet .entry))) (chain .0) (λ z. eqb z y) (roundOf (now (sheet .entry)) .used))) ⌝ }
 {
     let at = chain_index(chain);
     let mut next = last[at] as usize;
     while next != 0 {
-        let owner = owner_at(owners, next - 1);
+        let owner = owner_at(sheet, start, next - 1);
         mark(barred, owner);
         next = links[next - 1] as usize;
     }
@@ -224,15 +219,22 @@ pub fn bar_chain(barred: &mut [u8], last: &[u16], links: &[u16], owners: &[u16],
 
 // By whose constraint a chain's bidder is named at the chain's slot: an earlier winner's, of which the owner stands where it says; or one of
 // its own, which is always so.
-pub fn named_by(held: &[u8], last: &[u16], links: &[u16], owners: &[u16], chain: ChainKey) -> Named
-    requires { ⌜ (length (now held) ≡ 1089) × (chain .0 ≤ 1088) × SomeLinked (now last) (now links) (now owners) ⌝ }
-    ensures { λ r. ⌜ ((q : Round) → Linked q (q .used) (now (last .entry)) (now (links .entry)) (now (owners .entry)) → r ≡ namedFor (someOwner q (chain .0) (isMarked (now (held .entry))) (q .used)) (someOwner q (chain .0) (λ y. eqb y 0) (q .used))) ⌝ }
+pub fn named_by(
+    held: &[u8],
+    last: &[u16],
+    links: &[u16],
+    sheet: &[u8],
+    start: usize,
+    chain: ChainKey,
+) -> Named
+    requires { ⌜ (length (now held) ≡ 1089) × (chain .0 ≤ 1088) × Kept (now sheet) start (now last) (now links) ⌝ }
+    ensures { λ r. ⌜ r ≡ namedFor (someOwner (roundOf (now (sheet .entry))) (chain .0) (isMarked (now (held .entry))) (roundOf (now (sheet .entry)) .used)) (someOwner (roundOf (now (sheet .entry))) (chain .0) (λ y. eqb y 0) (roundOf (now (sheet .entry)) .used)) ⌝ }
 {
     let at = chain_index(chain);
     let mut next = last[at] as usize;
     let mut own = false;
     while next != 0 {
-        let owner = owner_at(owners, next - 1);
+        let owner = owner_at(sheet, start, next - 1);
         if is_marked(held, owner) {
             return Named::ByEarlierWinner;
         }

@@ -4,6 +4,7 @@ use mathlib.Core.Logic.{⊎-elim}
 use mathlib.Core.Path.{sym, subst}
 use native.Mathlib.Numerals.{add-one}
 use native.Mathlib.Omega.{arith}
+use Rattle.sheet.specs.Round.{roundOf}
 use Rattle.choice.specs.EngineRanking.{NextAt}
 use Rattle.greedy.specs.EngineEligible.{free}
 use borrow.Author.Needs.{needs}
@@ -40,16 +41,17 @@ placing-at-requires c κs =
     ((p .1 .0 .0, p .1 .0 .1, c .before .next-eligible .ensures .0, second-most), p .1 .1)
 
 returns : tie.Need-returns
-returns c = λ r h.
+returns c =
+    let r = roundOf (c .before .before .before .before .before .before .before .before .before .before .args .sheet .now) in
     let a = c .before .before .before .before .before .before .before .before .before .before .args in
     let first = c .before .before .next-eligible .result in
-    let placed = c .placing-at .ensures (free r (a .barred .now) (a .held .now) (a .slot .0)) (c .before .before .next-eligible .ensures .1 r h)
+    let placed = c .placing-at .ensures (free r (a .barred .now) (a .held .now) (a .slot .0)) (c .before .before .next-eligible .ensures .1)
     (λ below.
     ⊎-elim
     (λ w.
     subst (λ (k : ℕ). NextAt (free r (a .barred .now) (a .held .now) (a .slot .0)) (a .ranked .now) (a .bidders) (suc first) k) (sym (w .2))
     (subst (λ (s : ℕ). NextAt (free r (a .barred .now) (a .held .now) (a .slot .0)) (a .ranked .now) (a .bidders) s (w .1 .result)) (add-one first)
-    (w .1 .ensures .1 r h)))
+    (w .1 .ensures .1)))
     (λ w. let off = w .0 .left in absurd (omega arith))
     (c .before .if1 .came)) in
     record { won-by = placed .0; paid-as = placed .1 }

@@ -1,14 +1,14 @@
 -- `greedy::is_eligible` meets its contract: who stands where, then the chain of the candidate at the slot, then the bars. Assumes nothing.
-use Prim.Native.Nat.{ℕ, _≤_}
+use Prim.Native.Nat.{ℕ}
 use mathlib.Core.Bool.{Bool, true, false, not, _&&_, _||_, and-false}
 use mathlib.Core.Path.{_≡_, refl, sym, _∙_, ap, ap₂}
 use native.Mathlib.Omega.{arith}
 use lib.Dec.{eqb}
-use Rattle.sheet.specs.declared.Round.{Round}
+use Rattle.sheet.specs.Round.{roundOf}
 use Rattle.greedy_links.specs.declared.Named.{Named}
 use Rattle.greedy_links.specs.declared.Named.the-variants.{ByEarlierWinner, ByItself, ByNobody}
 use Rattle.greedy_links.specs.EngineKeys.{key, isMarked}
-use Rattle.greedy_links.specs.EngineLinks.{Linked, someOwner, namedFor}
+use Rattle.greedy_links.specs.EngineLinks.{someOwner, namedFor}
 use Rattle.greedy.specs.EngineEligible.{isNamed, isBarred, free}
 use borrow.Author.Needs.{needs}
 use Rattle.greedy.proofs.is_eligible.Statement.{statement}
@@ -40,28 +40,30 @@ placed-told c =
     c .is-marked .ensures ∙ ap (isMarked (c .before .before .before .before .before .before .before .args .held .now)) any
 
 -- what the walk along the chain has said
-named-told : (c : tie.After-named-by) (q : Round) → Linked q (q .used) (c .before .before .before .before .before .before .before .before .before .before .args .last .now) (c .before .before .before .before .before .before .before .before .before .before .args .links .now) (c .before .before .before .before .before .before .before .before .before .before .args .owners .now) →
-    isNamed q (c .before .before .before .before .before .before .before .before .before .before .args .held .now) (c .before .before .before .before .before .before .before .before .before .before .args .slot .0) (c .before .before .before .before .before .before .before .before .before .before .args .bidder .0) ≡ names (c .named-by .result)
-named-told c q h =
+named-told : (c : tie.After-named-by) →
+    isNamed (roundOf (c .before .before .before .before .before .before .before .before .before .before .args .sheet .now)) (c .before .before .before .before .before .before .before .before .before .before .args .held .now) (c .before .before .before .before .before .before .before .before .before .before .args .slot .0) (c .before .before .before .before .before .before .before .before .before .before .args .bidder .0) ≡ names (c .named-by .result)
+named-told c =
+    let q = roundOf (c .before .before .before .before .before .before .before .before .before .before .args .sheet .now) in
     sym
-    (ap names (c .named-by .ensures q h)
+    (ap names (c .named-by .ensures)
     ∙ names-for _ _
     ∙ ap (λ (x : ℕ). someOwner q x (isMarked (c .before .before .before .before .before .before .before .before .before .before .args .held .now)) (q .used) || someOwner q x (λ y. eqb y 0) (q .used)) (c .before .chain-key .ensures))
 
 -- a candidate that is named is not free
-named-out : (c : tie.After-named-by) (q : Round) → Linked q (q .used) (c .before .before .before .before .before .before .before .before .before .before .args .last .now) (c .before .before .before .before .before .before .before .before .before .before .args .links .now) (c .before .before .before .before .before .before .before .before .before .before .args .owners .now) →
-    names (c .named-by .result) ≡ true → false ≡ free q (c .before .before .before .before .before .before .before .before .before .before .args .barred .now) (c .before .before .before .before .before .before .before .before .before .before .args .held .now) (c .before .before .before .before .before .before .before .before .before .before .args .slot .0) (c .before .before .before .before .before .before .before .before .before .before .args .bidder .0)
+named-out : (c : tie.After-named-by) → names (c .named-by .result) ≡ true →
+    false ≡ free (roundOf (c .before .before .before .before .before .before .before .before .before .before .args .sheet .now)) (c .before .before .before .before .before .before .before .before .before .before .args .barred .now) (c .before .before .before .before .before .before .before .before .before .before .args .held .now) (c .before .before .before .before .before .before .before .before .before .before .args .slot .0) (c .before .before .before .before .before .before .before .before .before .before .args .bidder .0)
 unfolding free
-named-out c q h e =
+named-out c e =
     let a = c .before .before .before .before .before .before .before .before .before .before .args in
     sym
     (ap (λ (t : Bool). not (isMarked (a .held .now) (a .bidder .0)) && not (t || isBarred (a .barred .now) (a .slot .0) (a .bidder .0)))
-    (named-told c q h ∙ e)
+    (named-told c ∙ e)
     ∙ and-false (not (isMarked (a .held .now) (a .bidder .0))))
 
 returns : tie.Need-returns
 unfolding free
-returns c = λ q h.
+returns c =
+    let q = roundOf (c .before .before .before .before .before .before .before .before .args .sheet .now) in
     let a = c .before .before .before .before .before .before .before .before .args in
     sym
     (ap (λ (t : Bool). not t && not (isNamed q (a .held .now) (a .slot .0) (a .bidder .0) || isBarred (a .barred .now) (a .slot .0) (a .bidder .0)))
@@ -92,14 +94,14 @@ is-marked-requires-3 : tie.Need-is-marked-requires-3
 is-marked-requires-3 c κs = search needs
 
 returns-2 : tie.Need-returns-2
-returns-2 c = λ q h. named-out (c .before .before) q h (ap names (c .enum-told .given .1))
+returns-2 c = named-out (c .before .before) (ap names (c .enum-told .given .1))
 
 returns-3 : tie.Need-returns-3
-returns-3 c = λ q h. named-out (c .before .before) q h (ap names (c .enum-told2 .given .1))
+returns-3 c = named-out (c .before .before) (ap names (c .enum-told2 .given .1))
 
 returns-4 : tie.Need-returns-4
 unfolding free
-returns-4 c = λ q h.
+returns-4 c =
     let a = c .before .before .before .before .before .before .before .before .before .before .before .before .before .before .before .args in
     let e = c .before .before .before .before .before .before .before .before .before .owner-key .ensures in
     let any : c .before .before .before .before .before .before .before .before .before .owner-key .result .0 ≡ a .bidder .0 = omega arith in
@@ -109,7 +111,7 @@ returns-4 c = λ q h.
     ∙ sym
     (ap₂ (λ (t u : Bool). not t && not (u || isBarred (a .barred .now) (a .slot .0) (a .bidder .0)))
     (sym (placed-told (c .before .before .before .before .before .before .before .before)) ∙ c .before .before .before .before .before .before .before .if1 .left)
-    (named-told (c .before .before .before .before .before) q h ∙ ap names (c .before .before .before .enum-told3 .given .1)))
+    (named-told (c .before .before .before .before .before) ∙ ap names (c .before .before .before .enum-told3 .given .1)))
 
 pub is-eligible-spec : {M : Type 1} → statement M
 is-eligible-spec =

@@ -8,22 +8,22 @@ use native.Mathlib.Nat.{eq-or-lt-of-le}
 use native.Mathlib.Omega.{arith}
 use lib.ListN.{getD}
 use Rattle.sheet.specs.declared.Round.{Round}
-use Rattle.greedy_links.specs.EngineLinks.{Linked}
+use Rattle.sheet.specs.Round.{roundOf}
 use Rattle.greedy.specs.EngineEligible.{free}
 use Rattle.greedy.proofs.next_eligible.Statement.{statement}
 use Rattle.greedy.proofs.next_eligible.Tie as tie
 
 -- none of the bidders from `start` to before i is free
-record Going (ranked barred held last links owners : List ℕ) (bidders slot start i : ℕ) : Type 0 where
+record Going (r : Round) (ranked barred held : List ℕ) (bidders slot start i : ℕ) : Type 0 where
   low : start ≤ i
   high : i ≤ bidders
-  passed : (r : Round) → Linked r (r .used) last links owners → (j : ℕ) → start ≤ j → j < i → free r barred held slot (getD ranked j 0) ≡ false
+  passed : (j : ℕ) → start ≤ j → j < i → free r barred held slot (getD ranked j 0) ≡ false
 
 abbrev Inv-loop : tie.InvT-loop
-Inv-loop ranked barred held last links owners bidders slot start i₀ i = Going ranked barred held last links owners bidders (slot .0) start i
+Inv-loop ranked barred held last links sheet start bidders slot from i₀ i = Going (roundOf sheet) ranked barred held bidders (slot .0) from i
 
 abbrev μ-loop : tie.MeasureT-loop
-μ-loop ranked barred held last links owners bidders slot start i₀ i = bidders - i
+μ-loop ranked barred held last links sheet start bidders slot from i₀ i = bidders - i
 
 loop-holds : tie.Need-loop-holds Inv-loop μ-loop
 loop-holds c =
@@ -31,7 +31,7 @@ loop-holds c =
     record {
       low = omega arith;
       high = omega arith;
-      passed = λ r h j from below. absurd (omega arith);
+      passed = λ j from below. absurd (omega arith);
     }
 
 ranked-at-requires : tie.Need-ranked-at-requires Inv-loop μ-loop
@@ -49,22 +49,22 @@ is-eligible-requires c κs =
     (p .0, ((omega arith, omega arith), p .1 .0 .3))
 
 -- what is_eligible said of the bidder at this rank
-said : (c : tie.After-is-eligible Inv-loop μ-loop) (r : Round) → Linked r (r .used) (c .before .before .before .before .before .before .before .before .before .before .args .last .now) (c .before .before .before .before .before .before .before .before .before .before .args .links .now) (c .before .before .before .before .before .before .before .before .before .before .args .owners .now) →
-    free r (c .before .before .before .before .before .before .before .before .before .before .args .barred .now) (c .before .before .before .before .before .before .before .before .before .before .args .held .now) (c .before .before .before .before .before .before .before .before .before .before .args .slot .0) (getD (c .before .before .before .before .before .before .before .before .before .before .args .ranked .now) (c .before .before .before .loop .i) 0) ≡ c .is-eligible .result
-said c r h =
-    sym (c .is-eligible .ensures r h ∙ ap (free r (c .before .before .before .before .before .before .before .before .before .before .args .barred .now) (c .before .before .before .before .before .before .before .before .before .before .args .held .now) (c .before .before .before .before .before .before .before .before .before .before .args .slot .0)) (c .before .ranked-at .ensures))
+said : (c : tie.After-is-eligible Inv-loop μ-loop) →
+    free (roundOf (c .before .before .before .before .before .before .before .before .before .before .args .sheet .now)) (c .before .before .before .before .before .before .before .before .before .before .args .barred .now) (c .before .before .before .before .before .before .before .before .before .before .args .held .now) (c .before .before .before .before .before .before .before .before .before .before .args .slot .0) (getD (c .before .before .before .before .before .before .before .before .before .before .args .ranked .now) (c .before .before .before .loop .i) 0) ≡ c .is-eligible .result
+said c =
+    sym
+    (c .is-eligible .ensures ∙ ap (free (roundOf (c .before .before .before .before .before .before .before .before .before .before .args .sheet .now)) (c .before .before .before .before .before .before .before .before .before .before .args .barred .now) (c .before .before .before .before .before .before .before .before .before .before .args .held .now) (c .before .before .before .before .before .before .before .before .before .before .args .slot .0)) (c .before .ranked-at .ensures))
 
 returns : tie.Need-returns Inv-loop μ-loop
 returns c =
     let v = c .before .before .before .before .loop .inv in (
       v .high,
-      λ r h.
-          record {
-            low = v .low;
-            high = v .high;
-            passed = v .passed r h;
-            here = λ below. said (c .before) r h ∙ c .if1 .taken;
-          },
+      record {
+        low = v .low;
+        high = v .high;
+        passed = v .passed;
+        here = λ below. said (c .before) ∙ c .if1 .taken;
+      },
     )
 
 add-i : tie.Need-add-i Inv-loop μ-loop
@@ -88,11 +88,11 @@ loop-again c =
     record {
       low = omega arith;
       high = omega arith;
-      passed = λ r h j from under.
+      passed = λ j from under.
           ⊎-elim
           (λ (e : j ≡ i).
-          ap (λ (z : ℕ). free r (a .barred .now) (a .held .now) (a .slot .0) (getD (a .ranked .now) z 0)) e ∙ said (c .before) r h ∙ c .if1 .left)
-          (λ (lt : j < i). v .passed r h j from lt)
+          ap (λ (z : ℕ). free (roundOf (a .sheet .now)) (a .barred .now) (a .held .now) (a .slot .0) (getD (a .ranked .now) z 0)) e ∙ said (c .before) ∙ c .if1 .left)
+          (λ (lt : j < i). v .passed j from lt)
           (eq-or-lt-of-le (let s : j ≤ i = omega arith in s));
     }
 
@@ -101,13 +101,12 @@ returns-2 c =
     let v = c .before .loop .inv in
     let done = c .loop-test .left in (
       v .high,
-      λ r h.
-          record {
-            low = v .low;
-            high = v .high;
-            passed = v .passed r h;
-            here = λ below. absurd (omega arith);
-          },
+      record {
+        low = v .low;
+        high = v .high;
+        passed = v .passed;
+        here = λ below. absurd (omega arith);
+      },
     )
 
 pub next-eligible-spec : {M : Type 1} → statement M

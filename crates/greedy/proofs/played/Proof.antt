@@ -16,30 +16,30 @@ slice-aggregate-link-all c = search needs
 slice-aggregate-link-all-2 : tie.Need-slice-aggregate-link-all-2
 slice-aggregate-link-all-2 c = search needs
 
-slice-aggregate-link-all-3 : tie.Need-slice-aggregate-link-all-3
-slice-aggregate-link-all-3 c = search needs
-
 link-all-requires : tie.Need-link-all-requires
-link-all-requires c κs = (c .before .before .before .before .pre, linked-none (roundOf (c .before .before .before .before .args .sheet .now)))
+link-all-requires c κs = (c .before .before .before .pre, linked-none (roundOf (c .before .before .before .args .sheet .now)))
+
+constraints-start-requires : tie.Need-constraints-start-requires
+constraints-start-requires c κs = c .before .before .before .before .before .before .pre
 
 shared-slice-read-bidders : tie.Need-shared-slice-read-bidders
 shared-slice-read-bidders c =
-    let known = accepted-sheet (c .before .before .before .before .before .before .before .before .before .args .sheet .now) (c .before .before .before .before .before .before .before .before .before .pre) .counts in
+    let known = accepted-sheet (c .before .before .before .before .before .before .before .before .args .sheet .now) (c .before .before .before .before .before .before .before .before .pre) .counts in
     omega arith
 
 cast-bidders : tie.Need-cast-bidders
 cast-bidders c =
-    let known = accepted-sheet (c .before .before .before .before .before .before .before .before .before .args .sheet .now) (c .before .before .before .before .before .before .before .before .before .pre) .counts in
+    let known = accepted-sheet (c .before .before .before .before .before .before .before .before .args .sheet .now) (c .before .before .before .before .before .before .before .before .pre) .counts in
     omega arith
 
 shared-slice-read-slots : tie.Need-shared-slice-read-slots
 shared-slice-read-slots c =
-    let known = accepted-sheet (c .before .before .before .before .before .before .before .before .before .before .args .sheet .now) (c .before .before .before .before .before .before .before .before .before .before .pre) .counts in
+    let known = accepted-sheet (c .before .before .before .before .before .before .before .before .before .args .sheet .now) (c .before .before .before .before .before .before .before .before .before .pre) .counts in
     omega arith
 
 cast-slots : tie.Need-cast-slots
 cast-slots c =
-    let known = accepted-sheet (c .before .before .before .before .before .before .before .before .before .before .args .sheet .now) (c .before .before .before .before .before .before .before .before .before .before .pre) .counts in
+    let known = accepted-sheet (c .before .before .before .before .before .before .before .before .before .args .sheet .now) (c .before .before .before .before .before .before .before .before .before .pre) .counts in
     omega arith
 
 slice-aggregate-fill : tie.Need-slice-aggregate-fill
@@ -51,17 +51,16 @@ slice-aggregate-fill-2 c = search needs
 slice-aggregate-fill-3 : tie.Need-slice-aggregate-fill-3
 slice-aggregate-fill-3 c = search needs
 
-slice-aggregate-fill-4 : tie.Need-slice-aggregate-fill-4
-slice-aggregate-fill-4 c = search needs
-
 fill-requires : tie.Need-fill-requires
 unfolding roundOf
 fill-requires c κs = (
-  roundOf (c .before .before .before .before .before .before .before .before .before .before .before .before .before .before .args .sheet .now),
+  roundOf (c .before .before .before .before .before .before .before .before .before .before .before .before .args .sheet .now),
   record {
-    proper = round-proper (c .before .before .before .before .before .before .before .before .before .before .before .before .before .before .args .sheet .now) (c .before .before .before .before .before .before .before .before .before .before .before .before .before .before .pre);
-    linked = c .before .before .before .before .before .before .before .before .before .link-all .ensures .1;
-    bids-are = c .before .before .before .before .before .before .before .before .before .link-all .ensures .0;
+    proper = round-proper (c .before .before .before .before .before .before .before .before .before .before .before .before .args .sheet .now) (c .before .before .before .before .before .before .before .before .before .before .before .before .pre);
+    kept = record { accepted = c .before .before .before .before .before .before .before .before .before .before .before .before .pre; starts = c .before .before .before .before .before .constraints-start .ensures; linked = c .before .before .before .before .before .before .before .before .link-all .ensures .1 };
+    constraints-are = refl;
+    used-are = refl;
+    bids-are = c .before .before .before .before .before .before .before .before .link-all .ensures .0;
     bidders-are = refl;
     slots-are = refl;
   },
@@ -70,11 +69,13 @@ fill-requires c κs = (
 returns : tie.Need-returns
 unfolding roundOf
 returns c =
-    c .fill .ensures (roundOf (c .before .before .before .before .before .before .before .before .before .before .before .before .before .before .before .args .sheet .now))
+    c .fill .ensures (roundOf (c .before .before .before .before .before .before .before .before .before .before .before .before .before .args .sheet .now))
     (record {
-      proper = round-proper (c .before .before .before .before .before .before .before .before .before .before .before .before .before .before .before .args .sheet .now) (c .before .before .before .before .before .before .before .before .before .before .before .before .before .before .before .pre);
-      linked = c .before .before .before .before .before .before .before .before .before .before .link-all .ensures .1;
-      bids-are = c .before .before .before .before .before .before .before .before .before .before .link-all .ensures .0;
+      proper = round-proper (c .before .before .before .before .before .before .before .before .before .before .before .before .before .args .sheet .now) (c .before .before .before .before .before .before .before .before .before .before .before .before .before .pre);
+      kept = record { accepted = c .before .before .before .before .before .before .before .before .before .before .before .before .before .pre; starts = c .before .before .before .before .before .before .constraints-start .ensures; linked = c .before .before .before .before .before .before .before .before .before .link-all .ensures .1 };
+      constraints-are = refl;
+      used-are = refl;
+      bids-are = c .before .before .before .before .before .before .before .before .before .link-all .ensures .0;
       bidders-are = refl;
       slots-are = refl;
     })
@@ -85,8 +86,8 @@ played-spec =
     (tie.spec
     slice-aggregate-link-all
     slice-aggregate-link-all-2
-    slice-aggregate-link-all-3
     link-all-requires
+    constraints-start-requires
     shared-slice-read-bidders
     cast-bidders
     shared-slice-read-slots
@@ -94,6 +95,5 @@ played-spec =
     slice-aggregate-fill
     slice-aggregate-fill-2
     slice-aggregate-fill-3
-    slice-aggregate-fill-4
     fill-requires
     returns)

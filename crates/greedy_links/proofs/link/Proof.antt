@@ -1,10 +1,10 @@
--- `greedy_links::link` meets its contract: three stores are one link more. Assumes nothing.
+-- `greedy_links::link` meets its contract: two stores are one link more. Assumes nothing.
 use Prim.Native.Nat.{ℕ, suc}
 use mathlib.Core.Path.{_≡_, sym, subst}
 use native.Mathlib.Numerals.{add-one}
 use native.Mathlib.Omega.{arith}
 use lib.ListN.{getD, set}
-use Rattle.greedy_links.specs.EngineLinks.{linkKey, linkOwner, Linked}
+use Rattle.greedy_links.specs.EngineLinks.{linkKey, Linked}
 use Rattle.greedy_links.proofs.LinkLaws.{linked-next}
 use borrow.Author.Needs.{needs}
 use Rattle.greedy_links.proofs.link.Statement.{statement}
@@ -37,42 +37,23 @@ mul-last c = search needs
 slice-write-last : tie.Need-slice-write-last
 slice-write-last c = search needs
 
-owner-index-requires : tie.Need-owner-index-requires
-owner-index-requires c κs = search needs
-
-cast-owners : tie.Need-cast-owners
-cast-owners c = search needs
-
-mul-owners : tie.Need-mul-owners
-mul-owners c = search needs
-
-slice-write-owners : tie.Need-slice-write-owners
-slice-write-owners c = search needs
-
 same-length : tie.Need-same-length
 same-length c = search needs
 
 same-length-2 : tie.Need-same-length-2
 same-length-2 c = search needs
 
-same-length-3 : tie.Need-same-length-3
-same-length-3 c = search needs
-
 returns : tie.Need-returns
 returns c =
-    let a = c .before .before .before .before .before .before .args in
-    let p = c .before .before .before .before .before .before .pre in
-    let x = c .before .before .chain-index .result in
-    let y = c .owner-index .result in
-    let e = c .before .before .chain-index .ensures in
-    let f = c .owner-index .ensures in
-    λ q chain owner h.
+    let a = c .before .before .before .before .args in
+    let p = c .before .before .before .before .pre in
+    let x = c .before .chain-index .result in
+    let e = c .before .chain-index .ensures in
+    λ q chain h.
     let key : x ≡ linkKey q (a .number) = omega arith in
-    let own : y ≡ linkOwner q (a .number) = omega arith in
-    subst
-    (λ (n : ℕ). Linked q (suc (a .number)) (set (a .last .now) x n) (set (a .links .now) (a .number) (getD (a .last .now) x 0)) (set (a .owners .now) (a .number) y))
+    subst (λ (n : ℕ). Linked q (suc (a .number)) (set (a .last .now) x n) (set (a .links .now) (a .number) (getD (a .last .now) x 0)))
     (sym (add-one (a .number)))
-    (linked-next q (a .number) x y (a .last .now) (a .links .now) (a .owners .now) (omega arith) (omega arith) (p .1 .2) key own h)
+    (linked-next q (a .number) x (a .last .now) (a .links .now) (omega arith) (p .3) key h)
 
 pub link-spec : {M : Type 1} → statement M
 link-spec =
@@ -87,11 +68,6 @@ link-spec =
     cast-last
     mul-last
     slice-write-last
-    owner-index-requires
-    cast-owners
-    mul-owners
-    slice-write-owners
     same-length
     same-length-2
-    same-length-3
     returns)

@@ -9,88 +9,79 @@ use Rattle.sheet.specs.Round.{constraintAt}
 use Rattle.sheet.specs.Proper.{ProperRound}
 use Rattle.sheet.proofs.RoundLaws.{round-proper}
 use Rattle.greedy_links.specs.EngineLinks.{Linked}
+use borrow.Author.Needs.{needs}
 use Rattle.greedy_links.proofs.link_all.Statement.{statement}
 use Rattle.greedy_links.proofs.link_all.Tie as tie
 
 abbrev Inv-loop : tie.InvT-loop
-Inv-loop last₀ links₀ owners₀ sheet round used i₀ last links owners i = (i ≤ used) × Linked round i last links owners
+Inv-loop last₀ links₀ sheet round used i₀ last links i = (i ≤ used) × Linked round i last links
 
 abbrev μ-loop : tie.MeasureT-loop
-μ-loop last₀ links₀ owners₀ sheet round used i₀ last links owners i = used - i
+μ-loop last₀ links₀ sheet round used i₀ last links i = used - i
 
 accepted-round-requires : tie.Need-accepted-round-requires Inv-loop μ-loop
-accepted-round-requires c κs = c .before .before .before .before .pre .0
+accepted-round-requires c κs = c .before .before .before .pre .0
 
 loop-holds : tie.Need-loop-holds Inv-loop μ-loop
 loop-holds c =
-    let a = c .before .before .before .before .before .args in
-    (omega arith, subst (λ (r : Round). Linked r 0 (a .last .now) (a .links .now) (a .owners .now)) (sym (c .accepted-round .ensures)) (c .before .before .before .before .before .pre .1))
+    (omega arith, subst (λ (r : Round). Linked r 0 (c .before .before .before .before .args .last .now) (c .before .before .before .before .args .links .now)) (sym (c .accepted-round .ensures)) (c .before .before .before .before .pre .1))
 
 -- the round that was made is a proper one
 proper : (c : tie.In-loop Inv-loop μ-loop) → ProperRound (c .before .before .accepted-round .result)
-proper c =
-    subst ProperRound (sym (c .before .before .accepted-round .ensures)) (round-proper (c .before .before .before .before .before .before .before .args .sheet .now) (c .before .before .before .before .before .before .before .pre .0))
+proper c = subst ProperRound (sym (c .before .before .accepted-round .ensures)) (round-proper (c .before .before .before .before .before .before .args .sheet .now) (c .before .before .before .before .before .before .pre .0))
 
 mul-enter : tie.Need-mul-enter Inv-loop μ-loop
 mul-enter c =
-    let p = proper (c .before .before .before) in
-    let v = c .before .before .before .before .loop .inv .0 in
-    let below = c .before .before .before .loop-test .taken in
+    let p = proper (c .before .before) in
+    let v = c .before .before .before .loop .inv .0 in
+    let below = c .before .before .loop-test .taken in
     omega arith
 
 element-copy-out-enter : tie.Need-element-copy-out-enter Inv-loop μ-loop
 element-copy-out-enter c =
-    let p = proper (c .before .before .before) in
-    let v = c .before .before .before .before .loop .inv .0 in
-    let below = c .before .before .before .loop-test .taken in
+    let p = proper (c .before .before) in
+    let v = c .before .before .before .loop .inv .0 in
+    let below = c .before .before .loop-test .taken in
     omega arith
 
 enter-requires : tie.Need-enter-requires Inv-loop μ-loop
 unfolding constraintAt
 enter-requires c κs =
-    let p = proper (c .before .before .before .before) in
-    let v = c .before .before .before .before .before .loop .inv .1 in
-    let below = c .before .before .before .before .loop-test .taken in
+    let p = proper (c .before .before .before) in
+    let v = c .before .before .before .before .loop .inv .1 in
+    let below = c .before .before .before .loop-test .taken in
     let used = p .most-used in
-    ((v .sized-last, v .sized-links, v .sized-owners), (p .proper _ (c .before .before .before .before .before .loop .i, below, refl), omega arith))
+    (v .sized-last, v .sized-links, p .proper _ (c .before .before .before .before .loop .i, below, refl), omega arith)
 
 add-i : tie.Need-add-i Inv-loop μ-loop
 add-i c =
-    let p = proper (c .before .before .before .before .before .before .before .before .before .before .before) in
-    let below = c .before .before .before .before .before .before .before .before .before .before .before .loop-test .taken in
+    let p = proper (c .before .before .before .before .before .before .before .before) in
+    let below = c .before .before .before .before .before .before .before .before .loop-test .taken in
     omega arith
 
 loop-less : tie.Need-loop-less Inv-loop μ-loop
-loop-less c =
-    let below = c .before .before .before .before .before .before .before .before .before .before .before .loop-test .taken in
-    omega arith
+loop-less c = let below = c .before .before .before .before .before .before .before .before .loop-test .taken in omega arith
 
 loop-again : tie.Need-loop-again Inv-loop μ-loop
 unfolding constraintAt
 loop-again c =
-    let below = c .before .before .before .before .before .before .before .before .before .before .before .loop-test .taken in
-    let i = c .before .before .before .before .before .before .before .before .before .before .before .before .loop .i in
-    let r = c .before .before .before .before .before .before .before .before .before .before .before .before .before .accepted-round .result in
-    (omega arith, rw (add-one i) (c .before .before .before .before .before .before .enter .ensures r refl (c .before .before .before .before .before .before .before .before .before .before .before .before .loop .inv .1)))
+    let below = c .before .before .before .before .before .before .before .before .loop-test .taken in
+    (omega arith, rw (add-one (c .before .before .before .before .before .before .before .before .before .loop .i)) (c .before .before .before .before .enter .ensures (c .before .before .before .before .before .before .before .before .before .before .accepted-round .result) refl (c .before .before .before .before .before .before .before .before .before .loop .inv .1)))
 
 same-length : tie.Need-same-length Inv-loop μ-loop
-same-length c = c .before .before .loop .inv .1 .sized-last ∙ sym (c .before .before .before .before .before .before .before .before .pre .1 .sized-last)
+same-length c = c .before .before .loop .inv .1 .sized-last ∙ sym (c .before .before .before .before .before .before .before .pre .1 .sized-last)
 
 same-length-2 : tie.Need-same-length-2 Inv-loop μ-loop
-same-length-2 c = c .before .before .loop .inv .1 .sized-links ∙ sym (c .before .before .before .before .before .before .before .before .pre .1 .sized-links)
-
-same-length-3 : tie.Need-same-length-3 Inv-loop μ-loop
-same-length-3 c = c .before .before .loop .inv .1 .sized-owners ∙ sym (c .before .before .before .before .before .before .before .before .pre .1 .sized-owners)
+same-length-2 c = c .before .before .loop .inv .1 .sized-links ∙ sym (c .before .before .before .before .before .before .before .pre .1 .sized-links)
 
 returns : tie.Need-returns Inv-loop μ-loop
 returns c =
     let l = c .before .before .loop in
-    let v = l .inv in
     let made = c .before .before .before .accepted-round .ensures in
-    let end = le-antisymm (v .0) (c .before .loop-test .left) in (
+    let end = le-antisymm (l .inv .0) (c .before .loop-test .left) in (
       ap (λ (r : Round). r .bids) made,
-      subst (λ (r : Round). Linked r (r .used) (l .last) (l .links) (l .owners)) made
-          (subst (λ (n : ℕ). Linked (c .before .before .before .accepted-round .result) n (l .last) (l .links) (l .owners)) end (v .1)),
+      subst (λ (r : Round). Linked r (r .used) (l .last) (l .links)) made
+          (subst (λ (n : ℕ). Linked (c .before .before .before .accepted-round .result) n (l .last) (l .links)) end (l .inv .1)),
     )
 
 pub link-all-spec : {M : Type 1} → statement M
@@ -109,5 +100,4 @@ link-all-spec =
     loop-again
     same-length
     same-length-2
-    same-length-3
     returns)
