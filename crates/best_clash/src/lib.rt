@@ -6,13 +6,15 @@ ghost use lib.Dec.{eqb, leb, ltb};
 ghost use lib.ListN.{length, getD};
 ghost use Rattle.basis.specs.Bits.{bitOf};
 ghost use Rattle.auction.specs.Page.{emptyPage};
-ghost use Rattle.sheet.specs.Proper.{Proper, ProperRound};
+ghost use Rattle.sheet.specs.Proper.{Proper};
+ghost use Rattle.sheet.specs.Refusal.{Accepted};
+ghost use Rattle.sheet.specs.Round.{roundOf};
+ghost use Rattle.sheet.specs.Sheet.{bidderCount, slotCount};
 ghost use Rattle.best_clash.specs.EngineClash.{entryAt, TableOf, BarredBy, BarredAlso};
 ghost use Rattle.best_clash.specs.EngineMarks.{Entry, Numbered, bothAre, eitherWay, anywhere, marks};
 use sheet::Bidder;
 use sheet::Constraint;
 use sheet::Kind;
-use sheet::Round;
 use sheet::Slot;
 
 // The number of a bidder at a slot in the table, 64 where the table has no such bidder or slot.
@@ -86,16 +88,17 @@ fn mark_constraint(table: &mut [u64], constraint: Constraint)
     }
 }
 
-// The table of a round, in a lent slice of 64 words of 0.
-pub fn fill_table(table: &mut [u64], round: Round)
+// The table of an accepted sheet's round, in a lent slice of 64 words of 0. The constraints are read one by one.
+pub fn fill_table(table: &mut [u64], sheet: &[u8])
     requires { ⌜ (length (now table) ≡ 64) × ((i : ℕ) → getD (now table) i 0 ≡ 0) ⌝ }
-    requires { ⌜ ProperRound round × (round .bidders ≤ 8) × (round .slots ≤ 8) ⌝ }
-    ensures { λ r. ⌜ TableOf round (now (table .exit)) ⌝ }
+    requires { ⌜ Accepted (now sheet) × (bidderCount (now sheet) ≤ 8) × (slotCount (now sheet) ≤ 8) ⌝ }
+    ensures { λ r. ⌜ TableOf (roundOf (now (sheet .entry))) (now (table .exit)) ⌝ }
 {
-    let used = round.used;
+    let used = sheet_read::constraint_count(sheet);
+    let start = sheet_read::constraints_start(sheet);
     let mut i = 0;
     while i < used {
-        mark_constraint(table, round.constraints[i]);
+        mark_constraint(table, sheet_read::constraint_at(sheet, start, i));
         i += 1;
     }
 }

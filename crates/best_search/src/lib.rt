@@ -5,7 +5,9 @@ ghost use lib.ListN.{length, getD};
 ghost use mathlib.Core.List.{_++_};
 ghost use lib.ListN.{drop};
 ghost use Rattle.basis.specs.Rows.{row};
-ghost use Rattle.sheet.specs.Proper.{ProperRound};
+ghost use Rattle.sheet.specs.Refusal.{Accepted};
+ghost use Rattle.sheet.specs.Round.{roundOf};
+ghost use Rattle.sheet.specs.Sheet.{bidderCount, slotCount};
 ghost use Rattle.best_page.specs.Best.{Best};
 ghost use Rattle.auction.specs.Allowed.{total};
 ghost use Rattle.best_search.specs.Call.{BestGiven};
@@ -17,7 +19,6 @@ ghost use Rattle.best_search.specs.EngineNode.{openTo, Lent, Leads, Atte
 use best_page::Answer;
 use sheet::Bidder;
 use sheet::Page;
-use sheet::Round;
 use sheet::Slot;
 
 // What a choice at a slot leads to: a word of who is barred then, 8 bidders a slot, what is had then, and the most that can be had.
@@ -201,17 +202,18 @@ fn search(
 }
 
 // The best page of a small round, with one more than its total.
-fn best_page(round: Round) -> Answer
-    requires { ⌜ ProperRound round × (round .bidders ≤ 8) × (round .slots ≤ 8) ⌝ }
-    ensures { λ r. ⌜ Best round (r .page) × (r .need ≡ suc (total round (r .page))) ⌝ }
+fn best_page(sheet: &[u8]) -> Answer
+    requires { ⌜ Accepted (now sheet) × (bidderCount (now sheet) ≤ 8) × (slotCount (now sheet) ≤ 8) ⌝ }
+    ensures { λ r. ⌜ Best (roundOf (now (sheet .entry))) (r .page) × (r .need ≡ suc (total (roundOf (now (sheet .entry))) (r .page))) ⌝ }
 {
+    let round = sheet_read::accepted_round(sheet);
     let bids = round.bids;
     let effects = round.effects;
     let bidders = round.bidders;
     let slots = round.slots;
     let ranked = choice::ranking_of(&bids, bidders);
     let mut table = [0u64; 64];
-    best_clash::fill_table(&mut table, round);
+    best_clash::fill_table(&mut table, sheet);
     let page = auction::empty_page();
     let barred = best_clash::first_barred(&table);
     let need = raise(
@@ -281,8 +283,7 @@ pub fn best(sheet: &[u8], result: &mut [u8]) -> Chosen
             total: 0,
         };
     }
-    let round = sheet_read::accepted_round(sheet);
-    let answer = best_page(round);
+    let answer = best_page(sheet);
     write_page(answer.page, slots, result);
     Chosen {
         refusal: 0,

@@ -6,13 +6,13 @@
 ghost use mathlib.Core.Path.{_≡_};
 ghost use Prim.Native.Nat.{_≤_};
 ghost use lib.ListN.{length};
-ghost use Rattle.sheet.specs.Proper.{ProperRound};
+ghost use Rattle.sheet.specs.Refusal.{Accepted};
+ghost use Rattle.sheet.specs.Round.{roundOf};
 ghost use Rattle.downward.specs.Downward.{downward};
 ghost use Rattle.downward.specs.EngineKeys.{keyFor, keyOf, Gathered, keyIn, keyAsksLower, keysDownward};
 ghost use Rattle.downward.specs.Call.{testedOf};
 use sheet::Bidder;
 use sheet::Kind;
-use sheet::Round;
 
 // The answer: a refusal's number, or 0 and whether the list is downward monotonic.
 pub struct Tested {
@@ -44,17 +44,18 @@ fn key_of(kind: Kind) -> u32
     }
 }
 
-// The numbers of a bidder's own constraints.
-fn gather(round: Round, bidder: Bidder) -> Keys
-    requires { ⌜ ProperRound round ⌝ }
-    ensures { λ r. ⌜ Gathered round (bidder .0) (round .used) (r .keys) (r .count) ⌝ }
+// The numbers of a bidder's own constraints. They are read one by one, and no round is made of them.
+fn gather(sheet: &[u8], bidder: Bidder) -> Keys
+    requires { ⌜ Accepted (now sheet) ⌝ }
+    ensures { λ r. ⌜ Gathered (roundOf (now (sheet .entry))) (bidder .0) (roundOf (now (sheet .entry)) .used) (r .keys) (r .count) ⌝ }
 {
-    let used = round.used;
+    let used = sheet_read::constraint_count(sheet);
+    let start = sheet_read::constraints_start(sheet);
     let mut keys = [0u32; 1024];
     let mut count: usize = 0;
     let mut i: usize = 0;
     while i < used {
-        let constraint = round.constraints[i];
+        let constraint = sheet_read::constraint_at(sheet, start, i);
         let owner = constraint.owner;
         if owner.0 == bidder.0 {
             let kind = constraint.kind;
@@ -114,13 +115,14 @@ fn keys_downward(keys: &[u32], count: usize, slots: usize) -> bool
 }
 
 // Whether a bidder's list is downward monotonic.
-pub fn is_downward(round: Round, bidder: Bidder) -> bool
-    requires { ⌜ ProperRound round ⌝ }
-    ensures { λ r. ⌜ r ≡ downward round (bidder .0) ⌝ }
+fn is_downward(sheet: &[u8], bidder: Bidder) -> bool
+    requires { ⌜ Accepted (now sheet) ⌝ }
+    ensures { λ r. ⌜ r ≡ downward (roundOf (now (sheet .entry))) (bidder .0) ⌝ }
 {
-    let gathered = gather(round, bidder);
+    let gathered = gather(sheet, bidder);
     let keys = gathered.keys;
-    keys_downward(&keys, gathered.count, round.slots)
+    let slots = sheet[6] as usize;
+    keys_downward(&keys, gathered.count, slots)
 }
 
 // The number of the first rule that the call breaks, 1 to 13 or 16; or 0 and the test's answer.
@@ -149,6 +151,6 @@ pub fn test(sheet: &[u8], bidder: u32) -> Tested
     }
     Tested {
         refusal: 0,
-        yes: is_downward(sheet_read::accepted_round(sheet), Bidder(bidder as u16)),
+        yes: is_downward(sheet, Bidder(bidder as u16)),
     }
 }

@@ -2,14 +2,13 @@
 -- Assumes nothing.
 use Prim.Native.Nat.{ℕ, suc}
 use mathlib.Core.List.{List, _++_}
-use mathlib.Core.Path.{sym, _∙_, ap, subst}
+use mathlib.Core.Path.{refl, sym, _∙_, ap}
 use native.Mathlib.Omega.{arith}
 use lib.ListN.{drop}
 use Rattle.basis.specs.Rows.{row}
 use Rattle.sheet.specs.declared.Page.{Page}
-use Rattle.sheet.specs.declared.Round.{Round}
-use Rattle.sheet.specs.Proper.{ProperRound}
 use Rattle.sheet.specs.Refusal.{Accepted}
+use Rattle.sheet.specs.Round.{roundOf}
 use Rattle.sheet.proofs.AcceptedLaws.{accepted-sheet}
 use Rattle.sheet.proofs.RoundLaws.{round-proper, round-bidders, round-slots}
 use Rattle.auction.specs.Page.{at}
@@ -80,49 +79,36 @@ returns-4 c =
     let ok : Accepted s = sym (c .before .before .before .before .before .before .check .ensures) ∙ c .before .before .before .before .before .if1 .left in
     buffer-short s out ok (c .before .before .if2 .left) (c .before .if3 .left) (c .if4 .taken)
 
-accepted-round-requires : tie.Need-accepted-round-requires
-accepted-round-requires c κs = sym (c .before .before .before .before .before .before .check .ensures) ∙ c .before .before .before .before .before .if1 .left
-
 best-page-requires : tie.Need-best-page-requires
-best-page-requires c κs =
-    let s = c .before .before .before .before .before .before .before .before .before .before .args .sheet .now in
-    let ok : Accepted s = sym (c .before .before .before .before .before .before .before .check .ensures) ∙ c .before .before .before .before .before .before .if1 .left in
-    let round = c .accepted-round .ensures in
-    let n = ap (λ (r : Round). r .bidders) round ∙ round-bidders s in
-    let m = ap (λ (r : Round). r .slots) round ∙ round-slots s in
-    let few = c .before .before .before .if2 .left in
-    let few′ = c .before .before .if3 .left in
-    (subst ProperRound (sym round) (round-proper s ok), omega arith, omega arith)
+best-page-requires c κs = (sym (c .before .before .before .before .before .before .check .ensures) ∙ c .before .before .before .before .before .if1 .left, c .before .before .if2 .left, c .before .if3 .left)
 
 write-page-requires : tie.Need-write-page-requires
 write-page-requires c κs =
-    let s = c .before .before .before .before .before .before .before .before .before .before .before .before .args .sheet .now in
-    let n = ap (λ (r : Round). r .bidders) (c .before .before .accepted-round .ensures) ∙ round-bidders s in
-    let few = c .before .before .before .before .before .if2 .left in
-    let few′ = c .before .before .before .before .if3 .left in
-    let size = c .before .before .before .if4 .left in
+    let n = round-bidders (c .before .before .before .before .before .before .before .before .before .before .before .args .sheet .now) in
+    let few = c .before .before .before .before .if2 .left in
+    let few′ = c .before .before .before .if3 .left in
+    let size = c .before .before .if4 .left in
     (omega arith, omega arith, λ k. omega (arith, c .before .best-page .ensures .0 .allowed .page .bidders k))
 
-sub-t16 : tie.Need-sub-t16
-sub-t16 c = search needs
+sub-t15 : tie.Need-sub-t15
+sub-t15 c = search needs
 
 same-length : tie.Need-same-length
 same-length c = search needs
 
 returns-5 : tie.Need-returns-5
 returns-5 c =
-    let s = c .before .before .before .before .before .before .before .before .before .before .before .before .before .before .before .before .args .sheet .now in
-    let out = c .before .before .before .before .before .before .before .before .before .before .before .before .before .before .before .before .args .result .now in
-    let ok : Accepted s = sym (c .before .before .before .before .before .before .before .before .before .before .before .before .before .check .ensures) ∙ c .before .before .before .before .before .before .before .before .before .before .before .before .if1 .left in
-    let page = c .before .before .before .before .before in
-    let r = page .before .accepted-round .result in
-    let round = page .before .accepted-round .ensures in
-    let proper = subst ProperRound (sym round) (round-proper s ok) in
-    let found = page .best-page .ensures in
-    best-given s out ok r (page .best-page .result .page) (page .best-page .result .need) _
-    (page .before .before .before .before .if2 .left) (page .before .before .before .if3 .left) (page .before .before .if4 .left)
-    round (is-best-page r (proper .most-slots) proper (page .best-page .result .page) (found .0)) (found .1)
-    (c .before .before .before .write-page .ensures ∙ ap (written out (page .best-page .result .page)) (sym (ap (λ (x : Round). x .slots) round ∙ round-slots s)))
+    let s = c .before .before .before .before .before .before .before .before .before .before .before .before .before .before .before .args .sheet .now in
+    let out = c .before .before .before .before .before .before .before .before .before .before .before .before .before .before .before .args .result .now in
+    let ok : Accepted s = sym (c .before .before .before .before .before .before .before .before .before .before .before .before .check .ensures) ∙ c .before .before .before .before .before .before .before .before .before .before .before .if1 .left in
+    let r = roundOf s in
+    let proper = round-proper s ok in
+    let found = c .before .before .before .before .before .best-page .ensures in
+    let page = c .before .before .before .before .before .best-page .result .page in
+    best-given s out ok r page (c .before .before .before .before .before .best-page .result .need) _
+    (c .before .before .before .before .before .before .before .before .if2 .left) (c .before .before .before .before .before .before .before .if3 .left) (c .before .before .before .before .before .before .if4 .left)
+    refl (is-best-page r (proper .most-slots) proper page (found .0)) (found .1)
+    (c .before .before .before .write-page .ensures ∙ ap (written out page) (sym (round-slots s)))
 
 pub best-spec : {M : Type 1} → statement M
 best-spec =
@@ -137,9 +123,8 @@ best-spec =
     returns-2
     returns-3
     returns-4
-    accepted-round-requires
     best-page-requires
     write-page-requires
-    sub-t16
+    sub-t15
     same-length
     returns-5)

@@ -1,14 +1,10 @@
 -- `downward::test` meets its contract, by the cases of the call: a bidder within the sheet's is below 256, so it is not cut.
 -- Assumes nothing.
 use mathlib.Core.Bool.{Bool}
-use mathlib.Core.Path.{sym, _∙_, ap, subst}
+use mathlib.Core.Path.{sym, _∙_, ap}
 use native.Mathlib.Omega.{arith}
-use Rattle.sheet.specs.declared.Round.{Round}
-use Rattle.sheet.specs.Proper.{ProperRound}
 use Rattle.sheet.specs.Refusal.{Accepted}
 use Rattle.sheet.proofs.AcceptedLaws.{accepted-sheet}
-use Rattle.sheet.proofs.RoundLaws.{round-proper}
-use Rattle.downward.specs.Downward.{downward}
 use Rattle.downward.proofs.CallLaws.{sheet-refused, no-bidder, bidder-above, list-tested}
 use borrow.Author.Needs.{needs}
 use Rattle.downward.proofs.test.Statement.{statement}
@@ -48,29 +44,22 @@ returns-3 c =
     let ok : Accepted s = sym (c .before .before .before .before .check .ensures) ∙ c .before .before .before .if1 .left in
     bidder-above s (c .before .before .before .before .before .before .args .bidder) ok (omega arith)
 
-accepted-round-requires : tie.Need-accepted-round-requires
-accepted-round-requires c κs = sym (c .before .before .before .before .check .ensures) ∙ c .before .before .before .if1 .left
-
-cast-t10 : tie.Need-cast-t10
-cast-t10 c =
-    let s = c .before .before .before .before .before .before .before .args .sheet .now in
-    let ok : Accepted s = sym (c .before .before .before .before .before .check .ensures) ∙ c .before .before .before .before .if1 .left in
+cast-t9 : tie.Need-cast-t9
+cast-t9 c =
+    let s = c .before .before .before .before .before .before .args .sheet .now in
+    let ok : Accepted s = sym (c .before .before .before .before .check .ensures) ∙ c .before .before .before .if1 .left in
     let few = accepted-sheet s ok .counts .most-bidders in
     omega arith
 
 is-downward-requires : tie.Need-is-downward-requires
-is-downward-requires c κs =
-    let s = c .before .before .before .before .before .before .before .args .sheet .now in
-    let ok : Accepted s = sym (c .before .before .before .before .before .check .ensures) ∙ c .before .before .before .before .if1 .left in
-    subst ProperRound (sym (c .accepted-round .ensures)) (round-proper s ok)
+is-downward-requires c κs = sym (c .before .before .before .before .check .ensures) ∙ c .before .before .before .if1 .left
 
 returns-4 : tie.Need-returns-4
 returns-4 c =
-    let s = c .before .before .before .before .before .before .before .before .args .sheet .now in
-    let ok : Accepted s = sym (c .before .before .before .before .before .before .check .ensures) ∙ c .before .before .before .before .before .if1 .left in
-    let i = c .before .before .before .before .before .before .before .before .args .bidder in
-    ap (λ (t : Bool). record { refusal = 0; yes = t }) (c .is-downward .ensures ∙ ap (λ (r : Round). downward r i) (c .before .accepted-round .ensures))
-    ∙ list-tested s i ok (omega arith) (omega arith)
+    let s = c .before .before .before .before .before .before .before .args .sheet .now in
+    let ok : Accepted s = sym (c .before .before .before .before .before .check .ensures) ∙ c .before .before .before .before .if1 .left in
+    let i = c .before .before .before .before .before .before .before .args .bidder in
+    ap (λ (t : Bool). record { refusal = 0; yes = t }) (c .is-downward .ensures) ∙ list-tested s i ok (omega arith) (omega arith)
 
 pub test-spec : {M : Type 1} → statement M
 test-spec =
@@ -82,7 +71,6 @@ test-spec =
     cast-bidders
     returns-2
     returns-3
-    accepted-round-requires
-    cast-t10
+    cast-t9
     is-downward-requires
     returns-4)
