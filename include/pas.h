@@ -129,9 +129,9 @@ extern "C" {
  * takes where it looks up memcpy and memset in that call. The figures of the calls that use these two leave 4 KB and
  * more above "measured", for that and for another C library.
  *
- * A thread with 64 KB of stack does for every call; one of 16 KB, PTHREAD_STACK_MIN, does for pas_check alone. A call
- * that finds too little stack runs into the guard page and ends the program; where there is no guard page, as below
- * many a coroutine's stack, it overwrites what lies there.
+ * A thread with 64 KB of stack does for every call; by the figures one of 16 KB, PTHREAD_STACK_MIN, does for
+ * pas_check alone. A call that finds too little stack runs into the guard page and ends the program; where there is no
+ * guard page, as below many a coroutine's stack, it overwrites what lies there.
  */
 #define PAS_STACK_CHECK 1024u
 #define PAS_STACK_PLAY 28672u

@@ -1,12 +1,12 @@
 -- What the marks know of a page, and that they say who is eligible. With a candidate on an unbroken page, a constraint is broken exactly when
 -- one of its keys was true and the other is the candidate's: its chain is the candidate's and the owner's key was true, or the owner's key
 -- is one of the candidate's and the chain's was true. Assumes nothing.
-use Prim.Native.Nat.{ℕ, zero, suc, _<_, _≤_}
+use Prim.Native.Nat.{ℕ, _<_, _≤_}
 use borrow.Author.Tests.{eq-eqb, ne-eqb, eqb-true}
 use mathlib.Core.Bool.{Bool, true, false, not, _&&_, _||_, and-comm, or-false, or-comm, false≢true, and-or-distrib-left, and-or-distrib-right}
 use mathlib.Core.List.{List}
 use mathlib.Core.Logic.{⊎-elim}
-use mathlib.Core.Path.{_≡_, refl, sym, _∙_, ap, ap₂, subst}
+use mathlib.Core.Path.{_≡_, refl, sym, _∙_, ap, ap₂}
 use native.Mathlib.Omega.{arith}
 use lib.Dec.{eqb}
 use lib.ListN.{replicate}
@@ -18,7 +18,7 @@ use Rattle.sheet.specs.declared.Page.{Page}
 use Rattle.sheet.specs.declared.Round.{Round}
 use Rattle.sheet.specs.Round.{constraintAt, Has}
 use Rattle.sheet.specs.Proper.{Proper, ProperRound}
-use Rattle.auction.specs.Page.{at, put, emptyPage, placed, Sized}
+use Rattle.auction.specs.Page.{at, put, emptyPage, Sized}
 use Rattle.auction.specs.Broken.{broken, breaks}
 use Rattle.auction.specs.Greedy.{eligible}
 use Rattle.auction.proofs.BrokenLaws.{eligible-breaks}

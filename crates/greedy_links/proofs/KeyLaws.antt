@@ -1,35 +1,31 @@
 -- A constraint is broken exactly when both its keys are true of the page, and a bidder put at an empty slot makes two keys true and no other.
--- So, of an unbroken page with one bidder more: what the bidder breaks is a link of its own chain whose owner's key is true, or a link of
--- which the owner's key is one of the bidder's two and the chain's is true. Assumes nothing.
+-- Assumes nothing.
 use Prim.Native.Nat.{ℕ, zero, suc, _<_, _≤_}
 use borrow.Author.Tests.{eq-eqb, ne-eqb, eqb-true}
-use mathlib.Core.Bool.{Bool, true, false, not, _&&_, _||_, and-true, and-false, and-comm, or-false, and-or-distrib-right, and-or-distrib-left}
+use mathlib.Core.Bool.{Bool, true, false, _&&_, _||_, and-true, and-false}
 use mathlib.Core.List.{List}
-use mathlib.Core.Logic.{_⊎_, inl, inr, ⊎-elim}
+use mathlib.Core.Logic.{_⊎_, ⊎-elim}
 use mathlib.Core.Path.{_≡_, refl, sym, _∙_, ap, ap₂}
 use native.Mathlib.Nat.{not-suc-le-zero}
 use native.Mathlib.Omega.{arith}
 use lib.Dec.{eqb}
-use Rattle.basis.specs.Tests.{anyBelow}
 use Rattle.basis.proofs.NumberLaws.{same-or-not}
-use Rattle.basis.proofs.TestLaws.{same-tests, not-both, fails, and-holds, and-parts, or-left, or-right, or-parts, holds-or-fails, any-same, any-or}
+use Rattle.basis.proofs.TestLaws.{same-tests, or-left, or-right, or-parts, holds-or-fails}
 use Rattle.sheet.specs.declared.Bidder.{Bidder}
-use Rattle.sheet.specs.declared.Slot.{Slot}
 use Rattle.sheet.specs.declared.Kind.{Kind}
 use Rattle.sheet.specs.declared.Kind.the-variants.{OwnSlot, OtherSlot, Pair}
 use Rattle.sheet.specs.declared.Constraint.{Constraint}
 use Rattle.sheet.specs.declared.Page.{Page}
-use Rattle.sheet.specs.declared.Round.{Round}
 use Rattle.sheet.specs.Sheet.{constraintCount}
 use Rattle.sheet.specs.Refusal.{Accepted}
-use Rattle.sheet.specs.Round.{constraintAt, Has, roundOf}
+use Rattle.sheet.specs.Round.{constraintAt, roundOf}
 use Rattle.sheet.proofs.RoundLaws.{round-proper}
-use Rattle.sheet.specs.Proper.{ProperKind, Proper, ProperRound}
+use Rattle.sheet.specs.Proper.{Proper}
 use Rattle.auction.specs.Page.{at, put, emptyPage, placed, Sized}
-use Rattle.auction.specs.Broken.{ownHolds, otherHolds, broken, breaks}
+use Rattle.auction.specs.Broken.{ownHolds, otherHolds, broken}
 use Rattle.auction.proofs.PageLaws.{at-put-same, at-put-other, at-empty, placed-at, placed-put, put-placed, put-keeps, keeps-placed, empty-placed}
 use Rattle.greedy_links.specs.EngineKeys.{key, chainBidder, chainSlot, ownerBidder, ownerSlot, isSo, madeSo}
-use Rattle.greedy_links.specs.EngineLinks.{linkKey, linkOwner, someOwner}
+use Rattle.greedy_links.specs.EngineLinks.{linkOwner}
 
 -- the two keys of a constraint are true
 abbrev pub chainSo : Page → Constraint → Bool

@@ -7,7 +7,6 @@ use Rattle.basis.specs.Bytes.{byteAt, word32At}
 use Rattle.basis.proofs.BytesLaws.{word-bytes}
 use Rattle.sheet.specs.Sheet.{constraintsStart, ownerField, ownSlotField, otherField, otherSlotField}
 use Rattle.sheet.specs.Round.{bidder, kindOf, constraintField}
-use Rattle.sheet.specs.declared.Constraint.{Constraint}
 use Rattle.sheet.specs.declared.Kind.{Kind}
 
 pub word-constraint : (s : List ℕ) → ((i : ℕ) → byteAt s i < 256) → (start w k : ℕ) (kind : Kind) →

@@ -95,7 +95,7 @@ pub fn constraint_count(sheet: &[u8]) -> usize
     word16(sheet, 7) as usize
 }
 
-// One constraint of an accepted sheet, read from its bytes: for a call that needs no round of them.
+// One constraint of an accepted sheet, read from its bytes: for who needs few of them, or each only once.
 pub fn constraint_at(sheet: &[u8], start: usize, index: usize) -> Constraint
     requires { ⌜ (start ≡ constraintsStart (now sheet)) × (start + 4 * index + 4 ≤ length (now sheet)) ⌝ }
     ensures { λ r. ⌜ r ≡ constraintField (now (sheet .entry)) index ⌝ }

@@ -7,7 +7,7 @@ use lib.Dec.{eqb}
 use Rattle.sheet.specs.Round.{roundOf}
 use Rattle.greedy_links.specs.declared.Named.{Named}
 use Rattle.greedy_links.specs.declared.Named.the-variants.{ByEarlierWinner, ByItself, ByNobody}
-use Rattle.greedy_links.specs.EngineKeys.{key, isMarked}
+use Rattle.greedy_links.specs.EngineKeys.{isMarked}
 use Rattle.greedy_links.specs.EngineLinks.{someOwner, namedFor}
 use Rattle.greedy.specs.EngineEligible.{isNamed, isBarred, free}
 use borrow.Author.Needs.{needs}

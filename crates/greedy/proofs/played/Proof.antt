@@ -1,11 +1,10 @@
 -- `greedy::played` meets its contract: the constraints are linked, and then the page is filled. Assumes nothing.
-use mathlib.Core.Path.{refl, _∙_}
+use mathlib.Core.Path.{refl}
 use native.Mathlib.Omega.{arith}
 use Rattle.sheet.specs.Round.{roundOf}
 use Rattle.sheet.proofs.AcceptedLaws.{accepted-sheet}
 use Rattle.sheet.proofs.RoundLaws.{round-proper}
 use Rattle.greedy_links.proofs.LinkLaws.{linked-none}
-use Rattle.greedy.specs.EngineEligible.{Lent}
 use borrow.Author.Needs.{needs}
 use Rattle.greedy.proofs.played.Statement.{statement}
 use Rattle.greedy.proofs.played.Tie as tie

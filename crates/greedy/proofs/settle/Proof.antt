@@ -1,6 +1,6 @@
 -- `greedy::settle` meets its contract: a winner adds the owners along its chain to the one list, and its two keys to the other. Assumes nothing.
 use Prim.Native.Nat.{ℕ}
-use mathlib.Core.Bool.{Bool, _||_}
+use mathlib.Core.Bool.{_||_}
 use mathlib.Core.Path.{refl, _∙_, ap}
 use lib.Dec.{eqb}
 use Rattle.sheet.specs.Round.{roundOf}

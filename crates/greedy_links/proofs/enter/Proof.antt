@@ -1,5 +1,5 @@
 -- `greedy_links::enter` meets its contract: the two parts of the chain's key, and then one link more. Assumes nothing.
-use mathlib.Core.Path.{_≡_, sym, _∙_, ap, ap₂}
+use mathlib.Core.Path.{sym, _∙_, ap, ap₂}
 use native.Mathlib.Omega.{arith}
 use Rattle.sheet.specs.declared.Constraint.{Constraint}
 use Rattle.greedy_links.specs.EngineKeys.{key, chainBidder, chainSlot}

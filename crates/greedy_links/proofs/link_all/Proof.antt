@@ -1,6 +1,6 @@
 -- `greedy_links::link_all` meets its contract: after i turns the first i constraints are linked. Assumes nothing.
 use Prim.Native.Nat.{ℕ, _-_, _≤_}
-use mathlib.Core.Path.{_≡_, refl, sym, _∙_, ap, subst}
+use mathlib.Core.Path.{refl, sym, _∙_, ap, subst}
 use native.Mathlib.Nat.{le-antisymm}
 use native.Mathlib.Numerals.{add-one}
 use native.Mathlib.Omega.{arith}
@@ -9,7 +9,6 @@ use Rattle.sheet.specs.Round.{constraintAt}
 use Rattle.sheet.specs.Proper.{ProperRound}
 use Rattle.sheet.proofs.RoundLaws.{round-proper}
 use Rattle.greedy_links.specs.EngineLinks.{Linked}
-use borrow.Author.Needs.{needs}
 use Rattle.greedy_links.proofs.link_all.Statement.{statement}
 use Rattle.greedy_links.proofs.link_all.Tie as tie
 

@@ -1,10 +1,9 @@
 -- `greedy_links::mark` meets its contract: one store is one mark more. Assumes nothing.
-use Prim.Native.Nat.{ℕ, _<_}
-use mathlib.Core.Bool.{Bool, _||_}
-use mathlib.Core.Path.{_≡_, _∙_, ap}
+use Prim.Native.Nat.{ℕ}
+use mathlib.Core.Bool.{_||_}
+use mathlib.Core.Path.{_∙_, ap}
 use native.Mathlib.Omega.{arith}
 use lib.Dec.{eqb}
-use lib.ListN.{length}
 use Rattle.greedy_links.specs.EngineKeys.{isMarked}
 use Rattle.greedy_links.proofs.LinkLaws.{mark-more}
 use borrow.Author.Needs.{needs}
