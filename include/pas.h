@@ -84,10 +84,10 @@ extern "C" {
 /* ---- Version ---- */
 
 /* The version of the library and of this file. CHANGELOG.md says what each one brought, and what a new number means. */
-#define PAS_VERSION "1.1.1"
+#define PAS_VERSION "1.1.2"
 #define PAS_VERSION_MAJOR 1
 #define PAS_VERSION_MINOR 1
-#define PAS_VERSION_PATCH 1
+#define PAS_VERSION_PATCH 2
 
 /* ---- Sizes ---- */
 

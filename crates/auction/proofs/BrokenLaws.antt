@@ -3,10 +3,10 @@ use Prim.Native.Nat.{ℕ, _<_, _≤_}
 use borrow.Author.Tests.{eq-eqb, eqb-true, not-true}
 use mathlib.Core.Bool.{Bool, true, false, not, _&&_, _||_}
 use mathlib.Core.Logic.{_⊎_, ⊎-elim}
-use mathlib.Core.Path.{_≡_, refl, sym, _∙_, ap, subst}
+use mathlib.Core.Path.{_≡_, refl, sym, _∙_, ap, ap₂}
 use lib.Dec.{eqb}
-use Rattle.basis.specs.Tests.{anyBelow}
-use Rattle.basis.proofs.TestLaws.{same-tests, not-both, fails, and-holds, and-parts, or-left, or-right, not-holds, any-at, any-where, any-none, none-any}
+use Rattle.basis.specs.First.{_when_otherwise_}
+use Rattle.basis.proofs.TestLaws.{same-tests, not-both, fails, and-holds, and-parts, or-left, or-right, not-holds, any-at, any-where}
 use Rattle.sheet.specs.declared.Bidder.{Bidder}
 use Rattle.sheet.specs.declared.Slot.{Slot}
 use Rattle.sheet.specs.declared.Kind.{Kind}
@@ -15,10 +15,10 @@ use Rattle.sheet.specs.declared.Constraint.{Constraint}
 use Rattle.sheet.specs.declared.Page.{Page}
 use Rattle.sheet.specs.declared.Round.{Round}
 use Rattle.auction.specs.Page.{at, put, emptyPage, placed, Sized}
-use Rattle.auction.specs.Broken.{ownHolds, otherHolds, broken, breaks}
+use Rattle.auction.specs.Broken.{ownHolds, otherHolds, broken, breaks, breaksOwn}
 use Rattle.sheet.specs.Round.{constraintAt, Has}
 use Rattle.sheet.specs.Proper.{ProperKind, Proper}
-use Rattle.auction.specs.Greedy.{concerns, eligible}
+use Rattle.auction.specs.Eligible.{breaksEarlier, firstFailed, eligible}
 use Rattle.auction.proofs.PageLaws.{Keeps, keeps-placed, placed-at, placed-put, empty-placed}
 
 -- a broken constraint's parts are true, and its owner has a slot
@@ -96,49 +96,83 @@ breaks-none r p e q h = fails (broken p q) (λ t. not-both (breaks-at r p q h t)
 pub none-breaks : (r : Round) (p : Page) → ((q : Constraint) → Has r q → broken p q ≡ false) → breaks r p ≡ false
 none-breaks r p f = fails (breaks r p) (λ e. let w = breaks-where r p e in not-both (w .2) (f (w .0) (w .1)))
 
--- What being eligible says: unplaced, and with it at k no constraint of the round is broken. The constraints of document 01's
--- wording are the candidate's own and those of earlier winners; no other binds, since its owner has no slot.
-module _ (r : Round) (p : Page) (k b : ℕ) where
-  pub eligible-unplaced : eligible r p k b ≡ true → placed p b ≡ false
-  unfolding eligible
-  eligible-unplaced e = not-true (placed p b) (and-parts (not (placed p b)) _ e .0)
+-- a broken constraint of the bidder's own
+pub breaks-own-at : (r : Round) (p : Page) (i : ℕ) (q : Constraint) → Has r q → q .owner .0 ≡ i → broken p q ≡ true → breaksOwn r p i ≡ true
+unfolding breaksOwn
+breaks-own-at r p i q h o e =
+    any-at (λ a. eqb (constraintAt r a .owner .0) i && broken p (constraintAt r a)) (r .used) (h .0) (h .1)
+    (and-holds (eq-eqb (constraintAt r (h .0) .owner .0) i (ap (λ (x : Constraint). x .owner .0) (h .2) ∙ o)) (ap (broken p) (h .2) ∙ e))
 
+pub breaks-own-where : (r : Round) (p : Page) (i : ℕ) → breaksOwn r p i ≡ true → (q : Constraint) × Has r q × (broken p q ≡ true)
+unfolding breaksOwn
+breaks-own-where r p i e =
+    let w = any-where (λ a. eqb (constraintAt r a .owner .0) i && broken p (constraintAt r a)) (r .used) e in
+    (constraintAt r (w .0), (w .0, w .1, refl), and-parts (eqb (constraintAt r (w .0) .owner .0) i) (broken p (constraintAt r (w .0))) (w .2) .1)
+
+-- a broken constraint of an earlier winner
+pub breaks-earlier-at : (r : Round) (p p′ : Page) (q : Constraint) → Has r q → placed p (q .owner .0) ≡ true → broken p′ q ≡ true → breaksEarlier r p p′ ≡ true
+unfolding breaksEarlier
+breaks-earlier-at r p p′ q h o e =
+    any-at (λ i. placed p (constraintAt r i .owner .0) && broken p′ (constraintAt r i)) (r .used) (h .0) (h .1)
+    (and-holds (ap (λ (x : Constraint). placed p (x .owner .0)) (h .2) ∙ o) (ap (broken p′) (h .2) ∙ e))
+
+pub breaks-earlier-where : (r : Round) (p p′ : Page) → breaksEarlier r p p′ ≡ true → (q : Constraint) × Has r q × (broken p′ q ≡ true)
+unfolding breaksEarlier
+breaks-earlier-where r p p′ e =
+    let w = any-where (λ i. placed p (constraintAt r i .owner .0) && broken p′ (constraintAt r i)) (r .used) e in
+    (constraintAt r (w .0), (w .0, w .1, refl), and-parts (placed p (constraintAt r (w .0) .owner .0)) (broken p′ (constraintAt r (w .0))) (w .2) .1)
+
+-- none of three tests fails
+none-of-three : (x y z : Bool) → eqb (1 when x otherwise 2 when y otherwise 3 when z otherwise 0) 0 ≡ (not x && not (z || y))
+none-of-three true y z = refl
+none-of-three false true true = refl
+none-of-three false true false = refl
+none-of-three false false true = refl
+none-of-three false false false = refl
+
+-- What being eligible says.
+module _ (r : Round) (p : Page) (k b : ℕ) where
+  -- "An unplaced bidder is eligible for place k if, with the places already filled and it at k, neither its own conditions nor those of an
+  -- earlier winner are broken."
+  pub eligible-sentence : eligible r p k b ≡ (not (placed p b) && not (breaksOwn r (put p k b) b || breaksEarlier r p (put p k b)))
+  unfolding eligible firstFailed
+  eligible-sentence = none-of-three (placed p b) (breaksEarlier r p (put p k b)) (breaksOwn r (put p k b) b)
+
+  -- its three parts
+  eligible-parts : eligible r p k b ≡ true →
+      (placed p b ≡ false) × (breaksOwn r (put p k b) b ≡ false) × (breaksEarlier r p (put p k b) ≡ false)
+  eligible-parts e =
+      let own = breaksOwn r (put p k b) b in
+      let earlier = breaksEarlier r p (put p k b) in
+      let both = and-parts (not (placed p b)) (not (own || earlier)) (sym eligible-sentence ∙ e) in
+      let neither = not-true (own || earlier) (both .1) in (
+        not-true (placed p b) (both .0),
+        fails own (λ t. not-both (or-left earlier t) neither),
+        fails earlier (λ t. not-both (or-right own t) neither),
+      )
+
+  pub eligible-unplaced : eligible r p k b ≡ true → placed p b ≡ false
+  eligible-unplaced e = eligible-parts e .0
+
+  -- No constraint of the round is broken: one that is neither the candidate's own nor an earlier winner's does not bind, since its owner has
+  -- no slot.
   pub eligible-unbroken : Sized p → 0 < k → k ≤ 16 → eligible r p k b ≡ true → (q : Constraint) → Has r q → broken (put p k b) q ≡ false
-  unfolding eligible concerns
   eligible-unbroken s l m e q h =
+      let parts = eligible-parts e in
       fails (broken (put p k b) q)
       (λ t.
-      let none = not-true (anyBelow concerned (r .used)) (and-parts (not (placed p b)) (not (anyBelow concerned (r .used))) e .1) in
-      let here = any-none concerned (r .used) none (h .0) (h .1) in
-      let bound : (eqb (q .owner .0) b || placed p (q .owner .0)) ≡ true
-      = ⊎-elim
-      (λ (x : q .owner .0 ≡ b). or-left (placed p (q .owner .0)) (eq-eqb (q .owner .0) b x))
-      (λ (x : placed p (q .owner .0) ≡ true). or-right (eqb (q .owner .0) b) x)
-      (placed-put p k b (q .owner .0) s l m (broken-parts (put p k b) q t .2)) in
-      not-both
-      (subst (λ (x : Constraint). (broken (put p k b) x && (eqb (x .owner .0) b || placed p (x .owner .0))) ≡ true) (sym (h .2))
-      (and-holds t bound))
-      here)
-    where
-      concerned : ℕ → Bool
-      concerned i = broken (put p k b) (constraintAt r i) && (eqb (constraintAt r i .owner .0) b || placed p (constraintAt r i .owner .0))
+      ⊎-elim
+      (λ (x : q .owner .0 ≡ b). not-both (breaks-own-at r (put p k b) b q h x t) (parts .1))
+      (λ (x : placed p (q .owner .0) ≡ true). not-both (breaks-earlier-at r p (put p k b) q h x t) (parts .2))
+      (placed-put p k b (q .owner .0) s l m (broken-parts (put p k b) q t .2)))
 
   pub unbroken-eligible : placed p b ≡ false → ((q : Constraint) → Has r q → broken (put p k b) q ≡ false) → eligible r p k b ≡ true
-  unfolding eligible
   unbroken-eligible u f =
-      and-holds (not-holds u)
-      (not-holds
-      (none-any (λ i. broken (put p k b) (constraintAt r i) && concerns p b (constraintAt r i)) (r .used)
-      (λ i l. ap (λ (t : Bool). t && concerns p b (constraintAt r i)) (f (constraintAt r i) (i, l, refl)))))
-
-  -- so the three of them are two tests of the page with the candidate on it
-  pub eligible-breaks : Sized p → 0 < k → k ≤ 16 → eligible r p k b ≡ (not (placed p b) && not (breaks r (put p k b)))
-  eligible-breaks s l m =
-      same-tests (eligible r p k b) (not (placed p b) && not (breaks r (put p k b)))
-      (λ e. and-holds (not-holds (eligible-unplaced e)) (not-holds (none-breaks r (put p k b) (eligible-unbroken s l m e))))
-      (λ e.
-      let both = and-parts (not (placed p b)) (not (breaks r (put p k b))) e in
-      unbroken-eligible (not-true (placed p b) (both .0)) (breaks-none r (put p k b) (not-true (breaks r (put p k b)) (both .1))))
+      let own : breaksOwn r (put p k b) b ≡ false
+      = fails (breaksOwn r (put p k b) b) (λ t. let w = breaks-own-where r (put p k b) b t in not-both (w .2) (f (w .0) (w .1))) in
+      let earlier : breaksEarlier r p (put p k b) ≡ false
+      = fails (breaksEarlier r p (put p k b)) (λ t. let w = breaks-earlier-where r p (put p k b) t in not-both (w .2) (f (w .0) (w .1))) in
+      eligible-sentence ∙ and-holds (not-holds u) (ap₂ (λ (x y : Bool). not (x || y)) own earlier)
 
 -- A constraint's own test, kind by kind: an owner at its own slot has a slot, so `placed` adds nothing there.
 module _ (p : Page) (owner : Bidder) where

@@ -12,7 +12,8 @@ use Rattle.choice.specs.Winner.{ranksNoLower}
 use Rattle.choice.proofs.WinnerLaws.{ranks-cases}
 use Rattle.auction.specs.Page.{at, put}
 use Rattle.auction.specs.Allowed.{Allowed}
-use Rattle.auction.specs.Greedy.{eligible, pageUpTo, greedyPage}
+use Rattle.auction.specs.Eligible.{eligible}
+use Rattle.auction.specs.Greedy.{pageUpTo, greedyPage}
 use Rattle.auction.specs.Filled.{firstSlots, FilledGreedily}
 use Rattle.auction.proofs.GreedyLaws.{
   upTo-next,

@@ -13,7 +13,8 @@ use Rattle.sheet.specs.declared.Round.{Round}
 use Rattle.choice.specs.EngineBids.{bidIn}
 use Rattle.auction.specs.Page.{at, put, Sized}
 use Rattle.auction.specs.Broken.{broken, breaks}
-use Rattle.auction.specs.Greedy.{eligible, winnerAt, fillSlot, pageUpTo, greedyPage}
+use Rattle.auction.specs.Eligible.{eligible}
+use Rattle.auction.specs.Greedy.{winnerAt, fillSlot, pageUpTo, greedyPage}
 use Rattle.sheet.specs.Round.{bidOf, Has}
 use Rattle.sheet.specs.Proper.{Proper, ProperRound}
 use Rattle.choice.proofs.WinnerLaws.{Wins, winner-wins, winner-none, none-winner, winner-most}

@@ -20,7 +20,9 @@ use Rattle.choice.specs.Critical.{criticalBid}
 use Rattle.auction.specs.Page.{at, put, placed}
 use Rattle.sheet.specs.Proper.{ProperRound}
 use Rattle.sheet.specs.Round.{constraintAt, bidOf, Has}
-use Rattle.auction.specs.Greedy.{eligible, winnerAt, pageUpTo, greedyPage}
+use Rattle.auction.specs.Broken.{breaksOwn}
+use Rattle.auction.specs.Eligible.{breaksEarlier, firstFailed, eligible}
+use Rattle.auction.specs.Greedy.{winnerAt, pageUpTo, greedyPage}
 use Rattle.auction.specs.Price.{withBid, winsWith, priceFor, price}
 use Rattle.auction.specs.Except.{Except, SameSets}
 use Rattle.choice.proofs.WinnerLaws.{Wins, winner-wins, winner-same, ranks-cases}
@@ -60,7 +62,7 @@ with-own r zero x s m = absurd (not-suc-le-zero s)
 with-own r (suc i) x s m = getD-set-same (r .bids) i x 0 m
 
 pub with-eligible : (r : Round) (w x : ℕ) (p : Page) (k b : ℕ) → eligible (withBid r w x) p k b ≡ eligible r p k b
-unfolding withBid eligible constraintAt
+unfolding withBid eligible firstFailed breaksEarlier breaksOwn constraintAt
 with-eligible r zero x p k b = refl
 with-eligible r (suc i) x p k b = refl
 

@@ -30,3 +30,7 @@ broken p q = (ownHolds p (q .owner .0) (q .kind) && otherHolds p (q .kind)) && p
 -- some constraint of the round is broken on the page
 unfoldable pub breaks : Round → Page → Bool
 breaks r p = anyBelow (λ i. broken p (constraintAt r i)) (r .used)
+
+-- some constraint of bidder i's list is broken on the page
+unfoldable pub breaksOwn : Round → Page → ℕ → Bool
+breaksOwn r p i = anyBelow (λ a. eqb (constraintAt r a .owner .0) i && broken p (constraintAt r a)) (r .used)

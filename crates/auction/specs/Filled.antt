@@ -7,7 +7,7 @@ use Rattle.sheet.specs.declared.Page.{Page}
 use Rattle.sheet.specs.declared.Round.{Round}
 use Rattle.sheet.specs.Round.{bidOf}
 use Rattle.auction.specs.Page.{at, put, emptyPage}
-use Rattle.auction.specs.Greedy.{eligible}
+use Rattle.auction.specs.Eligible.{eligible}
 
 -- the page with slots 1 to j as on p, and nobody after them
 unfoldable pub firstSlots : Page → ℕ → Page

@@ -1,6 +1,7 @@
 pub mod Page
 pub mod Broken
 pub mod Allowed
+pub mod Eligible
 pub mod Greedy
 pub mod Filled
 pub mod Price

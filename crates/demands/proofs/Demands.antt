@@ -1,4 +1,4 @@
--- The three demands. Assumes nothing.
+-- The three demands, and what the requests of document 02 add. Assumes nothing.
 use Prim.Native.Nat.{ℕ, suc, _≤_}
 use mathlib.Core.List.{List, _++_}
 use mathlib.Core.Path.{_≡_, sym, _∙_, ap}
@@ -12,6 +12,7 @@ use Rattle.sheet.specs.Round.{roundOf}
 use Rattle.sheet.proofs.RoundLaws.{round-proper, round-slots}
 use Rattle.auction.specs.Page.{at}
 use Rattle.auction.specs.Allowed.{total}
+use Rattle.auction.proofs.BrokenLaws.{eligible-sentence}
 use Rattle.play.specs.Play.{playRefusal, playedBuffer}
 use Rattle.downward.specs.Downward.{downward}
 use Rattle.downward.specs.Call.{testRefusal}
@@ -22,9 +23,10 @@ use Rattle.best_page.proofs.BestPageLaws.{best-page}
 use Rattle.best_search.specs.Call.{bestRefusal, bestBuffer}
 use Rattle.best_search.proofs.CallLaws.{best-unrefused}
 use Rattle.pas.specs.Calls.{yesNumber, BestPageGiven}
-use Rattle.demands.specs.Demands.{Owed, DemandOne, BestRight, DemandTwo, DemandThree}
+use Rattle.demands.specs.Demands.{Owed, DemandOne, BestRight, DemandTwo, DemandThree, RequestThree}
 use Rattle.demands.proofs.PlayLaws.{played-number, played-right}
 use Rattle.demands.proofs.HonestLaws.{honest-demand}
+use Rattle.demands.proofs.AnswerLaws.{answered-in-order}
 
 -- what stands in lent memory is what stood there, or the result
 owed : {A : Type 0} (number first : ℕ) (given before after : A) → number ≡ first → after ≡ unlessRefused first given before →
@@ -84,3 +86,7 @@ demand-two =
 -- Demand 3: from the theorem over what the calls return.
 pub demand-three : DemandThree
 demand-three = honest-demand
+
+-- Request S-3: the number of an answer says which tests pass and which fails.
+pub request-three : RequestThree
+request-three = record { step = answered-in-order; sentence = eligible-sentence }

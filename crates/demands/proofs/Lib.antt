@@ -1,4 +1,5 @@
--- The three demands, and what the second and third rest on.
+-- The three demands and the requests' promises, and what they rest on.
 pub mod PlayLaws
 pub mod HonestLaws
+pub mod AnswerLaws
 pub mod Demands

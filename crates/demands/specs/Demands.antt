@@ -1,7 +1,8 @@
--- The three demands, over the contracts of the five calls that programs link (pas/src/lib.rt). Each call promises one record or equation,
--- for every input; here is what follows for a reader, and the proofs are in proofs/Demands.antt. Lists of numbers are bytes; s is a sheet,
--- out and out′ are a result buffer before and after a call, `number` is what a call returns.
+-- The three demands, over the contracts of the five calls that programs link (pas/src/lib.rt), and then what the requests of document 02 add. Each
+-- call promises one record or equation, for every input; here is what follows for a reader, and the proofs are in proofs/Demands.antt. Lists of
+-- numbers are bytes; s is a sheet, out and out′ are a result buffer before and after a call, `number` is what a call returns.
 use Prim.Native.Nat.{ℕ, suc, _*_, _<_, _≤_}
+use mathlib.Core.Bool.{true, false, not, _&&_, _||_}
 use mathlib.Core.List.{List, _++_}
 use mathlib.Core.Path.{_≡_}
 use lib.IntN.{ℤ}
@@ -9,10 +10,15 @@ use lib.ListN.{length, drop}
 use lib.Signed.{_≤ℤ_}
 use Rattle.basis.specs.Rows.{row}
 use Rattle.sheet.specs.declared.Page.{Page}
+use Rattle.sheet.specs.declared.Round.{Round}
 use Rattle.sheet.specs.Sheet.{bidderCount, slotCount, bidField}
 use Rattle.sheet.specs.Refusal.{refusalOf, Accepted}
 use Rattle.sheet.specs.Round.{roundOf}
-use Rattle.auction.specs.Page.{at}
+use Rattle.auction.specs.declared.Eligibility.{Eligibility}
+use Rattle.auction.specs.declared.Eligibility.the-variants.{Eligible, Placed, EarlierWinners, Own}
+use Rattle.auction.specs.Page.{at, put, placed}
+use Rattle.auction.specs.Broken.{breaksOwn}
+use Rattle.auction.specs.Eligible.{breaksEarlier, firstFailed, failedTest, eligible}
 use Rattle.auction.specs.Allowed.{Allowed, total}
 use Rattle.auction.specs.Filled.{FilledGreedily}
 use Rattle.auction.specs.Write.{writeBid}
@@ -101,3 +107,26 @@ DemandThree =
     GainGiven honest honest i worth before-honest number-honest gain-honest →
     GainGiven instead honest i worth before-instead number-instead gain-instead →
     (number-honest ≡ 0) × (number-instead ≡ 0) × (gain-instead ≤ℤ gain-honest)
+
+-- REQUEST S-3. "Let the eligibility step answer with the first of these tests that fails, or that none does: not yet placed, then earlier winners'
+-- conditions, then the candidate's own. Its promise says exactly when each answer is given."
+
+-- each of two follows from the other
+abbrev pub Exactly : Type 0 → Type 0 → Type 0
+Exactly given when = (given → when) × (when → given)
+
+-- When each answer is given, of the candidate b for slot k with the slots of p filled.
+pub record AnsweredInOrder (r : Round) (p : Page) (k b : ℕ) (answer : Eligibility) : Type 0 where
+  pub has-slot : Exactly (answer ≡ Placed) (placed p b ≡ true)
+  pub earlier-winners : Exactly (answer ≡ EarlierWinners) ((placed p b ≡ false) × (breaksEarlier r p (put p k b) ≡ true))
+  pub own : Exactly (answer ≡ Own) ((placed p b ≡ false) × (breaksEarlier r p (put p k b) ≡ false) × (breaksOwn r (put p k b) b ≡ true))
+  pub none-fails : Exactly (answer ≡ Eligible) (eligible r p k b ≡ true)
+
+pub record RequestThree : Type 0 where
+  -- the step (`eligibility`, greedy/src/lib.rt) promises the equation, for each round and page that the engine is filling; page and prices come
+  -- from its answers alone
+  pub step : (r : Round) (p : Page) (k b : ℕ) (answer : Eligibility) → failedTest answer ≡ firstFailed r p k b → AnsweredInOrder r p k b answer
+  -- "An unplaced bidder is eligible for place k if, with the places already filled and it at k, neither its own conditions nor those of an earlier
+  -- winner are broken."
+  pub sentence : (r : Round) (p : Page) (k b : ℕ) →
+      eligible r p k b ≡ (not (placed p b) && not (breaksOwn r (put p k b) b || breaksEarlier r p (put p k b)))

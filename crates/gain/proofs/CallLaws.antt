@@ -22,7 +22,8 @@ use Rattle.auction.specs.Price.{price}
 use Rattle.auction.proofs.PriceLaws.{price-low}
 use Rattle.greedy.specs.declared.Outcome.{Outcome}
 use Rattle.greedy.specs.EngineOutcome.{outcomeOf}
-use Rattle.gain.specs.Gain.{slotOf, breaksOwn, gainIf, gainAt, gainOf}
+use Rattle.auction.specs.Broken.{breaksOwn}
+use Rattle.gain.specs.Gain.{slotOf, gainIf, gainAt, gainOf}
 use Rattle.gain.specs.Call.{laterRefusal, gainRefusal, gainedFor, gainedOf}
 use Rattle.gain.proofs.SlotLaws.{slot-won}
 

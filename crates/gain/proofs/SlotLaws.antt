@@ -1,7 +1,7 @@
 -- Where a bidder stands, and what it gains there. Assumes nothing.
 use Prim.Native.Nat.{ℕ, zero, suc, _+_, _*_, _-_, _<_, _≤_}
 use borrow.Author.Tests.{eq-eqb, ne-eqb, lt-ltb, le-ltb}
-use mathlib.Core.Bool.{Bool, true, false, cond, _&&_}
+use mathlib.Core.Bool.{Bool, false, cond}
 use mathlib.Core.Logic.{_⊎_, ⊎-elim}
 use mathlib.Core.Path.{_≡_, refl, sym, _∙_, ap}
 use native.Mathlib.Nat.{not-suc-le-zero, eq-or-lt-of-le, mul-zero, sub-zero, mul-le-mul}
@@ -11,20 +11,18 @@ use lib.Signed.{_≤ℤ_, mag}
 use lib.IntN.{ℤ, pos, negsuc, negℤ, _-ℤ_, _*ℤ_}
 use Rattle.basis.specs.First.{_when_otherwise_, firstOver}
 use Rattle.basis.proofs.FirstLaws.{first-found, first-none, orElse-left, orElse-right, first-all-none}
-use Rattle.basis.proofs.TestLaws.{not-both, fails, and-holds, and-parts, any-at, any-where}
-use Rattle.sheet.specs.declared.Constraint.{Constraint}
+use Rattle.basis.proofs.TestLaws.{not-both, fails}
 use Rattle.sheet.specs.declared.Page.{Page}
 use Rattle.sheet.specs.declared.Round.{Round}
 use Rattle.auction.specs.Page.{at, placed}
-use Rattle.auction.specs.Broken.{broken}
+use Rattle.auction.specs.Broken.{breaksOwn}
 use Rattle.auction.specs.Greedy.{winnerAt, pageUpTo, greedyPage}
 use Rattle.sheet.specs.Proper.{ProperRound}
-use Rattle.sheet.specs.Round.{constraintAt, Has}
 use Rattle.auction.proofs.PageLaws.{placed-where}
-use Rattle.auction.proofs.BrokenLaws.{breaks-none}
+use Rattle.auction.proofs.BrokenLaws.{breaks-none, breaks-own-where}
 use Rattle.auction.proofs.GreedyLaws.{upTo-later, slot-winner, nobody-twice, greedy-unbroken}
 use Rattle.basis.proofs.NumberLaws.{same-or-not, below-or-not}
-use Rattle.gain.specs.Gain.{slotOf, breaksOwn, gainIf}
+use Rattle.gain.specs.Gain.{slotOf, gainIf}
 
 abbrev pub seen : Page → ℕ → ℕ → ℕ
 seen p i k = suc k when eqb (at p (suc k)) i otherwise 0
@@ -77,19 +75,6 @@ found-at p i k m none e =
 -- the slot where the bidder stands, and nowhere before it, is the one that is found
 pub slot-here : (p : Page) (i k : ℕ) → k < 16 → at p (suc k) ≡ i → ((j : ℕ) → j < k → at p (suc j) ≡ i → ⊥) → slotOf p i ≡ suc k
 slot-here p i k m e before = found-at p i k m (first-all-none (seen p i) k (λ j l. seen-not p i j (before j l))) e
-
--- a broken constraint of the bidder's own
-pub breaks-own-at : (r : Round) (p : Page) (i : ℕ) (q : Constraint) → Has r q → q .owner .0 ≡ i → broken p q ≡ true → breaksOwn r p i ≡ true
-unfolding breaksOwn
-breaks-own-at r p i q h o e =
-    any-at (λ a. eqb (constraintAt r a .owner .0) i && broken p (constraintAt r a)) (r .used) (h .0) (h .1)
-    (and-holds (eq-eqb (constraintAt r (h .0) .owner .0) i (ap (λ (x : Constraint). x .owner .0) (h .2) ∙ o)) (ap (broken p) (h .2) ∙ e))
-
-pub breaks-own-where : (r : Round) (p : Page) (i : ℕ) → breaksOwn r p i ≡ true → (q : Constraint) × Has r q × (broken p q ≡ true)
-unfolding breaksOwn
-breaks-own-where r p i e =
-    let w = any-where (λ a. eqb (constraintAt r a .owner .0) i && broken p (constraintAt r a)) (r .used) e in
-    (constraintAt r (w .0), (w .0, w .1, refl), and-parts (eqb (constraintAt r (w .0) .owner .0) i) (broken p (constraintAt r (w .0))) (w .2) .1)
 
 -- a difference of two numbers, by which is larger
 less-from : (v p : ℕ) → p ≤ v → pos v -ℤ pos p ≡ pos (v - p)

@@ -1,25 +1,20 @@
 -- "Gain", the source's utility: what a slot is worth to a bidder at its price, by its true constraints.
 use Prim.Native.Nat.{ℕ, zero, suc, _*_}
-use mathlib.Core.Bool.{Bool, true, false, _&&_}
+use mathlib.Core.Bool.{Bool, true, false}
 use lib.Dec.{eqb}
 use lib.IntN.{ℤ, pos, negℤ, _*ℤ_, _-ℤ_}
 use Rattle.basis.specs.First.{_when_otherwise_, firstOver}
-use Rattle.basis.specs.Tests.{anyBelow}
 use Rattle.sheet.specs.declared.Page.{Page}
 use Rattle.sheet.specs.declared.Round.{Round}
 use Rattle.auction.specs.Page.{at}
-use Rattle.auction.specs.Broken.{broken}
-use Rattle.sheet.specs.Round.{constraintAt, effectOf}
+use Rattle.auction.specs.Broken.{breaksOwn}
+use Rattle.sheet.specs.Round.{effectOf}
 use Rattle.auction.specs.Greedy.{greedyPage}
 use Rattle.auction.specs.Price.{price}
 
 -- the slot where bidder i stands, 0 for none
 unfoldable pub slotOf : Page → ℕ → ℕ
 slotOf p i = firstOver (λ k. suc k when eqb (at p (suc k)) i otherwise 0) 16
-
--- a constraint of i in the true round is broken on the page
-unfoldable pub breaksOwn : Round → Page → ℕ → Bool
-breaksOwn truth p i = anyBelow (λ a. eqb (constraintAt truth a .owner .0) i && broken p (constraintAt truth a)) (truth .used)
 
 -- "effect × (v − p) if no condition of i in the truth sheet is broken on that page, else −(effect × p)"
 unfoldable pub gainIf : Bool → (effect worth paid : ℕ) → ℤ

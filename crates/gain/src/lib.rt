@@ -1,14 +1,14 @@
 // The gain of a bidder from a played sheet, by its true constraints.
 ghost use mathlib.Core.Bool.{_&&_};
 ghost use lib.Dec.{eqb};
-ghost use Rattle.auction.specs.Broken.{broken};
+ghost use Rattle.auction.specs.Broken.{broken, breaksOwn};
 ghost use mathlib.Core.Path.{_≡_};
 ghost use Prim.Native.Nat.{_*_, _≤_, _<_};
 ghost use lib.IntN.{pos, negℤ};
 ghost use Rattle.sheet.specs.Refusal.{Accepted};
 ghost use Rattle.sheet.specs.Proper.{Proper};
 ghost use Rattle.sheet.specs.Round.{roundOf};
-ghost use Rattle.gain.specs.Gain.{slotOf, breaksOwn, gainIf, gainOf};
+ghost use Rattle.gain.specs.Gain.{slotOf, gainIf, gainOf};
 ghost use Rattle.gain.specs.Call.{laterRefusal, gainedOf};
 use sheet::Bidder;
 use sheet::Constraint;

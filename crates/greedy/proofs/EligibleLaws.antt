@@ -1,6 +1,7 @@
--- What the marks know of a page, and that they say who is eligible. With a candidate on an unbroken page, a constraint is broken exactly when
--- one of its keys was true and the other is the candidate's: its chain is the candidate's and the owner's key was true, or the owner's key
--- is one of the candidate's and the chain's was true. Assumes nothing.
+-- What the marks know of a page, and that they say which test a candidate fails first. With a candidate on an unbroken page, a constraint is
+-- broken exactly when one of its keys was true and the other is the candidate's. Its chain is the candidate's and the owner's key was true: then
+-- its owner has a slot, and it is an earlier winner's; or the owner's key is always so, or one of the candidate's while the chain's was true: then
+-- it is the candidate's own. Assumes nothing.
 use Prim.Native.Nat.{ℕ, _<_, _≤_}
 use borrow.Author.Tests.{eq-eqb, ne-eqb, eqb-true}
 use mathlib.Core.Bool.{Bool, true, false, not, _&&_, _||_, and-comm, or-false, or-comm, false≢true, and-or-distrib-left, and-or-distrib-right}
@@ -9,30 +10,25 @@ use mathlib.Core.Logic.{⊎-elim}
 use mathlib.Core.Path.{_≡_, refl, sym, _∙_, ap, ap₂}
 use native.Mathlib.Omega.{arith}
 use lib.Dec.{eqb}
-use lib.ListN.{replicate}
+use lib.ListN.{getD, replicate}
+use Rattle.basis.specs.First.{_when_otherwise_}
 use Rattle.basis.specs.Tests.{anyBelow}
 use Rattle.basis.proofs.NumberLaws.{same-or-not}
-use Rattle.basis.proofs.TestLaws.{fails, and-parts, or-parts, any-same, any-or, none-any}
+use Rattle.basis.proofs.TestLaws.{not-both, fails, and-parts, or-parts, or-assoc, any-same, any-or, none-any}
 use Rattle.sheet.specs.declared.Constraint.{Constraint}
 use Rattle.sheet.specs.declared.Page.{Page}
 use Rattle.sheet.specs.declared.Round.{Round}
-use Rattle.sheet.specs.Round.{constraintAt, Has}
+use Rattle.sheet.specs.Round.{constraintAt, blank, Has, roundOf}
 use Rattle.sheet.specs.Proper.{Proper, ProperRound}
-use Rattle.auction.specs.Page.{at, put, emptyPage, Sized}
-use Rattle.auction.specs.Broken.{broken, breaks}
-use Rattle.auction.specs.Greedy.{eligible}
-use Rattle.auction.proofs.BrokenLaws.{eligible-breaks}
-use Rattle.greedy_links.specs.EngineKeys.{key, chainBidder, chainSlot, ownerBidder, ownerSlot, isSo, madeSo, isMarked}
-use Rattle.greedy_links.specs.EngineLinks.{linkKey, linkOwner, someOwner}
+use Rattle.auction.specs.Page.{at, put, emptyPage, placed, Sized}
+use Rattle.auction.specs.Broken.{broken, breaksOwn}
+use Rattle.auction.specs.Eligible.{breaksEarlier, firstFailed}
+use Rattle.greedy_links.specs.declared.Named.{Named}
+use Rattle.greedy_links.specs.EngineKeys.{key, chainBidder, chainSlot, ownerBidder, ownerSlot, isSo, chainSo, ownerSo, madeSo, isMarked}
+use Rattle.greedy_links.specs.EngineLinks.{linkKey, linkOwner, someOwner, namedFor}
 use Rattle.greedy_links.proofs.LinkLaws.{no-mark}
-use Rattle.greedy_links.proofs.KeyLaws.{chainSo, ownerSo, broken-keys, Fits, keys-fit, so-anywhere, so-empty, so-put}
-use Rattle.greedy.specs.EngineEligible.{free}
-
--- the marks say who stands where, and which owners a link bars whose chain's key is true
-pub record Known (r : Round) (p : Page) (barred held : List ℕ) : Type 0 where
-  pub stands : (b l : ℕ) → 0 < b → b ≤ 64 → l ≤ 16 → isMarked held (key b l) ≡ isSo p b l
-  pub nobody : isMarked held 0 ≡ false
-  pub bars : (y : ℕ) → isMarked barred y ≡ anyBelow (λ i. eqb (linkOwner r i) y && chainSo p (constraintAt r i)) (r .used)
+use Rattle.greedy_links.proofs.KeyLaws.{broken-keys, Fits, keys-fit, so-anywhere, so-placed, so-empty, so-put}
+use Rattle.greedy.specs.EngineEligible.{Known, SoFar}
 
 module _ (r : Round) (c : ProperRound r) where
   proper-at : (i : ℕ) → i < r .used → Proper (constraintAt r i)
@@ -114,6 +110,19 @@ module _ (r : Round) (c : ProperRound r) where
   either-way false false false true e f = refl
   either-way false false false false e f = refl
 
+  -- A constraint breaks as an earlier winner's (t) or as the candidate's own (u), and its owner is never both.
+  told-apart : (t u earlier own : Bool) → (t ≡ true → earlier ≡ true) → (u ≡ true → own ≡ true) → (earlier && own) ≡ false →
+      ((earlier && (t || u)) ≡ t) × ((own && (t || u)) ≡ u)
+  told-apart t u true true f g e = absurd (false≢true (sym e))
+  told-apart t true true false f g e = absurd (false≢true (g refl))
+  told-apart true false true false f g e = (refl, refl)
+  told-apart false false true false f g e = (refl, refl)
+  told-apart true u false own f g e = absurd (false≢true (f refl))
+  told-apart false true false true f g e = (refl, refl)
+  told-apart false false false true f g e = (refl, refl)
+  told-apart false true false false f g e = absurd (false≢true (g refl))
+  told-apart false false false false f g e = (refl, refl)
+
   -- A candidate b for an empty slot l of an unbroken page.
   module _ (p : Page) (l b : ℕ) (s : Sized p) (l-some : 0 < l) (l-most : l ≤ 16) (l-empty : at p l ≡ 0) (b-some : 0 < b) (b-most : b ≤ 64)
       (unbroken : (q : Constraint) → Has r q → broken p q ≡ false) (barred held : List ℕ) (known : Known r p barred held) where
@@ -176,32 +185,165 @@ module _ (r : Round) (c : ProperRound r) where
         (sym (broken-keys p (q .owner) (q .kind) (proper-at i below)) ∙ unbroken q (i, below, refl)) (not-itself i below)
         ∙ ap (λ (t : Bool). (eqb (linkKey r i) (key b l) && t) || (madeSo b l (linkOwner r i) && chainSo p q)) (owner-known i below)
 
-    -- what the candidate would break, by whose constraint it is
-    breaks-with : breaks r (put p l b) ≡
-        ((someOwner r (key b l) (isMarked held) (r .used) || someOwner r (key b l) (λ y. eqb y 0) (r .used))
-        || (isMarked barred b || isMarked barred (key b l)))
-    unfolding breaks someOwner
-    breaks-with =
-        any-same _ _ (r .used) broken-with
-        ∙ any-or named barring (r .used)
-        ∙ ap₂ _||_
-        (any-same _ _ (r .used) (λ i below. and-or-distrib-left (eqb (linkKey r i) (key b l)) (isMarked held (linkOwner r i)) (eqb (linkOwner r i) 0))
-        ∙ any-or (λ i. eqb (linkKey r i) (key b l) && isMarked held (linkOwner r i)) (λ i. eqb (linkKey r i) (key b l) && eqb (linkOwner r i) 0) (r .used))
-        (any-same _ _ (r .used) (λ i below. and-or-distrib-right (eqb (linkOwner r i) b) (eqb (linkOwner r i) (key b l)) (chainSo p (constraintAt r i)))
-        ∙ any-or (λ i. eqb (linkOwner r i) b && chainSo p (constraintAt r i)) (λ i. eqb (linkOwner r i) (key b l) && chainSo p (constraintAt r i)) (r .used)
-        ∙ ap₂ _||_ (sym (known .bars b)) (sym (known .bars (key b l))))
-      where
-        named : ℕ → Bool
-        named i = eqb (linkKey r i) (key b l) && (isMarked held (linkOwner r i) || eqb (linkOwner r i) 0)
+    -- as an earlier winner's: its chain is the candidate's, and its owner stands where it says
+    abbrev by-earlier : ℕ → Bool
+    by-earlier i = eqb (linkKey r i) (key b l) && isMarked held (linkOwner r i)
 
-        barring : ℕ → Bool
-        barring i = madeSo b l (linkOwner r i) && chainSo p (constraintAt r i)
+    -- as the candidate's own: its chain is the candidate's and it is always so, or its owner is and its other stands where it says
+    abbrev by-itself : ℕ → Bool
+    by-itself i = (eqb (linkKey r i) (key b l) && eqb (linkOwner r i) 0) || (madeSo b l (linkOwner r i) && chainSo p (constraintAt r i))
 
-    pub free-eligible : free r barred held l b ≡ eligible r p l b
-    unfolding free
-    free-eligible =
+    either-breaks : (i : ℕ) → i < r .used → broken (put p l b) (constraintAt r i) ≡ (by-earlier i || by-itself i)
+    either-breaks i below =
+        let mine = eqb (linkKey r i) (key b l) in
+        let barring = madeSo b l (linkOwner r i) && chainSo p (constraintAt r i) in
+        broken-with i below
+        ∙ ap (λ (t : Bool). t || barring) (and-or-distrib-left mine (isMarked held (linkOwner r i)) (eqb (linkOwner r i) 0))
+        ∙ or-assoc (by-earlier i) (mine && eqb (linkOwner r i) 0) barring
+
+    earlier-owner : (i : ℕ) → i < r .used → by-earlier i ≡ true → placed p (constraintAt r i .owner .0) ≡ true
+    earlier-owner i below e =
+        let f = fit i below in
+        let o = ownerBidder (constraintAt r i .owner .0) (constraintAt r i .kind) in
+        let k = ownerSlot (constraintAt r i .kind) in
+        let marked = and-parts (eqb (linkKey r i) (key b l)) (isMarked held (linkOwner r i)) e .1 in
+        ⊎-elim
+        (λ (z : o ≡ 0).
+        let slot = f .nobody z in
+        let none : key o k ≡ 0 = omega arith in
+        absurd (not-both marked (ap (isMarked held) none ∙ known .nobody)))
+        (λ (d : o ≡ 0 → ⊥).
+        ap (placed p) (sym (f .own-key d))
+        ∙ so-placed p o k d (f .own-most) (sym (known .stands o k (omega arith) (f .owner-most) (f .own-most)) ∙ marked))
+        (same-or-not o 0)
+
+    own-owner : (i : ℕ) → i < r .used → by-itself i ≡ true → eqb (constraintAt r i .owner .0) b ≡ true
+    own-owner i below e =
+        let f = fit i below in
+        let owner = constraintAt r i .owner .0 in
+        let o = ownerBidder owner (constraintAt r i .kind) in
+        let j = chainBidder owner (constraintAt r i .kind) in
+        let few = f .owner-most in
+        let some = f .chain-some in
+        let most = f .chain-most in
+        ⊎-elim
+        (λ (t : (eqb (linkKey r i) (key b l) && eqb (linkOwner r i) 0) ≡ true).
+        let both = and-parts (eqb (linkKey r i) (key b l)) (eqb (linkOwner r i) 0) t in
+        let mine = eqb-true (linkKey r i) (key b l) (both .0) in
+        let always = eqb-true (linkOwner r i) 0 (both .1) in
+        let none : o ≡ 0 = omega arith in
+        let first : j ≡ b = omega arith in
+        eq-eqb owner b (sym (f .own-chain none) ∙ first))
+        (λ (t : (madeSo b l (linkOwner r i) && chainSo p (constraintAt r i)) ≡ true).
+        let made = or-parts (eqb (linkOwner r i) b) (eqb (linkOwner r i) (key b l))
+        (and-parts (madeSo b l (linkOwner r i)) (chainSo p (constraintAt r i)) t .0) in
+        ⊎-elim
+        (λ (z : o ≡ 0).
+        let slot = f .nobody z in
+        ⊎-elim
+        (λ (u : eqb (linkOwner r i) b ≡ true). let v = eqb-true (linkOwner r i) b u in absurd (omega arith))
+        (λ (u : eqb (linkOwner r i) (key b l) ≡ true). let v = eqb-true (linkOwner r i) (key b l) u in absurd (omega arith))
+        made)
+        (λ (d : o ≡ 0 → ⊥).
+        let same : o ≡ b
+        = ⊎-elim
+        (λ (u : eqb (linkOwner r i) b ≡ true). let v = eqb-true (linkOwner r i) b u in omega arith)
+        (λ (u : eqb (linkOwner r i) (key b l) ≡ true). let v = eqb-true (linkOwner r i) (key b l) u in omega arith)
+        made in
+        eq-eqb owner b (sym (f .own-key d) ∙ same))
+        (same-or-not o 0))
+        (or-parts (eqb (linkKey r i) (key b l) && eqb (linkOwner r i) 0) (madeSo b l (linkOwner r i) && chainSo p (constraintAt r i)) e)
+
+    pub placed-told : isMarked held b ≡ placed p b
+    placed-told =
         let here : key b 0 ≡ b = omega arith in
-        ap₂ (λ (t u : Bool). not t && not u)
-        (ap (isMarked held) (sym here) ∙ known .stands b 0 b-some b-most (omega arith) ∙ so-anywhere p b (λ e. absurd (omega arith)))
-        (sym breaks-with)
-        ∙ sym (eligible-breaks r p l b s l-some l-most)
+        ap (isMarked held) (sym here) ∙ known .stands b 0 b-some b-most (omega arith) ∙ so-anywhere p b (λ e. absurd (omega arith))
+
+    -- The two tests, of a candidate that has no slot.
+    module _ (unplaced : placed p b ≡ false) where
+      apart : (i : ℕ) → (placed p (constraintAt r i .owner .0) && eqb (constraintAt r i .owner .0) b) ≡ false
+      apart i =
+          let owner = constraintAt r i .owner .0 in
+          fails (placed p owner && eqb owner b)
+          (λ t.
+          let both = and-parts (placed p owner) (eqb owner b) t in
+          not-both (both .0) (ap (placed p) (eqb-true owner b (both .1)) ∙ unplaced))
+
+      apart-at : (i : ℕ) → i < r .used →
+          ((placed p (constraintAt r i .owner .0) && broken (put p l b) (constraintAt r i)) ≡ by-earlier i)
+          × ((eqb (constraintAt r i .owner .0) b && broken (put p l b) (constraintAt r i)) ≡ by-itself i)
+      apart-at i below =
+          let owner = constraintAt r i .owner .0 in
+          let both = told-apart (by-earlier i) (by-itself i) (placed p owner) (eqb owner b) (earlier-owner i below) (own-owner i below) (apart i) in (
+            ap (λ (t : Bool). placed p owner && t) (either-breaks i below) ∙ both .0,
+            ap (λ (t : Bool). eqb owner b && t) (either-breaks i below) ∙ both .1,
+          )
+
+      pub earlier-told : someOwner r (key b l) (isMarked held) (r .used) ≡ breaksEarlier r p (put p l b)
+      unfolding breaksEarlier someOwner
+      earlier-told = sym (any-same _ _ (r .used) (λ i below. apart-at i below .0))
+
+      pub own-told : (someOwner r (key b l) (λ y. eqb y 0) (r .used) || (isMarked barred b || isMarked barred (key b l))) ≡ breaksOwn r (put p l b) b
+      unfolding breaksOwn someOwner
+      own-told =
+          sym
+          (any-same _ _ (r .used) (λ i below. apart-at i below .1)
+          ∙ any-or (λ i. eqb (linkKey r i) (key b l) && eqb (linkOwner r i) 0) barring (r .used)
+          ∙ ap (λ (t : Bool). anyBelow (λ i. eqb (linkKey r i) (key b l) && eqb (linkOwner r i) 0) (r .used) || t)
+          (any-same _ _ (r .used) (λ i below. and-or-distrib-right (eqb (linkOwner r i) b) (eqb (linkOwner r i) (key b l)) (chainSo p (constraintAt r i)))
+          ∙ any-or (λ i. eqb (linkOwner r i) b && chainSo p (constraintAt r i)) (λ i. eqb (linkOwner r i) (key b l) && chainSo p (constraintAt r i)) (r .used)
+          ∙ ap₂ _||_ (sym (known .bars b)) (sym (known .bars (key b l)))))
+        where
+          barring : ℕ → Bool
+          barring i = madeSo b l (linkOwner r i) && chainSo p (constraintAt r i)
+
+-- A round with a sheet's constraints has its links.
+pub some-same : (r : Round) (s : List ℕ) → r .constraints ≡ roundOf s .constraints → r .used ≡ roundOf s .used → (x : ℕ) (test : ℕ → Bool) →
+    someOwner (roundOf s) x test (roundOf s .used) ≡ someOwner r x test (r .used)
+unfolding someOwner constraintAt
+some-same r s same-constraints same-used x test =
+    ap₂ (λ (cs : List Constraint) (n : ℕ). anyBelow (λ i. asks (getD cs i blank)) n) (sym same-constraints) (sym same-used)
+  where
+    asks : Constraint → Bool
+    asks q =
+        eqb (key (chainBidder (q .owner .0) (q .kind)) (chainSlot (q .kind))) x
+        && test (key (ownerBidder (q .owner .0) (q .kind)) (ownerSlot (q .kind)))
+
+-- The step's answers, for the page so far.
+module _ (r : Round) (p : Page) (s barred held : List ℕ) (l b : ℕ) (h : SoFar r p s barred held l)
+    (b-some : 0 < b) (b-most : b ≤ 64) (l-some : 0 < l) (l-most : l ≤ 16) where
+  held-placed : isMarked held b ≡ placed p b
+  held-placed = placed-told r (h .proper) p l b (h .sized) l-some l-most (h .vacant) b-some b-most (h .unbroken) barred held (h .known)
+
+  pub first-placed : isMarked held b ≡ true → 1 ≡ firstFailed r p l b
+  unfolding firstFailed
+  first-placed e =
+      sym
+      (ap (λ (t : Bool). 1 when t otherwise 2 when breaksEarlier r p (put p l b) otherwise 3 when breaksOwn r (put p l b) b otherwise 0)
+      (sym held-placed ∙ e))
+
+  -- where the chain names an earlier winner, nothing is asked of the rest
+  own-unasked : (earlier own rest : Bool) →
+      (2 when earlier otherwise 3 when (not earlier && own) || rest otherwise 0) ≡ (2 when earlier otherwise 3 when own || rest otherwise 0)
+  own-unasked true own rest = refl
+  own-unasked false own rest = refl
+
+  pub first-unplaced : isMarked held b ≡ false → (named : Named) →
+      named ≡ namedFor (someOwner (roundOf s) (key b l) (isMarked held) (roundOf s .used)) (someOwner (roundOf s) (key b l) (λ y. eqb y 0) (roundOf s .used)) →
+      (2 when named .earlier otherwise 3 when named .own || (isMarked barred b || isMarked barred (key b l)) otherwise 0) ≡ firstFailed r p l b
+  unfolding firstFailed namedFor
+  first-unplaced e named told =
+      let bars = isMarked barred b || isMarked barred (key b l) in
+      let unplaced : placed p b ≡ false = sym held-placed ∙ e in
+      let earlier = someOwner (roundOf s) (key b l) (isMarked held) (roundOf s .used) in
+      let own = someOwner (roundOf s) (key b l) (λ y. eqb y 0) (roundOf s .used) in
+      let same = some-same r s (h .constraints-are) (h .used-are) (key b l) in
+      ap (λ (n : Named). 2 when n .earlier otherwise 3 when n .own || bars otherwise 0) told
+      ∙ own-unasked earlier own bars
+      ∙ ap₂ (λ (x y : Bool). 2 when x otherwise 3 when y otherwise 0)
+      (same (isMarked held)
+      ∙ earlier-told r (h .proper) p l b (h .sized) l-some l-most (h .vacant) b-some b-most (h .unbroken) barred held (h .known) unplaced)
+      (ap (λ (t : Bool). t || bars) (same (λ y. eqb y 0))
+      ∙ own-told r (h .proper) p l b (h .sized) l-some l-most (h .vacant) b-some b-most (h .unbroken) barred held (h .known) unplaced)
+      ∙ sym
+      (ap (λ (t : Bool). 1 when t otherwise 2 when breaksEarlier r p (put p l b) otherwise 3 when breaksOwn r (put p l b) b otherwise 0) unplaced)

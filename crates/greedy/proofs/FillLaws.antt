@@ -1,35 +1,33 @@
 -- The page and its prices, slot after slot: while slots 1 to k are filled, the marks know the page so far, and so tell who is eligible for the
 -- next slot; its winner and the winner's critical bid are the slot's entry. Assumes nothing.
 use Prim.Native.Nat.{ℕ, zero, suc, _-_, _<_, _≤_}
-use mathlib.Core.Bool.{Bool, not, _&&_, _||_}
+use mathlib.Core.Bool.{Bool, _||_}
 use mathlib.Core.List.{List}
 use mathlib.Core.Logic.{⊎-elim}
 use mathlib.Core.Path.{_≡_, refl, sym, _∙_, ap, ap₂, subst}
 use native.Mathlib.Omega.{arith}
 use lib.Dec.{eqb}
-use lib.ListN.{length, getD, set, replicate}
-use Rattle.basis.specs.Tests.{anyBelow}
+use lib.ListN.{length, set, replicate}
 use Rattle.basis.specs.Rows.{padded}
 use Rattle.basis.proofs.RowLaws.{padded-none, padded-next}
 use Rattle.basis.proofs.NumberLaws.{same-or-not}
 use Rattle.sheet.specs.declared.Page.{Page}
 use Rattle.sheet.specs.declared.Round.{Round}
-use Rattle.sheet.specs.declared.Constraint.{Constraint}
-use Rattle.sheet.specs.Round.{bidOf, constraintAt, blank, roundOf}
+use Rattle.sheet.specs.Round.{bidOf, roundOf}
 use Rattle.sheet.specs.Proper.{ProperRound}
 use Rattle.choice.specs.EngineBids.{bidIn}
 use Rattle.choice.proofs.WinnerLaws.{winner-same}
 use Rattle.choice.proofs.CriticalLaws.{critical-same, critical-nobody}
 use Rattle.auction.specs.Page.{at, put, emptyPage}
-use Rattle.auction.specs.Greedy.{eligible, winnerAt, pageUpTo}
+use Rattle.auction.specs.Eligible.{eligible}
+use Rattle.auction.specs.Greedy.{winnerAt, pageUpTo}
 use Rattle.auction.specs.Price.{price}
 use Rattle.auction.proofs.PageLaws.{at-put-same, put-nobody}
 use Rattle.auction.proofs.GreedyLaws.{bid-in, upTo-next, upTo-sized, upTo-later, upTo-unbroken, slot-winner, winner-bidder, empty-nobody}
 use Rattle.auction.proofs.PriceLaws.{price-critical, empty-costs-nothing}
-use Rattle.greedy_links.specs.EngineKeys.{key, chainBidder, chainSlot, ownerBidder, ownerSlot, isMarked}
-use Rattle.greedy_links.specs.EngineLinks.{someOwner}
-use Rattle.greedy.specs.EngineEligible.{isBarred, free, Awarded, Settled, Lent}
-use Rattle.greedy.proofs.EligibleLaws.{Known, known-start, known-next, free-eligible}
+use Rattle.greedy_links.specs.EngineKeys.{key, isMarked}
+use Rattle.greedy.specs.EngineEligible.{Known, SoFar, Awarded, Settled, Lent}
+use Rattle.greedy.proofs.EligibleLaws.{known-start, known-next, some-same}
 
 -- slots 1 to k are filled
 pub record Filled (r : Round) (k : ℕ) (barred held : List ℕ) (page : Page) (prices : List ℕ) : Type 0 where
@@ -56,25 +54,18 @@ seated r k barred held page prices f s w some most =
 
 module _ (r : Round) (c : ProperRound r) (k : ℕ) (inside : k < r .slots) (barred held : List ℕ) (page : Page) (prices : List ℕ)
     (f : Filled r k barred held page prices) (w paid : ℕ)
-    (awarded : Awarded (free r barred held (suc k)) (bidIn (r .bids)) (r .bidders) w paid) where
+    (awarded : Awarded (eligible r (pageUpTo r k) (suc k)) (bidIn (r .bids)) (r .bidders) w paid) where
   abbrev p : Page
   p = pageUpTo r k
 
   few : r .slots ≤ 16
   few = c .most-slots
 
-  free-here : (j : ℕ) → 0 < j → j ≤ r .bidders → free r barred held (suc k) j ≡ eligible r p (suc k) j
-  free-here j some most =
-      let many = c .most-bidders in
-      let room = few in
-      free-eligible r c p (suc k) j (upTo-sized r k) (omega arith) (omega arith) (upTo-later r k (suc k) (omega arith)) some (omega arith)
-      (upTo-unbroken r (c .proper) k (omega arith)) barred held (f .known)
-
   won-slot : w ≡ winnerAt r p (suc k)
   unfolding winnerAt
   won-slot =
       awarded .won-by
-      ∙ winner-same (free r barred held (suc k)) (eligible r p (suc k)) (bidIn (r .bids)) (bidOf r) (r .bidders) free-here (λ j s m. bid-in r j)
+      ∙ winner-same (eligible r p (suc k)) (eligible r p (suc k)) (bidIn (r .bids)) (bidOf r) (r .bidders) (λ j s m. refl) (λ j s m. bid-in r j)
 
   pub won-most : w ≤ 64
   won-most = let e = won-slot in let m = winner-bidder r p (suc k) in let n = c .most-bidders in omega arith
@@ -82,8 +73,8 @@ module _ (r : Round) (c : ProperRound r) (k : ℕ) (inside : k < r .slots) (barr
   -- what is paid is the price of document 01
   paid-price : paid ≡ price r (suc k)
   paid-price =
-      let critical = critical-same (free r barred held (suc k)) (eligible r p (suc k)) (bidIn (r .bids)) (bidOf r) (r .bidders) w
-      (λ j d s m. free-here j s m) (λ j d s m. bid-in r j) in
+      let critical = critical-same (eligible r p (suc k)) (eligible r p (suc k)) (bidIn (r .bids)) (bidOf r) (r .bidders) w (λ j d s m. refl)
+      (λ j d s m. bid-in r j) in
       let here = slot-winner r few k inside in
       ⊎-elim
       (λ (z : w ≡ 0).
@@ -140,31 +131,36 @@ module _ (r : Round) (s : List ℕ) (start : ℕ) (last links bids : List ℕ) (
       let m = lent .proper .most-bid b in
       omega arith
 
-  -- the sheet's links and the round's say the same
-  some-same : (x : ℕ) (test : ℕ → Bool) → someOwner (roundOf s) x test (roundOf s .used) ≡ someOwner r x test (r .used)
-  unfolding someOwner constraintAt
-  some-same x test =
-      ap₂ (λ (cs : List Constraint) (n : ℕ). anyBelow (λ i. asks (getD cs i blank)) n) (sym (lent .constraints-are)) (sym (lent .used-are))
-    where
-      asks : Constraint → Bool
-      asks q =
-          eqb (key (chainBidder (q .owner .0) (q .kind)) (chainSlot (q .kind))) x
-          && test (key (ownerBidder (q .owner .0) (q .kind)) (ownerSlot (q .kind)))
-
-  free-same : (barred held : List ℕ) (l : ℕ) → free (roundOf s) barred held l ≡ free r barred held l
-  unfolding free
-  free-same barred held l = λ i b.
-      not (isMarked held b)
-      && not ((some-same (key b l) (isMarked held) i || some-same (key b l) (λ y. eqb y 0) i) || isBarred barred l b)
-
   module _ (barred held : List ℕ) (page : Page) (prices : List ℕ) (w paid : ℕ) where
-    -- the award, in the round's own terms
-    awarded-of : (k : ℕ) → Awarded (free (roundOf s) barred held k) (bidIn bids) bidders w paid →
-        Awarded (free r barred held k) (bidIn (r .bids)) (r .bidders) w paid
-    awarded-of k a =
-        subst (λ (f : ℕ → Bool). Awarded f (bidIn (r .bids)) (r .bidders) w paid) (free-same barred held k)
-        (subst (λ (bs : List ℕ). Awarded (free (roundOf s) barred held k) (bidIn bs) (r .bidders) w paid) (lent .bids-are)
-        (subst (λ (n : ℕ). Awarded (free (roundOf s) barred held k) (bidIn bids) n w paid) (lent .bidders-are) a))
+    -- what an award promises
+    abbrev Award : ℕ → Type 0
+    Award k = (q : Round) (p : Page) → SoFar q p s barred held k → Awarded (eligible q p k) (bidIn bids) bidders w paid
+
+    inside-at : (k : ℕ) → suc k ≤ slots → k < r .slots
+    inside-at k most = let e = lent .slots-are in omega arith
+
+    -- what the marks know before slot k + 1 is awarded
+    so-far : (k : ℕ) → suc k ≤ slots → Filled r k barred held page prices → SoFar r (pageUpTo r k) s barred held (suc k)
+    so-far k most f =
+        let inside = inside-at k most in
+        let room = lent .proper .most-slots in
+        record {
+          proper = lent .proper;
+          constraints-are = lent .constraints-are;
+          used-are = lent .used-are;
+          sized = upTo-sized r k;
+          unbroken = upTo-unbroken r (lent .proper .proper) k (omega arith);
+          vacant = upTo-later r k (suc k) (omega arith);
+          known = f .known;
+        }
+
+    -- the award promised for every page so far, of the round's own
+    awarded-of : (k : ℕ) → suc k ≤ slots → Filled r k barred held page prices → Award (suc k) →
+        Awarded (eligible r (pageUpTo r k) (suc k)) (bidIn (r .bids)) (r .bidders) w paid
+    awarded-of k most f a =
+        subst (λ (bs : List ℕ). Awarded (eligible r (pageUpTo r k) (suc k)) (bidIn bs) (r .bidders) w paid) (lent .bids-are)
+        (subst (λ (n : ℕ). Awarded (eligible r (pageUpTo r k) (suc k)) (bidIn bids) n w paid) (lent .bidders-are)
+        (a r (pageUpTo r k) (so-far k most f)))
 
     -- and so the marks
     settled-of : (v k : ℕ) (barred′ held′ : List ℕ) → v ≡ w → Settled (roundOf s) v k barred held barred′ held′ → Settled r w k barred held barred′ held′
@@ -174,26 +170,21 @@ module _ (r : Round) (s : List ℕ) (start : ℕ) (last links bids : List ℕ) (
           nobody = h .nobody;
           somebody = λ some. (
             h .somebody some .0,
-            λ y. h .somebody some .1 y ∙ ap (λ (t : Bool). isMarked barred y || t) (some-same (key v k) (λ z. eqb z y)),
+            λ y. h .somebody some .1 y ∙ ap (λ (t : Bool). isMarked barred y || t) (some-same r s (lent .constraints-are) (lent .used-are) (key v k) (λ z. eqb z y)),
           );
         })
 
-    inside-at : (k : ℕ) → suc k ≤ slots → k < r .slots
-    inside-at k most = let e = lent .slots-are in omega arith
-
-    pub slot-won : (k : ℕ) → 0 < k → k ≤ slots → Filled r (k - 1) barred held page prices →
-        Awarded (free (roundOf s) barred held k) (bidIn bids) bidders w paid → w ≤ 64
+    pub slot-won : (k : ℕ) → 0 < k → k ≤ slots → Filled r (k - 1) barred held page prices → Award k → w ≤ 64
     slot-won zero some most f a = absurd (omega arith)
     slot-won (suc k) some most f a =
         let e : suc k - 1 ≡ k = omega arith in
-        won-most r (lent .proper) k (inside-at k most) barred held page prices (rw e at f) w paid (awarded-of (suc k) a)
+        won-most r (lent .proper) k (inside-at k most) barred held page prices (rw e at f) w paid (awarded-of k most (rw e at f) a)
 
-    pub slot-filled : (k : ℕ) → 0 < k → k ≤ slots → Filled r (k - 1) barred held page prices →
-        Awarded (free (roundOf s) barred held k) (bidIn bids) bidders w paid → (v : ℕ) (barred′ held′ : List ℕ) → v ≡ w →
+    pub slot-filled : (k : ℕ) → 0 < k → k ≤ slots → Filled r (k - 1) barred held page prices → Award k → (v : ℕ) (barred′ held′ : List ℕ) → v ≡ w →
         Settled (roundOf s) v k barred held barred′ held′ → Filled r k barred′ held′ (put page k w) (set prices (k - 1) paid)
     slot-filled zero some most f a v barred′ held′ stands settled = absurd (omega arith)
     slot-filled (suc k) some most f a v barred′ held′ stands settled =
         let e : suc k - 1 ≡ k = omega arith in
         rw e
-        (filled-next r (lent .proper) k (inside-at k most) barred held page prices (rw e at f) w paid (awarded-of (suc k) a) barred′ held′
+        (filled-next r (lent .proper) k (inside-at k most) barred held page prices (rw e at f) w paid (awarded-of k most (rw e at f) a) barred′ held′
         (settled-of v (suc k) barred′ held′ stands settled))

@@ -1,29 +1,38 @@
 -- The engine's own: nothing here need be believed.
--- How the engine tells who is eligible: who stands where (`held`), the links of the candidate's chain, and whom the page bars (`barred`).
-use Prim.Native.Nat.{ℕ}
-use mathlib.Core.Bool.{Bool, not, _&&_, _||_}
+-- What the engine's marks know of a page so far, and what the functions that fill it are lent and leave.
+use Prim.Native.Nat.{ℕ, _<_, _≤_}
+use mathlib.Core.Bool.{Bool, false, _&&_, _||_}
 use mathlib.Core.List.{List}
 use mathlib.Core.Path.{_≡_}
 use lib.Dec.{eqb}
+use Rattle.basis.specs.Tests.{anyBelow}
+use Rattle.sheet.specs.declared.Constraint.{Constraint}
+use Rattle.sheet.specs.declared.Page.{Page}
 use Rattle.sheet.specs.declared.Round.{Round}
-use Rattle.sheet.specs.Round.{roundOf}
+use Rattle.sheet.specs.Round.{constraintAt, Has, roundOf}
 use Rattle.sheet.specs.Proper.{ProperRound}
 use Rattle.choice.specs.Winner.{winner}
 use Rattle.choice.specs.Critical.{criticalBid}
-use Rattle.greedy_links.specs.EngineKeys.{key, madeSo, isMarked}
-use Rattle.greedy_links.specs.EngineLinks.{Kept, someOwner}
+use Rattle.auction.specs.Page.{at, Sized}
+use Rattle.auction.specs.Broken.{broken}
+use Rattle.greedy_links.specs.EngineKeys.{key, isSo, chainSo, madeSo, isMarked}
+use Rattle.greedy_links.specs.EngineLinks.{linkOwner, Kept, someOwner}
 
--- a constraint names b at slot l: an earlier winner's, or an own-slot constraint of its own
-abbrev pub isNamed : Round → List ℕ → ℕ → ℕ → Bool
-isNamed r held l b = someOwner r (key b l) (isMarked held) (r .used) || someOwner r (key b l) (λ y. eqb y 0) (r .used)
+-- the marks know a page: `held` who stands where, and `barred` the owners of links whose chain's key is true
+pub record Known (r : Round) (p : Page) (barred held : List ℕ) : Type 0 where
+  pub stands : (b l : ℕ) → 0 < b → b ≤ 64 → l ≤ 16 → isMarked held (key b l) ≡ isSo p b l
+  pub nobody : isMarked held 0 ≡ false
+  pub bars : (y : ℕ) → isMarked barred y ≡ anyBelow (λ i. eqb (linkOwner r i) y && chainSo p (constraintAt r i)) (r .used)
 
--- a constraint of its own bars b from slot l, or from any, since its other stands where it says
-abbrev pub isBarred : List ℕ → ℕ → ℕ → Bool
-isBarred barred l b = isMarked barred b || isMarked barred (key b l)
-
--- b is free for slot l: it has no slot, is not named there and is not barred from there
-unfoldable pub free : Round → List ℕ → List ℕ → ℕ → ℕ → Bool
-free r barred held l b = not (isMarked held b) && not (isNamed r held l b || isBarred barred l b)
+-- a round with the lent sheet's constraints, its page so far, which breaks none and has nobody at slot l yet, and the marks that know it
+pub record SoFar (r : Round) (p : Page) (s barred held : List ℕ) (l : ℕ) : Type 0 where
+  pub proper : ProperRound r
+  pub constraints-are : r .constraints ≡ roundOf s .constraints
+  pub used-are : r .used ≡ roundOf s .used
+  pub sized : Sized p
+  pub unbroken : (q : Constraint) → Has r q → broken p q ≡ false
+  pub vacant : at p l ≡ 0
+  pub known : Known r p barred held
 
 -- a slot's winner and price, from who may have it and the bids
 pub record Awarded (eligible : ℕ → Bool) (bid : ℕ → ℕ) (n won paid : ℕ) : Type 0 where

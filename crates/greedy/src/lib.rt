@@ -9,16 +9,19 @@
 // constraints, which start at `start`; its own bids are not read: those handed on count.
 ghost use mathlib.Core.Path.{_≡_};
 ghost use Prim.Native.Nat.{ℕ, _+_, _-_, _<_, _≤_};
+ghost use lib.Dec.{eqb};
 ghost use lib.ListN.{length, getD};
+ghost use Rattle.basis.specs.First.{_when_otherwise_};
 ghost use Rattle.sheet.specs.Refusal.{Accepted};
 ghost use Rattle.sheet.specs.Round.{roundOf};
+ghost use Rattle.auction.specs.Eligible.{firstFailed, failedTest, eligible};
 ghost use Rattle.greedy_links.specs.EngineLinks.{Kept};
 ghost use Rattle.greedy.specs.EngineOutcome.{outcomeOf};
-ghost use Rattle.greedy.specs.EngineEligible.{free, Awarded, Settled, Lent};
+ghost use Rattle.greedy.specs.EngineEligible.{SoFar, Awarded, Settled, Lent};
 ghost use Rattle.choice.specs.EngineRanking.{InOrder, NextAt};
 ghost use Rattle.choice.specs.EngineBids.{bidIn};
+use auction::Eligibility;
 use choice::Placing;
-use greedy_links::Named;
 use sheet::Bidder;
 use sheet::Page;
 use sheet::Round;
@@ -30,8 +33,22 @@ pub struct Outcome {
     pub prices: [u32; 16],
 }
 
-// Whether a candidate is eligible, in three parts: it has no slot, no earlier winner's constraint names it, and none of its own bars it.
-fn is_eligible(
+// The first of the two tests of constraints that fails, for a candidate that has no slot.
+fn first_of(earlier: bool, own: bool) -> Eligibility
+    ensures { λ r. ⌜ failedTest r ≡ (2 when earlier otherwise 3 when own otherwise 0) ⌝ }
+{
+    if earlier {
+        return Eligibility::EarlierWinners;
+    }
+    if own {
+        return Eligibility::Own;
+    }
+    Eligibility::Eligible
+}
+
+// The eligibility step: which test the candidate fails first at the slot, with the page so far. Whether it has a slot is asked of `held`,
+// whether an earlier winner's constraint names it, of its chain, and its own constraints of the chain and of `barred`.
+fn eligibility(
     barred: &[u8],
     held: &[u8],
     last: &[u16],
@@ -40,26 +57,35 @@ fn is_eligible(
     start: usize,
     bidder: Bidder,
     slot: Slot,
-) -> bool
+) -> Eligibility
     requires { ⌜ (length (now barred) ≡ 1089) × (length (now held) ≡ 1089) × Kept (now sheet) start (now last) (now links) ⌝ }
     requires { ⌜ ((0 < bidder .0) × (bidder .0 ≤ 64)) × ((0 < slot .0) × (slot .0 ≤ 16)) ⌝ }
-    ensures { λ r. ⌜ (r ≡ free (roundOf (now (sheet .entry))) (now (barred .entry)) (now (held .entry)) (slot .0) (bidder .0)) ⌝ }
+    ensures { λ r. ⌜ ((q : Round) (p : Page) → SoFar q p (now (sheet .entry)) (now (barred .entry)) (now (held .entry)) (slot .0) → failedTest r ≡ firstFailed q p (slot .0) (bidder .0)) ⌝ }
 {
     let anywhere = greedy_links::owner_key(bidder, Slot(0));
     if greedy_links::is_marked(held, anywhere) {
-        return false;
+        return Eligibility::Placed;
     }
     let chain = greedy_links::chain_key(bidder, slot);
-    let by = greedy_links::named_by(held, last, links, sheet, start, chain);
-    match by {
-        Named::ByEarlierWinner => false,
-        Named::ByItself => false,
-        Named::ByNobody => {
-            let here = greedy_links::owner_key(bidder, slot);
-            let never = greedy_links::is_marked(barred, anywhere);
-            let not_here = greedy_links::is_marked(barred, here);
-            !(never | not_here)
-        }
+    let named = greedy_links::named_by(held, last, links, sheet, start, chain);
+    let earlier = named.earlier;
+    let itself = named.own;
+    let here = greedy_links::owner_key(bidder, slot);
+    let never = greedy_links::is_marked(barred, anywhere);
+    let not_here = greedy_links::is_marked(barred, here);
+    let own = itself | (never | not_here);
+    first_of(earlier, own)
+}
+
+// Whether an answer says that no test fails.
+fn fails_none(answer: Eligibility) -> bool
+    ensures { λ r. ⌜ r ≡ eqb (failedTest answer) 0 ⌝ }
+{
+    match answer {
+        Eligibility::Eligible => true,
+        Eligibility::Placed => false,
+        Eligibility::EarlierWinners => false,
+        Eligibility::Own => false,
     }
 }
 
@@ -80,12 +106,13 @@ fn next_eligible(
     requires { ⌜ (from ≤ bidders) × (bidders ≤ 64) × (bidders ≤ length (now ranked)) × ((0 < slot .0) × (slot .0 ≤ 16)) ⌝ }
     requires { ⌜ ((i : ℕ) → i < bidders → (0 < getD (now ranked) i 0) × (getD (now ranked) i 0 ≤ bidders)) ⌝ }
     ensures { λ r. ⌜ r ≤ bidders ⌝ }
-    ensures { λ r. ⌜ (NextAt (free (roundOf (now (sheet .entry))) (now (barred .entry)) (now (held .entry)) (slot .0)) (now (ranked .entry)) bidders from r) ⌝ }
+    ensures { λ r. ⌜ ((q : Round) (p : Page) → SoFar q p (now (sheet .entry)) (now (barred .entry)) (now (held .entry)) (slot .0) → NextAt (eligible q p (slot .0)) (now (ranked .entry)) bidders from r) ⌝ }
 {
     let mut i: usize = from;
     while i < bidders {
         let bidder = choice::ranked_at(ranked, i);
-        if is_eligible(barred, held, last, links, sheet, start, bidder, slot) {
+        let answer = eligibility(barred, held, last, links, sheet, start, bidder, slot);
+        if fails_none(answer) {
             return i;
         }
         i += 1;
@@ -109,7 +136,7 @@ fn award_slot(
     requires { ⌜ (length (now barred) ≡ 1089) × (length (now held) ≡ 1089) × Kept (now sheet) start (now last) (now links) ⌝ }
     requires { ⌜ (bidders ≤ 64) × (bidders ≤ length (now bids)) × ((0 < slot .0) × (slot .0 ≤ 16)) ⌝ }
     requires { ⌜ InOrder (bidIn (now bids)) bidders (now ranked) × ((b : ℕ) → bidIn (now bids) b ≤ 1000000000) ⌝ }
-    ensures { λ r. ⌜ (Awarded (free (roundOf (now (sheet .entry))) (now (barred .entry)) (now (held .entry)) (slot .0)) (bidIn (now (bids .entry))) bidders (r .winner .0) (r .critical)) ⌝ }
+    ensures { λ r. ⌜ ((q : Round) (p : Page) → SoFar q p (now (sheet .entry)) (now (barred .entry)) (now (held .entry)) (slot .0) → Awarded (eligible q p (slot .0)) (bidIn (now (bids .entry))) bidders (r .winner .0) (r .critical)) ⌝ }
 {
     let first = next_eligible(
         ranked,

@@ -14,7 +14,6 @@ use Rattle.basis.proofs.TestLaws.{same-tests, or-left, or-right, or-parts, hold
 use Rattle.sheet.specs.declared.Bidder.{Bidder}
 use Rattle.sheet.specs.declared.Kind.{Kind}
 use Rattle.sheet.specs.declared.Kind.the-variants.{OwnSlot, OtherSlot, Pair}
-use Rattle.sheet.specs.declared.Constraint.{Constraint}
 use Rattle.sheet.specs.declared.Page.{Page}
 use Rattle.sheet.specs.Sheet.{constraintCount}
 use Rattle.sheet.specs.Refusal.{Accepted}
@@ -24,15 +23,8 @@ use Rattle.sheet.specs.Proper.{Proper}
 use Rattle.auction.specs.Page.{at, put, emptyPage, placed, Sized}
 use Rattle.auction.specs.Broken.{ownHolds, otherHolds, broken}
 use Rattle.auction.proofs.PageLaws.{at-put-same, at-put-other, at-empty, placed-at, placed-put, put-placed, put-keeps, keeps-placed, empty-placed}
-use Rattle.greedy_links.specs.EngineKeys.{key, chainBidder, chainSlot, ownerBidder, ownerSlot, isSo, madeSo}
+use Rattle.greedy_links.specs.EngineKeys.{key, chainBidder, chainSlot, ownerBidder, ownerSlot, isSo, chainSo, ownerSo, madeSo}
 use Rattle.greedy_links.specs.EngineLinks.{linkOwner}
-
--- the two keys of a constraint are true
-abbrev pub chainSo : Page → Constraint → Bool
-chainSo p q = isSo p (chainBidder (q .owner .0) (q .kind)) (chainSlot (q .kind))
-
-abbrev pub ownerSo : Page → Constraint → Bool
-ownerSo p q = isSo p (ownerBidder (q .owner .0) (q .kind)) (ownerSlot (q .kind))
 
 pub so-anywhere : (p : Page) (b : ℕ) → (b ≡ 0 → ⊥) → isSo p b 0 ≡ placed p b
 unfolding isSo
@@ -44,6 +36,13 @@ unfolding isSo
 so-there p zero l s m = absurd (s refl)
 so-there p (suc b) zero s m = absurd (not-suc-le-zero m)
 so-there p (suc b) (suc l) s m = refl
+
+-- whose key is true has a slot
+pub so-placed : (p : Page) (b l : ℕ) → (b ≡ 0 → ⊥) → l ≤ 16 → isSo p b l ≡ true → placed p b ≡ true
+unfolding isSo
+so-placed p zero l s m e = absurd (s refl)
+so-placed p (suc b) zero s m e = e
+so-placed p (suc b) (suc l) s m e = placed-at p (suc b) (suc l) (omega arith) m (eqb-true (at p (suc l)) (suc b) e)
 
 -- who stands at a slot has a slot
 here-placed : (p : Page) (o k : ℕ) → 0 < k → k ≤ 16 → (x : Bool) → ((eqb (at p k) o && x) && placed p o) ≡ (x && eqb (at p k) o)
@@ -78,6 +77,9 @@ pub record Fits (owner : ℕ) (kind : Kind) : Type 0 where
   pub own-most : ownerSlot kind ≤ 16
   pub apart : ownerBidder owner kind ≡ chainBidder owner kind → ⊥
   pub nobody : ownerBidder owner kind ≡ 0 → ownerSlot kind ≡ 0
+  -- whose key is always so is in its owner's chain, and any other has its owner's key
+  pub own-chain : ownerBidder owner kind ≡ 0 → chainBidder owner kind ≡ owner
+  pub own-key : (ownerBidder owner kind ≡ 0 → ⊥) → ownerBidder owner kind ≡ owner
 
 pub keys-fit : (owner : Bidder) (kind : Kind) → Proper (record { owner = owner; kind = kind }) → Fits (owner .0) kind
 unfolding chainBidder chainSlot ownerBidder ownerSlot
@@ -92,6 +94,8 @@ keys-fit owner (OwnSlot k) c =
       own-most = omega arith;
       apart = λ e. o (sym e);
       nobody = λ e. refl;
+      own-chain = λ e. refl;
+      own-key = λ d. absurd (d refl);
     }
 keys-fit owner (OtherSlot j l) c =
     let j-some = c .parts .0 in
@@ -104,6 +108,8 @@ keys-fit owner (OtherSlot j l) c =
       own-most = omega arith;
       apart = λ e. c .parts .1 (sym e);
       nobody = λ e. refl;
+      own-chain = λ e. absurd (c .owned e);
+      own-key = λ d. refl;
     }
 keys-fit owner (Pair k j l) c =
     let j-some = c .parts .0 in
@@ -116,6 +122,8 @@ keys-fit owner (Pair k j l) c =
       own-most = c .parts .6;
       apart = λ e. c .parts .1 (sym e);
       nobody = λ e. absurd (c .owned e);
+      own-chain = λ e. absurd (c .owned e);
+      own-key = λ d. refl;
     }
 
 -- those of an accepted sheet's round

@@ -8,6 +8,7 @@ use lib.Dec.{eqb}
 use lib.ListN.{getD}
 use Rattle.sheet.specs.declared.Kind.{Kind}
 use Rattle.sheet.specs.declared.Kind.the-variants.{OwnSlot, OtherSlot, Pair}
+use Rattle.sheet.specs.declared.Constraint.{Constraint}
 use Rattle.sheet.specs.declared.Page.{Page}
 use Rattle.auction.specs.Page.{at, placed}
 
@@ -42,6 +43,13 @@ unfoldable pub isSo : Page → ℕ → ℕ → Bool
 isSo p zero l = true
 isSo p (suc b) zero = placed p (suc b)
 isSo p (suc b) (suc l) = eqb (at p (suc l)) (suc b)
+
+-- the two keys of a constraint are true of a page
+abbrev pub chainSo : Page → Constraint → Bool
+chainSo p q = isSo p (chainBidder (q .owner .0) (q .kind)) (chainSlot (q .kind))
+
+abbrev pub ownerSo : Page → Constraint → Bool
+ownerSo p q = isSo p (ownerBidder (q .owner .0) (q .kind)) (ownerSlot (q .kind))
 
 -- the key x is one of those that w at slot k makes true: w at any slot, and w at k
 abbrev pub madeSo : ℕ → ℕ → ℕ → Bool

@@ -1,7 +1,7 @@
 -- The engine's own: nothing here need be believed.
 -- The links of a round's constraints, chain by chain.
 use Prim.Native.Nat.{ℕ, zero, suc, _≤_, _<_}
-use mathlib.Core.Bool.{Bool, true, false, cond, _&&_}
+use mathlib.Core.Bool.{Bool, cond, not, _&&_}
 use mathlib.Core.List.{List}
 use mathlib.Core.Path.{_≡_}
 use lib.Dec.{eqb}
@@ -12,7 +12,6 @@ use Rattle.sheet.specs.Sheet.{constraintsStart}
 use Rattle.sheet.specs.Refusal.{Accepted}
 use Rattle.sheet.specs.Round.{constraintAt, roundOf}
 use Rattle.greedy_links.specs.declared.Named.{Named}
-use Rattle.greedy_links.specs.declared.Named.the-variants.{ByEarlierWinner, ByItself, ByNobody}
 use Rattle.greedy_links.specs.EngineKeys.{key, chainBidder, chainSlot, ownerBidder, ownerSlot}
 
 -- the two keys of the constraint at index i
@@ -45,8 +44,6 @@ pub record Kept (s : List ℕ) (start : ℕ) (last links : List ℕ) : Type 0 wh
 unfoldable pub someOwner : Round → ℕ → (ℕ → Bool) → ℕ → Bool
 someOwner r x test n = anyBelow (λ i. eqb (linkKey r i) x && test (linkOwner r i)) n
 
--- by whose constraint a candidate is named: an earlier winner's, else one of its own, else nobody's
-unfoldable pub namedFor : Bool → Bool → Named
-namedFor true own = ByEarlierWinner
-namedFor false true = ByItself
-namedFor false false = ByNobody
+-- by whose constraints a candidate is named: an earlier winner's; where there is none, its own
+unfoldable pub namedFor : (earlier own : Bool) → Named
+namedFor earlier own = record { earlier = earlier; own = not earlier && own }

@@ -36,11 +36,10 @@ pub struct ChainKey(pub u16);
 // Where a constraint's owner must stand: a bidder at a slot, at any slot where that is 0; always so where the bidder is nobody.
 pub struct OwnerKey(pub u16);
 
-// By whose constraint a candidate is named where it would stand.
-pub enum Named {
-    ByEarlierWinner,
-    ByItself,
-    ByNobody,
+// By whose constraints a candidate is named where it would stand: by an earlier winner's, or, asked only where that is not so, by its own.
+pub struct Named {
+    pub earlier: bool,
+    pub own: bool,
 }
 
 // The key of the chain of a bidder at a slot.
@@ -217,8 +216,8 @@ pub fn bar_chain(
     }
 }
 
-// By whose constraint a chain's bidder is named at the chain's slot: an earlier winner's, of which the owner stands where it says; or one of
-// its own, which is always so.
+// By whose constraints a chain's bidder is named at the chain's slot: an earlier winner's, of which the owner stands where it says; or, where there
+// is none, one of its own, which is always so.
 pub fn named_by(
     held: &[u8],
     last: &[u16],
@@ -236,13 +235,16 @@ pub fn named_by(
     while next != 0 {
         let owner = owner_at(sheet, start, next - 1);
         if is_marked(held, owner) {
-            return Named::ByEarlierWinner;
+            return Named {
+                earlier: true,
+                own: false,
+            };
         }
         own = own | is_always_so(owner);
         next = links[next - 1] as usize;
     }
-    if own {
-        return Named::ByItself;
+    Named {
+        earlier: false,
+        own,
     }
-    Named::ByNobody
 }

@@ -17,7 +17,7 @@ use Rattle.sheet.specs.declared.Page.{Page}
 use Rattle.sheet.specs.declared.Round.{Round}
 use Rattle.auction.specs.Page.{at, put, placed, Sized}
 use Rattle.auction.specs.Broken.{ownHolds, otherHolds, broken}
-use Rattle.auction.specs.Greedy.{eligible}
+use Rattle.auction.specs.Eligible.{eligible}
 use Rattle.sheet.specs.Proper.{ProperKind, Proper, ProperRound}
 use Rattle.sheet.specs.Round.{Has}
 use Rattle.auction.proofs.PageLaws.{at-put-same, at-put-other, at-within, placed-at, put-placed, Keeps, put-keeps}

@@ -21,15 +21,16 @@ use Rattle.sheet.specs.declared.Round.{Round}
 use Rattle.choice.specs.Winner.{winner}
 use Rattle.choice.proofs.WinnerLaws.{winner-same}
 use Rattle.auction.specs.Page.{at, put, placed, Sized}
-use Rattle.auction.specs.Broken.{broken, breaks}
-use Rattle.auction.specs.Greedy.{eligible, winnerAt, pageUpTo, greedyPage}
+use Rattle.auction.specs.Broken.{broken, breaks, breaksOwn}
+use Rattle.auction.specs.Eligible.{eligible}
+use Rattle.auction.specs.Greedy.{winnerAt, pageUpTo, greedyPage}
 use Rattle.sheet.specs.Round.{bidOf, effectOf, Has}
 use Rattle.sheet.specs.Proper.{ProperRound}
 use Rattle.auction.specs.Price.{price}
 use Rattle.auction.specs.Except.{Except}
 use Rattle.auction.proofs.PageLaws.{placed-where, placed-at, Keeps, keeps-placed}
 use Rattle.basis.proofs.NumberLaws.{same-or-not, below-or-not}
-use Rattle.auction.proofs.BrokenLaws.{broken-stays, breaks-where, breaks-none, eligible-unplaced, eligible-unbroken, unbroken-eligible}
+use Rattle.auction.proofs.BrokenLaws.{broken-stays, breaks-where, breaks-own-at, breaks-none, eligible-unplaced, eligible-unbroken, unbroken-eligible}
 use Rattle.auction.proofs.GreedyLaws.{
   upTo-next,
   upTo-sized,
@@ -41,9 +42,8 @@ use Rattle.auction.proofs.GreedyLaws.{
 use Rattle.auction.proofs.ExceptLaws.{eligible-except, pages-agree}
 use Rattle.auction.proofs.PriceLaws.{price-at-most-bid, price-except}
 use Rattle.downward.specs.Downward.{downward}
-use Rattle.gain.specs.Gain.{slotOf, breaksOwn, gainIf, gainAt, gainOf}
+use Rattle.gain.specs.Gain.{slotOf, gainIf, gainAt, gainOf}
 use Rattle.gain.proofs.SlotLaws.{
-  breaks-own-at,
   gain-plus,
   minus-at-most-plus,
   zero-at-most-plus,

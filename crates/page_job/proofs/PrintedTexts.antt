@@ -19,8 +19,9 @@ use Rattle.sheet.specs.Refusal.{
 use Rattle.sheet.specs.Round.{kindOf, constraintField, roundOf, constraintAt, bidOf}
 use Rattle.choice.specs.Winner.{ranksNoLower, wins, winner}
 use Rattle.auction.specs.Page.{at, put, emptyPage, placed}
-use Rattle.auction.specs.Broken.{ownHolds, otherHolds, broken}
-use Rattle.auction.specs.Greedy.{concerns, eligible, winnerAt, fillSlot, pageUpTo, greedyPage}
+use Rattle.auction.specs.Broken.{ownHolds, otherHolds, broken, breaksOwn}
+use Rattle.auction.specs.Eligible.{breaksEarlier, firstFailed, eligible}
+use Rattle.auction.specs.Greedy.{winnerAt, fillSlot, pageUpTo, greedyPage}
 use Rattle.auction.specs.Price.{withBid, winsWith, priceFor, price}
 use Rattle.page_lines.specs.Decimal.{digitsWithin, decimal}
 use Rattle.page_lines.specs.Lines.{field, line, refusedLine}
@@ -28,5 +29,5 @@ use Rattle.page_job.specs.PageText.{slotLine, textFor, pageText}
 use Rattle.page_job.specs.Printed.{TextsPrinted}
 
 pub texts-printed : TextsPrinted
-unfolding word16At word32At firstOver row padded joined anyBelow allBelow least effectField bidField ownerField ownSlotField otherField otherSlotField formRefusal countsRefusal effectRefusal bidRefusal inRange fieldsRefusal constraintRefusal refusalOf kindOf constraintField roundOf ranksNoLower wins winner at put emptyPage placed ownHolds otherHolds broken constraintAt bidOf concerns eligible winnerAt fillSlot pageUpTo greedyPage withBid winsWith priceFor price digitsWithin decimal field line refusedLine slotLine textFor pageText
+unfolding word16At word32At firstOver row padded joined anyBelow allBelow least effectField bidField ownerField ownSlotField otherField otherSlotField formRefusal countsRefusal effectRefusal bidRefusal inRange fieldsRefusal constraintRefusal refusalOf kindOf constraintField roundOf ranksNoLower wins winner at put emptyPage placed ownHolds otherHolds broken constraintAt bidOf breaksOwn breaksEarlier firstFailed eligible winnerAt fillSlot pageUpTo greedyPage withBid winsWith priceFor price digitsWithin decimal field line refusedLine slotLine textFor pageText
 texts-printed = refl

@@ -58,6 +58,16 @@ unfoldable pub earlier-winner : List ℕ
 unfolding sheetOf
 earlier-winner = sheetOf (2 ∷ 1 ∷ []) (1 ∷ 1 ∷ []) (on 1 0 2 2 ∷ [])
 
+-- the same with (2,2,0,0): its own condition keeps 2 from place 2 as well
+unfoldable pub earlier-winner-and-own : List ℕ
+unfolding sheetOf
+earlier-winner-and-own = sheetOf (2 ∷ 1 ∷ []) (1 ∷ 1 ∷ []) (on 1 0 2 2 ∷ on 2 2 0 0 ∷ [])
+
+-- bids 2, 1; effects 1, 1; (1,2,0,0): 1 has place 1, and its own condition would keep it from place 2 too
+unfoldable pub placed-and-own : List ℕ
+unfolding sheetOf
+placed-and-own = sheetOf (2 ∷ 1 ∷ []) (1 ∷ 1 ∷ []) (on 1 2 0 0 ∷ [])
+
 -- bids 5, 3; effect 1: a worth of 2 is below the bid of 1
 unfoldable pub overbid : List ℕ
 unfolding sheetOf

@@ -1,5 +1,5 @@
 -- "Rounds worked by hand": what is asked of each round, and what document 01 says.
-use Prim.Native.Nat.{ℕ, _*_}
+use Prim.Native.Nat.{ℕ, _*_, _-_}
 use mathlib.Core.Bool.{Bool, true, false}
 use mathlib.Core.List.{List, [], _∷_}
 use lib.IntN.{ℤ, pos, negsuc}
@@ -8,6 +8,10 @@ use Rattle.basis.specs.First.{unlessRefused}
 use Rattle.sheet.specs.Sheet.{slotCount}
 use Rattle.sheet.specs.Refusal.{refusalOf}
 use Rattle.sheet.specs.Round.{roundOf}
+use Rattle.auction.specs.declared.Eligibility.{Eligibility}
+use Rattle.auction.specs.declared.Eligibility.the-variants.{Eligible, Placed, EarlierWinners, Own}
+use Rattle.auction.specs.Eligible.{firstFailed}
+use Rattle.auction.specs.Greedy.{pageUpTo}
 use Rattle.play.specs.Play.{playRefusal, playedBuffer}
 use Rattle.downward.specs.declared.Tested.{Tested}
 use Rattle.downward.specs.Call.{testedOf}
@@ -29,6 +33,8 @@ use Rattle.test_worked_rounds.specs.Sheets.{
   H,
   H-longer,
   earlier-winner,
+  earlier-winner-and-own,
+  placed-and-own,
   overbid,
   overbid-barred,
   nine-bidders,
@@ -172,4 +178,33 @@ rounds =
     ∷ calls nine-bidders nine-bidders 1 9 0 (plays (1 ∷ []) (8 ∷ [])) (tells true) (gains (pos 1)) (findsNot 18 1)
     ∷ calls F-eight-bytes F 2 6 1 (playsNot 1 1) (tellsNot 1) (gainsNot 1) (findsNot 1 1)
     ∷ calls two-faults F 1 3 12 (playsNot 12 2) (tellsNot 12) (gainsNot 12) (findsNot 12 2)
+    ∷ []
+
+-- a sheet, a place, a candidate for it, and what the eligibility step answers (document 02, S-3) with the places before it filled
+pub record Candidate : Type 0 where
+  pub sheet : List ℕ
+  pub slot : ℕ
+  pub bidder : ℕ
+  pub said : Eligibility
+
+-- the number of the first test that the candidate fails, by the right-hand side of the step's promise
+unfoldable pub givenByStep : Candidate → ℕ
+givenByStep c = firstFailed (roundOf (c .sheet)) (pageUpTo (roundOf (c .sheet)) (c .slot - 1)) (c .slot) (c .bidder)
+
+abbrev pub asked : List ℕ → ℕ → ℕ → Eligibility → Candidate
+asked sheet slot bidder said = record { sheet = sheet; slot = slot; bidder = bidder; said = said }
+
+-- Each of the four answers: no test fails (A, 2 at place 2), placed (A, 1 at place 2), an earlier winner's condition alone, the candidate's own
+-- (C: an own place; H: a pair). Then what the order decides: in D the earlier winner 2 bars 3 and 3 bars 2, whose place says "earlier winner", and
+-- so does a candidate that its own place alone would keep out; and who has a place is "placed", though its own condition would be broken too.
+unfoldable pub candidates : List Candidate
+candidates =
+    asked A 2 2 Eligible
+    ∷ asked A 2 1 Placed
+    ∷ asked earlier-winner 2 2 EarlierWinners
+    ∷ asked C 1 1 Own
+    ∷ asked H 2 3 Own
+    ∷ asked D 3 3 EarlierWinners
+    ∷ asked earlier-winner-and-own 2 2 EarlierWinners
+    ∷ asked placed-and-own 2 1 Placed
     ∷ []

@@ -16,8 +16,7 @@ use Rattle.sheet.specs.Round.{roundOf, constraintAt}
 use Rattle.sheet.specs.Proper.{Proper}
 use Rattle.sheet.proofs.AcceptedLaws.{accepted-sheet}
 use Rattle.sheet.proofs.RoundLaws.{round-constraint, round-proper}
-use Rattle.auction.specs.Broken.{broken}
-use Rattle.gain.specs.Gain.{breaksOwn}
+use Rattle.auction.specs.Broken.{broken, breaksOwn}
 use Rattle.gain.proofs.breaks_own.Statement.{statement}
 use Rattle.gain.proofs.breaks_own.Tie as tie
 

@@ -4,9 +4,8 @@ use mathlib.Core.Logic.{⊎-elim}
 use mathlib.Core.Path.{sym, subst}
 use native.Mathlib.Numerals.{add-one}
 use native.Mathlib.Omega.{arith}
-use Rattle.sheet.specs.Round.{roundOf}
 use Rattle.choice.specs.EngineRanking.{NextAt}
-use Rattle.greedy.specs.EngineEligible.{free}
+use Rattle.auction.specs.Eligible.{eligible}
 use borrow.Author.Needs.{needs}
 use Rattle.greedy.proofs.award_slot.Statement.{statement}
 use Rattle.greedy.proofs.award_slot.Tie as tie
@@ -41,17 +40,16 @@ placing-at-requires c κs =
     ((p .1 .0 .0, p .1 .0 .1, c .before .next-eligible .ensures .0, second-most), p .1 .1)
 
 returns : tie.Need-returns
-returns c =
-    let r = roundOf (c .before .before .before .before .before .before .before .before .before .before .args .sheet .now) in
+returns c = λ q p far.
     let a = c .before .before .before .before .before .before .before .before .before .before .args in
     let first = c .before .before .next-eligible .result in
-    let placed = c .placing-at .ensures (free r (a .barred .now) (a .held .now) (a .slot .0)) (c .before .before .next-eligible .ensures .1)
+    let placed = c .placing-at .ensures (eligible q p (a .slot .0)) (c .before .before .next-eligible .ensures .1 q p far)
     (λ below.
     ⊎-elim
     (λ w.
-    subst (λ (k : ℕ). NextAt (free r (a .barred .now) (a .held .now) (a .slot .0)) (a .ranked .now) (a .bidders) (suc first) k) (sym (w .2))
-    (subst (λ (s : ℕ). NextAt (free r (a .barred .now) (a .held .now) (a .slot .0)) (a .ranked .now) (a .bidders) s (w .1 .result)) (add-one first)
-    (w .1 .ensures .1)))
+    subst (λ (k : ℕ). NextAt (eligible q p (a .slot .0)) (a .ranked .now) (a .bidders) (suc first) k) (sym (w .2))
+    (subst (λ (s : ℕ). NextAt (eligible q p (a .slot .0)) (a .ranked .now) (a .bidders) s (w .1 .result)) (add-one first)
+    (w .1 .ensures .1 q p far)))
     (λ w. let off = w .0 .left in absurd (omega arith))
     (c .before .if1 .came)) in
     record { won-by = placed .0; paid-as = placed .1 }

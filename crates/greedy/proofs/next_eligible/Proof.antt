@@ -7,20 +7,22 @@ use mathlib.Core.Path.{_≡_, sym, _∙_, ap}
 use native.Mathlib.Nat.{eq-or-lt-of-le}
 use native.Mathlib.Omega.{arith}
 use lib.ListN.{getD}
+use lib.Dec.{eqb}
+use Rattle.sheet.specs.declared.Page.{Page}
 use Rattle.sheet.specs.declared.Round.{Round}
-use Rattle.sheet.specs.Round.{roundOf}
-use Rattle.greedy.specs.EngineEligible.{free}
+use Rattle.auction.specs.Eligible.{eligible}
+use Rattle.greedy.specs.EngineEligible.{SoFar}
 use Rattle.greedy.proofs.next_eligible.Statement.{statement}
 use Rattle.greedy.proofs.next_eligible.Tie as tie
 
--- none of the bidders from `start` to before i is free
-record Going (r : Round) (ranked barred held : List ℕ) (bidders slot start i : ℕ) : Type 0 where
+-- none of the bidders from `start` to before i is eligible
+record Going (s ranked barred held : List ℕ) (bidders slot start i : ℕ) : Type 0 where
   low : start ≤ i
   high : i ≤ bidders
-  passed : (j : ℕ) → start ≤ j → j < i → free r barred held slot (getD ranked j 0) ≡ false
+  passed : (q : Round) (p : Page) → SoFar q p s barred held slot → (j : ℕ) → start ≤ j → j < i → eligible q p slot (getD ranked j 0) ≡ false
 
 abbrev Inv-loop : tie.InvT-loop
-Inv-loop ranked barred held last links sheet start bidders slot from i₀ i = Going (roundOf sheet) ranked barred held bidders (slot .0) from i
+Inv-loop ranked barred held last links sheet start bidders slot from i₀ i = Going sheet ranked barred held bidders (slot .0) from i
 
 abbrev μ-loop : tie.MeasureT-loop
 μ-loop ranked barred held last links sheet start bidders slot from i₀ i = bidders - i
@@ -31,7 +33,7 @@ loop-holds c =
     record {
       low = omega arith;
       high = omega arith;
-      passed = λ j from below. absurd (omega arith);
+      passed = λ q p far j from below. absurd (omega arith);
     }
 
 ranked-at-requires : tie.Need-ranked-at-requires Inv-loop μ-loop
@@ -40,59 +42,66 @@ ranked-at-requires c κs =
     let below = c .loop-test .taken in
     omega arith
 
-is-eligible-requires : tie.Need-is-eligible-requires Inv-loop μ-loop
-is-eligible-requires c κs =
+eligibility-requires : tie.Need-eligibility-requires Inv-loop μ-loop
+eligibility-requires c κs =
     let p = c .before .before .before .before .before .before .before .before .before .pre in
     let named = p .1 .1 (c .before .before .loop .i) (c .before .loop-test .taken) in
     let b = c .ranked-at .ensures in
     let few = p .1 .0 .1 in
     (p .0, ((omega arith, omega arith), p .1 .0 .3))
 
--- what is_eligible said of the bidder at this rank
-said : (c : tie.After-is-eligible Inv-loop μ-loop) →
-    free (roundOf (c .before .before .before .before .before .before .before .before .before .before .args .sheet .now)) (c .before .before .before .before .before .before .before .before .before .before .args .barred .now) (c .before .before .before .before .before .before .before .before .before .before .args .held .now) (c .before .before .before .before .before .before .before .before .before .before .args .slot .0) (getD (c .before .before .before .before .before .before .before .before .before .before .args .ranked .now) (c .before .before .before .loop .i) 0) ≡ c .is-eligible .result
-said c =
+-- what the step said of the bidder at this rank
+said : (c : tie.After-fails-none Inv-loop μ-loop) → (q : Round) (p : Page) →
+    SoFar q p (c .before .before .before .before .before .before .before .before .before .before .before .args .sheet .now) (c .before .before .before .before .before .before .before .before .before .before .before .args .barred .now) (c .before .before .before .before .before .before .before .before .before .before .before .args .held .now) (c .before .before .before .before .before .before .before .before .before .before .before .args .slot .0) →
+    eligible q p (c .before .before .before .before .before .before .before .before .before .before .before .args .slot .0) (getD (c .before .before .before .before .before .before .before .before .before .before .before .args .ranked .now) (c .before .before .before .before .loop .i) 0) ≡ c .fails-none .result
+unfolding eligible
+said c q p far =
     sym
-    (c .is-eligible .ensures ∙ ap (free (roundOf (c .before .before .before .before .before .before .before .before .before .before .args .sheet .now)) (c .before .before .before .before .before .before .before .before .before .before .args .barred .now) (c .before .before .before .before .before .before .before .before .before .before .args .held .now) (c .before .before .before .before .before .before .before .before .before .before .args .slot .0)) (c .before .ranked-at .ensures))
+    (c .fails-none .ensures
+    ∙ ap (λ (x : ℕ). eqb x 0) (c .before .eligibility .ensures q p far)
+    ∙ ap (eligible q p (c .before .before .before .before .before .before .before .before .before .before .before .args .slot .0)) (c .before .before .ranked-at .ensures))
+
+fails-none-requires : tie.Need-fails-none-requires Inv-loop μ-loop
+fails-none-requires c κs = tt
 
 returns : tie.Need-returns Inv-loop μ-loop
 returns c =
-    let v = c .before .before .before .before .loop .inv in (
+    let v = c .before .before .before .before .before .loop .inv in (
       v .high,
-      record {
-        low = v .low;
-        high = v .high;
-        passed = v .passed;
-        here = λ below. said (c .before) ∙ c .if1 .taken;
-      },
+      λ q p far.
+          record {
+            low = v .low;
+            high = v .high;
+            passed = v .passed q p far;
+            here = λ below. said (c .before) q p far ∙ c .if1 .taken;
+          },
     )
 
 add-i : tie.Need-add-i Inv-loop μ-loop
 add-i c =
-    let p = c .before .before .before .before .before .before .before .before .before .before .before .pre .1 .0 in
-    let below = c .before .before .before .loop-test .taken in
+    let p = c .before .before .before .before .before .before .before .before .before .before .before .before .pre .1 .0 in
+    let below = c .before .before .before .before .loop-test .taken in
     omega arith
 
 loop-less : tie.Need-loop-less Inv-loop μ-loop
 loop-less c =
-    let below = c .before .before .before .loop-test .taken in
+    let below = c .before .before .before .before .loop-test .taken in
     omega arith
 
 loop-again : tie.Need-loop-again Inv-loop μ-loop
 loop-again c =
-    let a = c .before .before .before .before .before .before .before .before .before .before .before .args in
-    let v = c .before .before .before .before .loop .inv in
+    let a = c .before .before .before .before .before .before .before .before .before .before .before .before .args in
+    let v = c .before .before .before .before .before .loop .inv in
     let low = v .low in
-    let below = c .before .before .before .loop-test .taken in
-    let i = c .before .before .before .before .loop .i in
+    let below = c .before .before .before .before .loop-test .taken in
+    let i = c .before .before .before .before .before .loop .i in
     record {
       low = omega arith;
       high = omega arith;
-      passed = λ j from under.
+      passed = λ q p far j from under.
           ⊎-elim
-          (λ (e : j ≡ i).
-          ap (λ (z : ℕ). free (roundOf (a .sheet .now)) (a .barred .now) (a .held .now) (a .slot .0) (getD (a .ranked .now) z 0)) e ∙ said (c .before) ∙ c .if1 .left)
-          (λ (lt : j < i). v .passed j from lt)
+          (λ (e : j ≡ i). ap (λ (z : ℕ). eligible q p (a .slot .0) (getD (a .ranked .now) z 0)) e ∙ said (c .before) q p far ∙ c .if1 .left)
+          (λ (lt : j < i). v .passed q p far j from lt)
           (eq-or-lt-of-le (let s : j ≤ i = omega arith in s));
     }
 
@@ -101,12 +110,13 @@ returns-2 c =
     let v = c .before .loop .inv in
     let done = c .loop-test .left in (
       v .high,
-      record {
-        low = v .low;
-        high = v .high;
-        passed = v .passed;
-        here = λ below. absurd (omega arith);
-      },
+      λ q p far.
+          record {
+            low = v .low;
+            high = v .high;
+            passed = v .passed q p far;
+            here = λ below. absurd (omega arith);
+          },
     )
 
 pub next-eligible-spec : {M : Type 1} → statement M
@@ -117,7 +127,8 @@ next-eligible-spec =
     μ-loop
     loop-holds
     ranked-at-requires
-    is-eligible-requires
+    eligibility-requires
+    fails-none-requires
     returns
     add-i
     loop-less

@@ -1,6 +1,6 @@
 -- `greedy_links::named_by` meets its contract: each turn asks for the owner of one link, and goes to the one before it in the chain. Assumes nothing.
 use Prim.Native.Nat.{ℕ, _-_, _<_, _≤_}
-use mathlib.Core.Bool.{Bool, _||_}
+use mathlib.Core.Bool.{Bool, _||_, or-false}
 use mathlib.Core.List.{List}
 use mathlib.Core.Path.{_≡_, sym, _∙_, ap, ap₂}
 use native.Mathlib.Omega.{arith}
@@ -154,28 +154,15 @@ loop-again c =
 returns-2 : tie.Need-returns-2 Inv-loop μ-loop
 unfolding namedFor
 returns-2 c =
-    let r = roundOf (c .before .before .before .before .before .before .before .before .before .args .sheet .now) in
-    let v = c .before .before .loop .inv in
-    let x = c .before .before .before .before .chain-index .result in
-    let done = c .before .loop-test .left in
+    let r = roundOf (c .before .before .before .before .before .before .before .before .args .sheet .now) in
+    let v = c .before .loop .inv in
+    let x = c .before .before .before .chain-index .result in
+    let done = c .loop-test .left in
     sym
-    (ap (λ (y : ℕ). namedFor (someOwner r y (isMarked (c .before .before .before .before .before .before .before .before .before .args .held .now)) (r .used)) (someOwner r y (λ z. eqb z 0) (r .used))) (sym (c .before .before .before .before .chain-index .ensures))
+    (ap (λ (y : ℕ). namedFor (someOwner r y (isMarked (c .before .before .before .before .before .before .before .before .args .held .now)) (r .used)) (someOwner r y (λ z. eqb z 0) (r .used))) (sym (c .before .before .before .chain-index .ensures))
     ∙ ap₂ namedFor
-    (v .left ∙ none-left r x (c .before .before .loop .next) (isMarked (c .before .before .before .before .before .before .before .before .before .args .held .now)) done)
-    (v .itself ∙ ap (λ (t : Bool). t || someOwner r x (λ y. eqb y 0) (c .before .before .loop .next)) (c .if2 .taken)))
-
-returns-3 : tie.Need-returns-3 Inv-loop μ-loop
-unfolding namedFor
-returns-3 c =
-    let r = roundOf (c .before .before .before .before .before .before .before .before .before .args .sheet .now) in
-    let v = c .before .before .loop .inv in
-    let x = c .before .before .before .before .chain-index .result in
-    let done = c .before .loop-test .left in
-    sym
-    (ap (λ (y : ℕ). namedFor (someOwner r y (isMarked (c .before .before .before .before .before .before .before .before .before .args .held .now)) (r .used)) (someOwner r y (λ z. eqb z 0) (r .used))) (sym (c .before .before .before .before .chain-index .ensures))
-    ∙ ap₂ namedFor
-    (v .left ∙ none-left r x (c .before .before .loop .next) (isMarked (c .before .before .before .before .before .before .before .before .before .args .held .now)) done)
-    (v .itself ∙ ap₂ _||_ (c .if2 .left) (none-left r x (c .before .before .loop .next) (λ y. eqb y 0) done)))
+    (v .left ∙ none-left r x (c .before .loop .next) (isMarked (c .before .before .before .before .before .before .before .before .args .held .now)) done)
+    (v .itself ∙ ap (λ (t : Bool). c .before .loop .own || t) (none-left r x (c .before .loop .next) (λ y. eqb y 0) done) ∙ or-false (c .before .loop .own)))
 
 pub named-by-spec : {M : Type 1} → statement M
 named-by-spec =
@@ -199,5 +186,4 @@ named-by-spec =
     cast-next-2
     loop-less
     loop-again
-    returns-2
-    returns-3)
+    returns-2)
