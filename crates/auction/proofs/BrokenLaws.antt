@@ -6,6 +6,7 @@ use mathlib.Core.Logic.{_⊎_, ⊎-elim}
 use mathlib.Core.Path.{_≡_, refl, sym, _∙_, ap, ap₂}
 use lib.Dec.{eqb}
 use Rattle.basis.specs.First.{_when_otherwise_}
+use Rattle.basis.specs.Tests.{anyBelow}
 use Rattle.basis.proofs.TestLaws.{same-tests, not-both, fails, and-holds, and-parts, or-left, or-right, not-holds, any-at, any-where}
 use Rattle.sheet.specs.declared.Bidder.{Bidder}
 use Rattle.sheet.specs.declared.Slot.{Slot}
@@ -96,31 +97,35 @@ breaks-none r p e q h = fails (broken p q) (λ t. not-both (breaks-at r p q h t)
 pub none-breaks : (r : Round) (p : Page) → ((q : Constraint) → Has r q → broken p q ≡ false) → breaks r p ≡ false
 none-breaks r p f = fails (breaks r p) (λ e. let w = breaks-where r p e in not-both (w .2) (f (w .0) (w .1)))
 
--- a broken constraint of the bidder's own
+-- some constraint is broken whose owner passes a test: the bidder itself, or an earlier winner
+module _ (whose : ℕ → Bool) (r : Round) (p : Page) where
+  owned-at : (q : Constraint) → Has r q → whose (q .owner .0) ≡ true → broken p q ≡ true →
+      anyBelow (λ a. whose (constraintAt r a .owner .0) && broken p (constraintAt r a)) (r .used) ≡ true
+  owned-at q h o e =
+      any-at (λ a. whose (constraintAt r a .owner .0) && broken p (constraintAt r a)) (r .used) (h .0) (h .1)
+      (and-holds (ap (λ (x : Constraint). whose (x .owner .0)) (h .2) ∙ o) (ap (broken p) (h .2) ∙ e))
+
+  owned-where : anyBelow (λ a. whose (constraintAt r a .owner .0) && broken p (constraintAt r a)) (r .used) ≡ true →
+      (q : Constraint) × Has r q × (broken p q ≡ true)
+  owned-where e =
+      let w = any-where (λ a. whose (constraintAt r a .owner .0) && broken p (constraintAt r a)) (r .used) e in
+      (constraintAt r (w .0), (w .0, w .1, refl), and-parts (whose (constraintAt r (w .0) .owner .0)) (broken p (constraintAt r (w .0))) (w .2) .1)
+
 pub breaks-own-at : (r : Round) (p : Page) (i : ℕ) (q : Constraint) → Has r q → q .owner .0 ≡ i → broken p q ≡ true → breaksOwn r p i ≡ true
 unfolding breaksOwn
-breaks-own-at r p i q h o e =
-    any-at (λ a. eqb (constraintAt r a .owner .0) i && broken p (constraintAt r a)) (r .used) (h .0) (h .1)
-    (and-holds (eq-eqb (constraintAt r (h .0) .owner .0) i (ap (λ (x : Constraint). x .owner .0) (h .2) ∙ o)) (ap (broken p) (h .2) ∙ e))
+breaks-own-at r p i q h o e = owned-at (λ b. eqb b i) r p q h (eq-eqb (q .owner .0) i o) e
 
 pub breaks-own-where : (r : Round) (p : Page) (i : ℕ) → breaksOwn r p i ≡ true → (q : Constraint) × Has r q × (broken p q ≡ true)
 unfolding breaksOwn
-breaks-own-where r p i e =
-    let w = any-where (λ a. eqb (constraintAt r a .owner .0) i && broken p (constraintAt r a)) (r .used) e in
-    (constraintAt r (w .0), (w .0, w .1, refl), and-parts (eqb (constraintAt r (w .0) .owner .0) i) (broken p (constraintAt r (w .0))) (w .2) .1)
+breaks-own-where r p i = owned-where (λ b. eqb b i) r p
 
--- a broken constraint of an earlier winner
 pub breaks-earlier-at : (r : Round) (p p′ : Page) (q : Constraint) → Has r q → placed p (q .owner .0) ≡ true → broken p′ q ≡ true → breaksEarlier r p p′ ≡ true
 unfolding breaksEarlier
-breaks-earlier-at r p p′ q h o e =
-    any-at (λ i. placed p (constraintAt r i .owner .0) && broken p′ (constraintAt r i)) (r .used) (h .0) (h .1)
-    (and-holds (ap (λ (x : Constraint). placed p (x .owner .0)) (h .2) ∙ o) (ap (broken p′) (h .2) ∙ e))
+breaks-earlier-at r p p′ = owned-at (placed p) r p′
 
 pub breaks-earlier-where : (r : Round) (p p′ : Page) → breaksEarlier r p p′ ≡ true → (q : Constraint) × Has r q × (broken p′ q ≡ true)
 unfolding breaksEarlier
-breaks-earlier-where r p p′ e =
-    let w = any-where (λ i. placed p (constraintAt r i .owner .0) && broken p′ (constraintAt r i)) (r .used) e in
-    (constraintAt r (w .0), (w .0, w .1, refl), and-parts (placed p (constraintAt r (w .0) .owner .0)) (broken p′ (constraintAt r (w .0))) (w .2) .1)
+breaks-earlier-where r p p′ = owned-where (placed p) r p′
 
 -- none of three tests fails
 none-of-three : (x y z : Bool) → eqb (1 when x otherwise 2 when y otherwise 3 when z otherwise 0) 0 ≡ (not x && not (z || y))

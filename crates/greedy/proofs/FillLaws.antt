@@ -22,7 +22,7 @@ use Rattle.auction.specs.Page.{at, put, emptyPage}
 use Rattle.auction.specs.Eligible.{eligible}
 use Rattle.auction.specs.Greedy.{winnerAt, pageUpTo}
 use Rattle.auction.specs.Price.{price}
-use Rattle.auction.proofs.PageLaws.{at-put-same, put-nobody}
+use Rattle.auction.proofs.PageLaws.{put-nobody}
 use Rattle.auction.proofs.GreedyLaws.{bid-in, upTo-next, upTo-sized, upTo-later, upTo-unbroken, slot-winner, winner-bidder, empty-nobody}
 use Rattle.auction.proofs.PriceLaws.{price-critical, empty-costs-nothing}
 use Rattle.greedy_links.specs.EngineKeys.{key, isMarked}
@@ -45,12 +45,6 @@ filled-start r c =
       page-is = refl;
       prices-are = sym (padded-none (λ i. price r (suc i)) 16 0);
     }
-
--- who is put at a slot stands there
-pub seated : (r : Round) (k : ℕ) (barred held : List ℕ) (page : Page) (prices : List ℕ) → Filled r k barred held page prices →
-    (s w : ℕ) → 0 < s → s ≤ 16 → at (put page s w) s ≡ w
-seated r k barred held page prices f s w some most =
-    at-put-same page s w (ap (λ (q : Page). length (q .bidders)) (f .page-is) ∙ upTo-sized r k) some most
 
 module _ (r : Round) (c : ProperRound r) (k : ℕ) (inside : k < r .slots) (barred held : List ℕ) (page : Page) (prices : List ℕ)
     (f : Filled r k barred held page prices) (w paid : ℕ)
@@ -163,16 +157,17 @@ module _ (r : Round) (s : List ℕ) (start : ℕ) (last links bids : List ℕ) (
         (a r (pageUpTo r k) (so-far k most f)))
 
     -- and so the marks
-    settled-of : (v k : ℕ) (barred′ held′ : List ℕ) → v ≡ w → Settled (roundOf s) v k barred held barred′ held′ → Settled r w k barred held barred′ held′
-    settled-of v k barred′ held′ e h =
-        subst (λ (x : ℕ). Settled r x k barred held barred′ held′) e
-        (record {
+    settled-of : (k : ℕ) (barred′ held′ : List ℕ) → Settled (roundOf s) w k barred held barred′ held′ → Settled r w k barred held barred′ held′
+    settled-of k barred′ held′ h =
+        record {
           nobody = h .nobody;
           somebody = λ some. (
             h .somebody some .0,
-            λ y. h .somebody some .1 y ∙ ap (λ (t : Bool). isMarked barred y || t) (some-same r s (lent .constraints-are) (lent .used-are) (key v k) (λ z. eqb z y)),
+            λ y.
+                h .somebody some .1 y
+                ∙ ap (λ (t : Bool). isMarked barred y || t) (some-same r s (lent .constraints-are) (lent .used-are) (key w k) (λ z. eqb z y)),
           );
-        })
+        }
 
     pub slot-won : (k : ℕ) → 0 < k → k ≤ slots → Filled r (k - 1) barred held page prices → Award k → w ≤ 64
     slot-won zero some most f a = absurd (omega arith)
@@ -180,11 +175,11 @@ module _ (r : Round) (s : List ℕ) (start : ℕ) (last links bids : List ℕ) (
         let e : suc k - 1 ≡ k = omega arith in
         won-most r (lent .proper) k (inside-at k most) barred held page prices (rw e at f) w paid (awarded-of k most (rw e at f) a)
 
-    pub slot-filled : (k : ℕ) → 0 < k → k ≤ slots → Filled r (k - 1) barred held page prices → Award k → (v : ℕ) (barred′ held′ : List ℕ) → v ≡ w →
-        Settled (roundOf s) v k barred held barred′ held′ → Filled r k barred′ held′ (put page k w) (set prices (k - 1) paid)
-    slot-filled zero some most f a v barred′ held′ stands settled = absurd (omega arith)
-    slot-filled (suc k) some most f a v barred′ held′ stands settled =
+    pub slot-filled : (k : ℕ) → 0 < k → k ≤ slots → Filled r (k - 1) barred held page prices → Award k → (barred′ held′ : List ℕ) →
+        Settled (roundOf s) w k barred held barred′ held′ → Filled r k barred′ held′ (put page k w) (set prices (k - 1) paid)
+    slot-filled zero some most f a barred′ held′ settled = absurd (omega arith)
+    slot-filled (suc k) some most f a barred′ held′ settled =
         let e : suc k - 1 ≡ k = omega arith in
         rw e
         (filled-next r (lent .proper) k (inside-at k most) barred held page prices (rw e at f) w paid (awarded-of k most (rw e at f) a) barred′ held′
-        (settled-of v (suc k) barred′ held′ stands settled))
+        (settled-of (suc k) barred′ held′ settled))

@@ -242,7 +242,6 @@ pub fn fill(
         page = auction::with_bidder(page, slot, winner);
         let index = price_index(slot);
         prices[index] = awarded.critical;
-        let standing = auction::bidder_at(page, slot);
         settle(
             &mut barred,
             &mut held,
@@ -250,7 +249,7 @@ pub fn fill(
             links,
             sheet,
             start,
-            standing,
+            winner,
             slot,
         );
         slot = next_slot(slot);

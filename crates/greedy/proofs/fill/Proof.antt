@@ -8,12 +8,11 @@ use lib.ListN.{length}
 use Rattle.basis.specs.Rows.{padded}
 use Rattle.sheet.specs.declared.Page.{Page}
 use Rattle.sheet.specs.declared.Round.{Round}
-use Rattle.auction.specs.Page.{at}
 use Rattle.auction.specs.Greedy.{pageUpTo, greedyPage}
 use Rattle.auction.specs.Price.{price}
 use Rattle.greedy.specs.EngineOutcome.{outcomeOf}
 use Rattle.greedy.specs.EngineEligible.{Lent}
-use Rattle.greedy.proofs.FillLaws.{Filled, filled-start, seated, lent-few, lent-low, slot-won, slot-filled}
+use Rattle.greedy.proofs.FillLaws.{Filled, filled-start, lent-few, lent-low, slot-won, slot-filled}
 use Rattle.greedy.proofs.fill.Statement.{statement}
 use Rattle.greedy.proofs.fill.Tie as tie
 
@@ -99,57 +98,39 @@ array-write-prices c =
     let e = c .price-index .ensures in
     omega arith
 
-bidder-at-requires : tie.Need-bidder-at-requires Inv-loop μ-loop
-bidder-at-requires c κs =
-    let few = lent-few _ _ _ _ _ _ _ _ (c .before .before .before .before .before .before .before .before .before .before .before .before .before .before .before .before .pre .1) in
-    let below = c .before .before .before .before .before .before .before .if1 .taken in
-    (c .before .before .before .before .before .before .before .before .before .loop .inv .first, omega arith)
-
--- who stands at the slot is its winner
-winner-stands : (c : tie.After-bidder-at Inv-loop μ-loop) → c .bidder-at .result .0 ≡ c .before .before .before .before .award-slot .result .winner .0
-winner-stands c =
-    let p = c .before .before .before .before .before .before .before .before .before .before .before .before .before .before .before .before .before .pre in
-    let v = c .before .before .before .before .before .before .before .before .before .before .loop .inv in
-    let few = lent-few _ _ _ _ _ _ _ _ (p .1) in
-    let below = c .before .before .before .before .before .before .before .before .if1 .taken in
-    c .bidder-at .ensures
-    ∙ ap (λ (q : Page). at q (c .before .before .before .before .before .before .before .before .before .before .loop .slot .0)) (c .before .before .with-bidder .ensures)
-    ∙ seated (p .0) _ _ _ _ _ (v .filled (p .0) (p .1)) (c .before .before .before .before .before .before .before .before .before .before .loop .slot .0) (c .before .before .before .before .award-slot .result .winner .0) (v .first) (omega arith)
-
 slice-aggregate-settle : tie.Need-slice-aggregate-settle Inv-loop μ-loop
-slice-aggregate-settle c = sym (c .before .before .before .before .before .before .before .before .before .before .before .loop .inv .size-barred)
+slice-aggregate-settle c = sym (c .before .before .before .before .before .before .before .before .before .before .loop .inv .size-barred)
 
 slice-aggregate-settle-2 : tie.Need-slice-aggregate-settle-2 Inv-loop μ-loop
-slice-aggregate-settle-2 c = sym (c .before .before .before .before .before .before .before .before .before .before .before .before .loop .inv .size-held)
+slice-aggregate-settle-2 c = sym (c .before .before .before .before .before .before .before .before .before .before .before .loop .inv .size-held)
 
 settle-requires : tie.Need-settle-requires Inv-loop μ-loop
 settle-requires c κs =
-    let p = c .before .before .before .before .before .before .before .before .before .before .before .before .before .before .before .before .before .before .before .pre in
-    let v = c .before .before .before .before .before .before .before .before .before .before .before .before .loop .inv in
+    let p = c .before .before .before .before .before .before .before .before .before .before .before .before .before .before .before .before .before .before .pre in
+    let v = c .before .before .before .before .before .before .before .before .before .before .before .loop .inv in
     let few = lent-few _ _ _ _ _ _ _ _ (p .1) in
-    let below = c .before .before .before .before .before .before .before .before .before .before .if1 .taken in
-    let won = slot-won (p .0) _ _ _ _ _ _ _ (p .1) _ _ _ _ _ _ (c .before .before .before .before .before .before .before .before .before .before .before .before .loop .slot .0) (v .first) below (v .filled (p .0) (p .1)) (c .before .before .before .before .before .before .award-slot .ensures) in
-    let stands = winner-stands (c .before .before) in
-    ((v .size-barred, v .size-held, p .1 .kept), (omega arith, omega arith))
+    let below = c .before .before .before .before .before .before .before .before .before .if1 .taken in
+    let won = slot-won (p .0) _ _ _ _ _ _ _ (p .1) _ _ _ _ _ _ (c .before .before .before .before .before .before .before .before .before .before .before .loop .slot .0) (v .first) below (v .filled (p .0) (p .1)) (c .before .before .before .before .before .award-slot .ensures) in
+    ((v .size-barred, v .size-held, p .1 .kept), (won, omega arith))
 
 next-slot-requires : tie.Need-next-slot-requires Inv-loop μ-loop
 next-slot-requires c κs =
-    let few = lent-few _ _ _ _ _ _ _ _ (c .before .before .before .before .before .before .before .before .before .before .before .before .before .before .before .before .before .before .before .before .before .before .pre .1) in
-    let below = c .before .before .before .before .before .before .before .before .before .before .before .before .before .if1 .taken in
+    let few = lent-few _ _ _ _ _ _ _ _ (c .before .before .before .before .before .before .before .before .before .before .before .before .before .before .before .before .before .before .before .before .before .pre .1) in
+    let below = c .before .before .before .before .before .before .before .before .before .before .before .before .if1 .taken in
     omega arith
 
 loop-less : tie.Need-loop-less Inv-loop μ-loop
 loop-less c =
     let e = c .next-slot .ensures in
-    let below = c .before .before .before .before .before .before .before .before .before .before .before .before .before .before .if1 .taken in
+    let below = c .before .before .before .before .before .before .before .before .before .before .before .before .before .if1 .taken in
     omega arith
 
 loop-again : tie.Need-loop-again Inv-loop μ-loop
 loop-again c =
-    let v = c .before .before .before .before .before .before .before .before .before .before .before .before .before .before .before .before .loop .inv in
-    let s = c .before .before .before .before .before .before .before .before .before .before .before .before .before .before .before .before .loop .slot .0 in
+    let v = c .before .before .before .before .before .before .before .before .before .before .before .before .before .before .before .loop .inv in
+    let s = c .before .before .before .before .before .before .before .before .before .before .before .before .before .before .before .loop .slot .0 in
     let e = c .next-slot .ensures in
-    let below = c .before .before .before .before .before .before .before .before .before .before .before .before .before .before .if1 .taken in
+    let below = c .before .before .before .before .before .before .before .before .before .before .before .before .before .if1 .taken in
     let next : c .next-slot .result .0 - 1 ≡ s = omega arith in
     record {
       first = omega arith;
@@ -157,9 +138,9 @@ loop-again c =
       size-barred = c .before .before .before .settle .kept .0 ∙ v .size-barred;
       size-held = c .before .before .before .settle .kept .1 .0 ∙ v .size-held;
       filled = λ r lent.
-          rw (c .before .before .before .before .before .before .before .before .with-bidder .ensures, c .before .before .before .before .before .before .before .price-index .ensures, next)
-          (slot-filled r _ _ _ _ _ _ _ lent _ _ _ _ _ _ s (v .first) below (v .filled r lent) (c .before .before .before .before .before .before .before .before .before .before .award-slot .ensures) _ _ _
-          (winner-stands (c .before .before .before .before .before .before)) (c .before .before .before .settle .ensures));
+          rw (c .before .before .before .before .before .before .before .with-bidder .ensures, c .before .before .before .before .before .before .price-index .ensures, next)
+          (slot-filled r _ _ _ _ _ _ _ lent _ _ _ _ _ _ s (v .first) below (v .filled r lent) (c .before .before .before .before .before .before .before .before .before .award-slot .ensures) _ _
+          (c .before .before .before .settle .ensures));
     }
 
 returns : tie.Need-returns Inv-loop μ-loop
@@ -194,7 +175,6 @@ fill-spec =
     price-index-requires
     mul-prices
     array-write-prices
-    bidder-at-requires
     slice-aggregate-settle
     slice-aggregate-settle-2
     settle-requires
