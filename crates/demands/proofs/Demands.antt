@@ -1,4 +1,4 @@
--- The three demands, and what the requests of document 02 add. Assumes nothing.
+-- The three demands, and what the requests of document 02 that have landed add. Assumes nothing.
 use Prim.Native.Nat.{ℕ, suc, _≤_}
 use mathlib.Core.List.{List, _++_}
 use mathlib.Core.Path.{_≡_, sym, _∙_, ap}

@@ -1,5 +1,5 @@
--- The three demands, over the contracts of the five calls that programs link (pas/src/lib.rt), and then what the requests of document 02 add. Each
--- call promises one record or equation, for every input; here is what follows for a reader, and the proofs are in proofs/Demands.antt. Lists of
+-- The three demands, over the contracts of the five calls that programs link (pas/src/lib.rt), and then what the requests of document 02 that have
+-- landed add. Each call promises one record or equation, for every input; here is what follows for a reader, and the proofs are in proofs/Demands.antt. Lists of
 -- numbers are bytes; s is a sheet, out and out′ are a result buffer before and after a call, `number` is what a call returns.
 use Prim.Native.Nat.{ℕ, suc, _*_, _<_, _≤_}
 use mathlib.Core.Bool.{true, false, not, _&&_, _||_}
@@ -123,8 +123,8 @@ pub record AnsweredInOrder (r : Round) (p : Page) (k b : ℕ) (answer : Eligibil
   pub none-fails : Exactly (answer ≡ Eligible) (eligible r p k b ≡ true)
 
 pub record RequestThree : Type 0 where
-  -- the step (`eligibility`, greedy/src/lib.rt) promises the equation, for each round and page that the engine is filling; page and prices come
-  -- from its answers alone
+  -- the step (`eligibility`, greedy/src/lib.rt) promises the equation, for each round and page that the engine is filling; page and prices take who
+  -- is eligible from its answers, and from nowhere else
   pub step : (r : Round) (p : Page) (k b : ℕ) (answer : Eligibility) → failedTest answer ≡ firstFailed r p k b → AnsweredInOrder r p k b answer
   -- "An unplaced bidder is eligible for place k if, with the places already filled and it at k, neither its own conditions nor those of an earlier
   -- winner are broken."

@@ -1,2 +1,2 @@
-// The three demands on the engine, as three theorems about the calls that programs link, and what the requests of document 02 add
+// The three demands on the engine, as three theorems about the calls that programs link, and what the requests of document 02 that have landed add
 // (specs/Demands.antt, proofs/Demands.antt).

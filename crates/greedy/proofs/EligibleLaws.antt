@@ -1,7 +1,7 @@
 -- What the marks know of a page, and that they say which test a candidate fails first. With a candidate on an unbroken page, a constraint is
--- broken exactly when one of its keys was true and the other is the candidate's. Its chain is the candidate's and the owner's key was true: then
--- its owner has a slot, and it is an earlier winner's; or the owner's key is always so, or one of the candidate's while the chain's was true: then
--- it is the candidate's own. Assumes nothing.
+-- broken exactly when one of its keys was true and the other is the candidate's. Its chain is the candidate's and its owner stands where it says: then
+-- it is an earlier winner's. Or its chain is the candidate's and the owner's key is always so, or the owner's key is one of the candidate's and the
+-- chain's was true: then it is the candidate's own. Assumes nothing.
 use Prim.Native.Nat.{ℕ, _<_, _≤_}
 use borrow.Author.Tests.{eq-eqb, ne-eqb, eqb-true}
 use mathlib.Core.Bool.{Bool, true, false, not, _&&_, _||_, and-comm, or-false, or-comm, false≢true, and-or-distrib-left, and-or-distrib-right}
@@ -189,7 +189,8 @@ module _ (r : Round) (c : ProperRound r) where
     abbrev by-earlier : ℕ → Bool
     by-earlier i = eqb (linkKey r i) (key b l) && isMarked held (linkOwner r i)
 
-    -- as the candidate's own: its chain is the candidate's and it is always so, or its owner is and its other stands where it says
+    -- as the candidate's own: its chain is the candidate's and the owner's key is always so, or the owner's key is one of the candidate's and the
+    -- chain's was true
     abbrev by-itself : ℕ → Bool
     by-itself i = (eqb (linkKey r i) (key b l) && eqb (linkOwner r i) 0) || (madeSo b l (linkOwner r i) && chainSo p (constraintAt r i))
 
@@ -322,7 +323,7 @@ module _ (r : Round) (p : Page) (s barred held : List ℕ) (l b : ℕ) (h : SoFa
       (ap (λ (t : Bool). 1 when t otherwise 2 when breaksEarlier r p (put p l b) otherwise 3 when breaksOwn r (put p l b) b otherwise 0)
       (sym held-placed ∙ e))
 
-  -- where the chain names an earlier winner, nothing is asked of the rest
+  -- where an earlier winner's constraint names the candidate, the rest does not count
   own-unasked : (earlier own rest : Bool) →
       (2 when earlier otherwise 3 when (not earlier && own) || rest otherwise 0) ≡ (2 when earlier otherwise 3 when own || rest otherwise 0)
   own-unasked true own rest = refl
@@ -330,7 +331,7 @@ module _ (r : Round) (p : Page) (s barred held : List ℕ) (l b : ℕ) (h : SoFa
 
   pub first-unplaced : isMarked held b ≡ false → (named : Named) →
       named ≡ namedFor (someOwner (roundOf s) (key b l) (isMarked held) (roundOf s .used)) (someOwner (roundOf s) (key b l) (λ y. eqb y 0) (roundOf s .used)) →
-      (2 when named .earlier otherwise 3 when named .own || (isMarked barred b || isMarked barred (key b l)) otherwise 0) ≡ firstFailed r p l b
+      (2 when named .earlier otherwise 3 when named .itself || (isMarked barred b || isMarked barred (key b l)) otherwise 0) ≡ firstFailed r p l b
   unfolding firstFailed namedFor
   first-unplaced e named told =
       let bars = isMarked barred b || isMarked barred (key b l) in
@@ -338,7 +339,7 @@ module _ (r : Round) (p : Page) (s barred held : List ℕ) (l b : ℕ) (h : SoFa
       let earlier = someOwner (roundOf s) (key b l) (isMarked held) (roundOf s .used) in
       let own = someOwner (roundOf s) (key b l) (λ y. eqb y 0) (roundOf s .used) in
       let same = some-same r s (h .constraints-are) (h .used-are) (key b l) in
-      ap (λ (n : Named). 2 when n .earlier otherwise 3 when n .own || bars otherwise 0) told
+      ap (λ (n : Named). 2 when n .earlier otherwise 3 when n .itself || bars otherwise 0) told
       ∙ own-unasked earlier own bars
       ∙ ap₂ (λ (x y : Bool). 2 when x otherwise 3 when y otherwise 0)
       (same (isMarked held)

@@ -148,7 +148,7 @@ module _ (r : Round) (s : List ℕ) (start : ℕ) (last links bids : List ℕ) (
           known = f .known;
         }
 
-    -- the award promised for every page so far, of the round's own
+    -- the award, promised for every page so far, for the round's own
     awarded-of : (k : ℕ) → suc k ≤ slots → Filled r k barred held page prices → Award (suc k) →
         Awarded (eligible r (pageUpTo r k) (suc k)) (bidIn (r .bids)) (r .bidders) w paid
     awarded-of k most f a =

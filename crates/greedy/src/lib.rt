@@ -69,7 +69,7 @@ fn eligibility(
     let chain = greedy_links::chain_key(bidder, slot);
     let named = greedy_links::named_by(held, last, links, sheet, start, chain);
     let earlier = named.earlier;
-    let itself = named.own;
+    let itself = named.itself;
     let here = greedy_links::owner_key(bidder, slot);
     let never = greedy_links::is_marked(barred, anywhere);
     let not_here = greedy_links::is_marked(barred, here);
@@ -256,6 +256,7 @@ pub fn fill(
     }
     Outcome { page, prices }
 }
+
 // The page of the greedy rule with the price of each slot, of an accepted sheet.
 pub fn played(sheet: &[u8]) -> Outcome
     requires { ⌜ Accepted (now sheet) ⌝ }

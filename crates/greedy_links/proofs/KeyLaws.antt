@@ -77,7 +77,7 @@ pub record Fits (owner : ℕ) (kind : Kind) : Type 0 where
   pub own-most : ownerSlot kind ≤ 16
   pub apart : ownerBidder owner kind ≡ chainBidder owner kind → ⊥
   pub nobody : ownerBidder owner kind ≡ 0 → ownerSlot kind ≡ 0
-  -- whose key is always so is in its owner's chain, and any other has its owner's key
+  -- a constraint whose owner's key is always so is in its owner's chain; any other has its owner in that key
   pub own-chain : ownerBidder owner kind ≡ 0 → chainBidder owner kind ≡ owner
   pub own-key : (ownerBidder owner kind ≡ 0 → ⊥) → ownerBidder owner kind ≡ owner
 

@@ -44,6 +44,6 @@ pub record Kept (s : List ℕ) (start : ℕ) (last links : List ℕ) : Type 0 wh
 unfoldable pub someOwner : Round → ℕ → (ℕ → Bool) → ℕ → Bool
 someOwner r x test n = anyBelow (λ i. eqb (linkKey r i) x && test (linkOwner r i)) n
 
--- by whose constraints a candidate is named: an earlier winner's; where there is none, its own
-unfoldable pub namedFor : (earlier own : Bool) → Named
-namedFor earlier own = record { earlier = earlier; own = not earlier && own }
+-- by whose constraints a candidate is named: an earlier winner's; where there is none, an own-slot constraint of its own
+unfoldable pub namedFor : (earlier itself : Bool) → Named
+namedFor earlier itself = record { earlier = earlier; itself = not earlier && itself }

@@ -36,10 +36,11 @@ pub struct ChainKey(pub u16);
 // Where a constraint's owner must stand: a bidder at a slot, at any slot where that is 0; always so where the bidder is nobody.
 pub struct OwnerKey(pub u16);
 
-// By whose constraints a candidate is named where it would stand: by an earlier winner's, or, asked only where that is not so, by its own.
+// By whose constraints a candidate is named where it would stand: by an earlier winner's; or, told only where that is not so, by itself, with an
+// own-slot constraint. (Its other constraints name others, and bar it by their marks.)
 pub struct Named {
     pub earlier: bool,
-    pub own: bool,
+    pub itself: bool,
 }
 
 // The key of the chain of a bidder at a slot.
@@ -217,7 +218,7 @@ pub fn bar_chain(
 }
 
 // By whose constraints a chain's bidder is named at the chain's slot: an earlier winner's, of which the owner stands where it says; or, where there
-// is none, one of its own, which is always so.
+// is none, an own-slot constraint of its own, which is always so.
 pub fn named_by(
     held: &[u8],
     last: &[u16],
@@ -231,20 +232,20 @@ pub fn named_by(
 {
     let at = chain_index(chain);
     let mut next = last[at] as usize;
-    let mut own = false;
+    let mut itself = false;
     while next != 0 {
         let owner = owner_at(sheet, start, next - 1);
         if is_marked(held, owner) {
             return Named {
                 earlier: true,
-                own: false,
+                itself: false,
             };
         }
-        own = own | is_always_so(owner);
+        itself = itself | is_always_so(owner);
         next = links[next - 1] as usize;
     }
     Named {
         earlier: false,
-        own,
+        itself,
     }
 }

@@ -1,5 +1,5 @@
 -- The right-hand sides of the calls' contracts give, for every worked round, what document 01 says of it: the antt kernel computes them from
--- the sheets' bytes, the best pages by trying every page.
+-- the sheets' bytes, the best pages by trying every page. So too the answers of the eligibility step.
 -- Assumes nothing.
 use mathlib.Core.List.{map}
 use mathlib.Core.Path.{_≡_, refl}

@@ -1,4 +1,5 @@
--- "Rounds worked by hand": what is asked of each round, and what document 01 says.
+-- "Rounds worked by hand": what is asked of each round, and what document 01 says; and candidates for a place, with the answer of the eligibility
+-- step (document 02, S-3).
 use Prim.Native.Nat.{ℕ, _*_, _-_}
 use mathlib.Core.Bool.{Bool, true, false}
 use mathlib.Core.List.{List, [], _∷_}
@@ -195,8 +196,9 @@ abbrev pub asked : List ℕ → ℕ → ℕ → Eligibility → Candidate
 asked sheet slot bidder said = record { sheet = sheet; slot = slot; bidder = bidder; said = said }
 
 -- Each of the four answers: no test fails (A, 2 at place 2), placed (A, 1 at place 2), an earlier winner's condition alone, the candidate's own
--- (C: an own place; H: a pair). Then what the order decides: in D the earlier winner 2 bars 3 and 3 bars 2, whose place says "earlier winner", and
--- so does a candidate that its own place alone would keep out; and who has a place is "placed", though its own condition would be broken too.
+-- (C: an own place; H: a pair). Then what the order decides. Of 3 at place 3 of D, which the earlier winner 2 bars and which bars 2 itself, it is the
+-- earlier winner's; so too where the candidate's own condition is an own place. Who has a place is "placed", though its own condition would be broken
+-- too.
 unfoldable pub candidates : List Candidate
 candidates =
     asked A 2 2 Eligible

@@ -72,7 +72,7 @@ returns-2 c = λ q p far.
     let named = c .before .before .before .before .named-by .result in
     let s = roundOf (a .sheet .now) in
     c .first-of .ensures
-    ∙ ap (λ (t : Bool). 2 when named .earlier otherwise 3 when named .own || t otherwise 0) (bars-told (c .before))
+    ∙ ap (λ (t : Bool). 2 when named .earlier otherwise 3 when named .itself || t otherwise 0) (bars-told (c .before))
     ∙ first-unplaced q p (a .sheet .now) (a .barred .now) (a .held .now) (a .slot .0) (a .bidder .0) far (range .0 .0) (range .0 .1) (range .1 .0) (range .1 .1)
     (sym (held-told (c .before .before .before .before .before .before .before)) ∙ c .before .before .before .before .before .before .if1 .left)
     named

@@ -18,17 +18,17 @@ use borrow.Author.Needs.{needs}
 use Rattle.greedy_links.proofs.named_by.Statement.{statement}
 use Rattle.greedy_links.proofs.named_by.Tie as tie
 
--- on the way along the chain: no owner that stands where its link says was met, and `own` says whether a link was met that is always so
-record Going (r : Round) (held : List ℕ) (chain next : ℕ) (own : Bool) : Type 0 where
+-- on the way along the chain: no owner that stands where its link says was met, and `met` says whether a link was met that is always so
+record Going (r : Round) (held : List ℕ) (chain next : ℕ) (met : Bool) : Type 0 where
   walks : Walking r chain next
   left : someOwner r chain (isMarked held) (r .used) ≡ someOwner r chain (isMarked held) next
-  itself : someOwner r chain (λ y. eqb y 0) (r .used) ≡ (own || someOwner r chain (λ y. eqb y 0) next)
+  itself : someOwner r chain (λ y. eqb y 0) (r .used) ≡ (met || someOwner r chain (λ y. eqb y 0) next)
 
 abbrev Inv-loop : tie.InvT-loop
-Inv-loop held last links sheet start at next₀ own₀ next own = Going (roundOf sheet) held at next own
+Inv-loop held last links sheet start at next₀ itself₀ next itself = Going (roundOf sheet) held at next itself
 
 abbrev μ-loop : tie.MeasureT-loop
-μ-loop held last links sheet start at next₀ own₀ next own = next
+μ-loop held last links sheet start at next₀ itself₀ next itself = next
 
 chain-index-requires : tie.Need-chain-index-requires Inv-loop μ-loop
 chain-index-requires c κs = search needs
@@ -129,7 +129,7 @@ loop-again : tie.Need-loop-again Inv-loop μ-loop
 loop-again c =
     let r = roundOf (c .before .before .before .before .before .before .before .before .before .before .before .before .before .args .sheet .now) in
     let v = c .before .before .before .before .before .before .loop .inv in
-    let own = c .before .before .before .before .before .before .loop .own in
+    let met = c .before .before .before .before .before .before .loop .itself in
     let next = c .before .before .before .before .before .before .loop .next in
     let going = c .before .before .before .before .before .loop-test .taken in
     let x = c .before .before .before .before .before .before .before .before .chain-index .result in
@@ -145,9 +145,9 @@ loop-again c =
           (ap (isMarked (c .before .before .before .before .before .before .before .before .before .before .before .before .before .args .held .now)) (sym (c .before .before .before .before .owner-at .ensures)) ∙ sym (c .before .before .before .is-marked .ensures) ∙ c .before .before .if1 .left);
       itself =
           v .itself
-          ∙ ap (λ (t : Bool). own || t) (one-then-rest r x _ _ most linked next (next - 1) (omega arith) (v .walks) (λ y. eqb y 0))
-          ∙ sym (or-assoc own (eqb (linkOwner r (next - 1)) 0) (someOwner r x (λ y. eqb y 0) earlier))
-          ∙ ap (λ (t : Bool). (own || t) || someOwner r x (λ y. eqb y 0) earlier)
+          ∙ ap (λ (t : Bool). met || t) (one-then-rest r x _ _ most linked next (next - 1) (omega arith) (v .walks) (λ y. eqb y 0))
+          ∙ sym (or-assoc met (eqb (linkOwner r (next - 1)) 0) (someOwner r x (λ y. eqb y 0) earlier))
+          ∙ ap (λ (t : Bool). (met || t) || someOwner r x (λ y. eqb y 0) earlier)
           (sym (c .before .is-always-so .ensures ∙ ap (λ (z : ℕ). eqb z 0) (c .before .before .before .before .owner-at .ensures)));
     }
 
@@ -162,7 +162,7 @@ returns-2 c =
     (ap (λ (y : ℕ). namedFor (someOwner r y (isMarked (c .before .before .before .before .before .before .before .before .args .held .now)) (r .used)) (someOwner r y (λ z. eqb z 0) (r .used))) (sym (c .before .before .before .chain-index .ensures))
     ∙ ap₂ namedFor
     (v .left ∙ none-left r x (c .before .loop .next) (isMarked (c .before .before .before .before .before .before .before .before .args .held .now)) done)
-    (v .itself ∙ ap (λ (t : Bool). c .before .loop .own || t) (none-left r x (c .before .loop .next) (λ y. eqb y 0) done) ∙ or-false (c .before .loop .own)))
+    (v .itself ∙ ap (λ (t : Bool). c .before .loop .itself || t) (none-left r x (c .before .loop .next) (λ y. eqb y 0) done) ∙ or-false (c .before .loop .itself)))
 
 pub named-by-spec : {M : Type 1} → statement M
 named-by-spec =
