@@ -39,10 +39,12 @@ fn best_sizes() -> Vec<Row> {
     sizes.map(|size| Row { part: "sizes", call: Call::Best, size, manner: Manner::Pairs }).to_vec()
 }
 
-/// The best page by kind of constraint. 196 constraints are the whole chain of 8 bidders in 8 slots.
+/// The best page by kind of constraint. 196 constraints are the whole chain of 8 bidders in 8 slots; an exclusion is 8 constraints.
 fn best_kinds() -> Vec<Row> {
     let row = |constraints, manner| Row { part: "kinds", call: Call::Best, size: size(8, 8, constraints), manner };
-    vec![row(64, Manner::Mixed), row(24, Manner::OwnSlots), row(64, Manner::Exclusions), row(196, Manner::Chain)]
+    let mut rows = vec![row(64, Manner::Mixed), row(24, Manner::OwnSlots), row(64, Manner::Exclusions), row(196, Manner::Chain)];
+    rows.extend([24, 64, 96].map(|constraints| row(constraints, Manner::Ties)));
+    rows
 }
 
 /// Play, then the best page, with one of n, m and c growing and the others fixed.

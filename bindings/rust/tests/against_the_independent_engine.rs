@@ -5,7 +5,8 @@ use independent::random::{round, Manner, Random, Size};
 use independent::{engine, slow};
 use pas::raw;
 
-const MANNERS: [Manner; 5] = [Manner::Mixed, Manner::Pairs, Manner::OwnSlots, Manner::Exclusions, Manner::Chain];
+const MANNERS: [Manner; 6] =
+    [Manner::Mixed, Manner::Pairs, Manner::OwnSlots, Manner::Exclusions, Manner::Chain, Manner::Ties];
 const HIGHEST_BID: usize = 1_000_000_000;
 const HIGHEST_EFFECT: usize = 1_000_000;
 

@@ -169,35 +169,28 @@ module _ (f g : ℕ → Bool) (n : ℕ) where
       (or-parts (anyBelow f n) (anyBelow g n) e))
 
 -- a test over twice as many indices is one of pairs, n apart
-pub all-pairs : (f g : ℕ → Bool) (n : ℕ) → ((l : ℕ) → l < n → g l ≡ (f l && f (n + l))) → allBelow f (n + n) ≡ allBelow g n
-all-pairs f g n pair =
+pub any-pairs : (f g : ℕ → Bool) (n : ℕ) → ((l : ℕ) → l < n → g l ≡ (f l || f (n + l))) → anyBelow f (n + n) ≡ anyBelow g n
+any-pairs f g n pair =
     same-tests
-    (allBelow f (n + n))
-    (allBelow g n)
+    (anyBelow f (n + n))
+    (anyBelow g n)
     (λ e.
-    at-all g n
-    (λ l b. pair l b ∙ and-holds (all-at f (n + n) e l (omega arith)) (all-at f (n + n) e (n + l) (omega arith))))
-    (λ e.
-    at-all f (n + n)
-    (λ l b.
+    let w = any-where f (n + n) e in
+    let there : w .0 < n + n = w .1 in
     ⊎-elim
-    (λ (t : ltb l n ≡ true).
-    let low = ltb-true l n t in
-    and-parts (f l) (f (n + l)) (sym (pair l low) ∙ all-at g n e l low) .0)
-    (λ (t : ltb l n ≡ false).
-    let high = ltb-false l n t in
-    let inside : l - n < n = omega arith in
-    let at : n + (l - n) ≡ l = omega arith in
-    ap f (sym at) ∙ and-parts (f (l - n)) (f (n + (l - n))) (sym (pair (l - n) inside) ∙ all-at g n e (l - n) inside) .1)
-    (holds-or-fails (ltb l n))))
-
--- every index passes where none fails
-pub none-fails : (f : ℕ → Bool) (n : ℕ) → allBelow f n ≡ not (anyBelow (λ l. not (f l)) n)
-unfolding allBelow anyBelow
-none-fails f zero = refl
-none-fails f (suc n) = ap (λ (t : Bool). t && f n) (none-fails f n) ∙ by-tests (anyBelow (λ l. not (f l)) n) (f n)
-  where
-    by-tests : (a b : Bool) → (not a && b) ≡ not (a || not b)
-    by-tests true b = refl
-    by-tests false true = refl
-    by-tests false false = refl
+    (λ (t : ltb (w .0) n ≡ true).
+    let low = ltb-true (w .0) n t in
+    any-at g n (w .0) low (pair (w .0) low ∙ or-left (f (n + w .0)) (w .2)))
+    (λ (t : ltb (w .0) n ≡ false).
+    let high = ltb-false (w .0) n t in
+    let inside : w .0 - n < n = omega arith in
+    let at : n + (w .0 - n) ≡ w .0 = omega arith in
+    any-at g n (w .0 - n) inside (pair (w .0 - n) inside ∙ or-right (f (w .0 - n)) (ap f at ∙ w .2)))
+    (holds-or-fails (ltb (w .0) n)))
+    (λ e.
+    let w = any-where g n e in
+    let there : w .0 < n = w .1 in
+    ⊎-elim
+    (λ (t : f (w .0) ≡ true). any-at f (n + n) (w .0) (omega arith) t)
+    (λ (t : f (n + w .0) ≡ true). any-at f (n + n) (n + w .0) (omega arith) t)
+    (or-parts (f (w .0)) (f (n + w .0)) (sym (pair (w .0) there) ∙ w .2)))

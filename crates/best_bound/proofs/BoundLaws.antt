@@ -1,22 +1,21 @@
--- No assignment of free bidders adds more than the free bidders in falling order of their bids. Turn by turn: the next ranked
--- bidder is put at the first slot left, and who stood there goes where it stood. That never lowers the sum, since effects do not
--- rise; a bidder that is not free stands nowhere, and after the last one nobody is left. Last, who is live: the and of a word's
--- eight bytes tells who is not, since each half's and tells it for the slots of that half. Assumes nothing.
-use Prim.Native.Nat.{ℕ, zero, suc, _+_, _-_, _*_, _/_, _^_, _<_, _≤_}
+-- No assignment of bidders of eligible ranks adds more than the eligible ranks in order, which is that of falling bids. Turn by turn: the next
+-- rank's bidder is put at the first slot left, and who stood there goes where it stood. That never lowers the sum, since effects do not rise; a
+-- bidder whose rank is not eligible stands nowhere, and after the last one nobody is left. Assumes nothing.
+use Prim.Native.Nat.{ℕ, zero, suc, _+_, _-_, _*_, _<_, _≤_}
 use borrow.Author.Tests.{eq-eqb, ne-eqb, eqb-true, eqb-false, lt-ltb, le-ltb}
 use mathlib.Core.Bool.{Bool, true, false, cond, not, _&&_, and-false}
+use mathlib.Core.List.{List}
 use mathlib.Core.Logic.{_⊎_, inl, inr, ⊎-elim}
 use mathlib.Core.Path.{_≡_, refl, sym, _∙_, ap, ap₂, subst, subst₂}
 use native.Mathlib.Nat.{eq-or-lt-of-le, add-zero}
 use native.Mathlib.Omega.{arith}
-use lib.Bits.{bitAnd}
 use lib.Dec.{eqb, ltb}
-use Rattle.basis.specs.Bits.{bitOf}
-use Rattle.basis.specs.Tests.{anyBelow, allBelow}
-use Rattle.basis.proofs.BitLaws.{bit-and, bit-shr}
-use Rattle.basis.proofs.TestLaws.{holds-or-fails, not-both, and-holds, any-where, any-none, any-at, all-pairs, none-fails}
+use lib.ListN.{getD}
+use Rattle.basis.specs.Tests.{anyBelow}
+use Rattle.basis.proofs.TestLaws.{holds-or-fails, not-both, and-holds, any-where, any-none}
 use Rattle.basis.proofs.NumberLaws.{same-or-not, below-or-not}
-use Rattle.best_bound.specs.EngineBound.{sumFrom, slotAfter, addAfter, BidsFall, NoRise, BoundHolds, eligibleIn}
+use Rattle.choice.specs.EngineBids.{bidIn}
+use Rattle.best_bound.specs.EngineBound.{sumFrom, slotAfter, addAfter, BidsFall, NoRise, BoundHolds, bidAtRank}
 
 -- an assignment with one index changed
 change : (ℕ → ℕ) → ℕ → ℕ → ℕ → ℕ
@@ -92,7 +91,7 @@ module _ (bid effect : ℕ → ℕ) where
       (same-or-not (s + c) j)
 
   -- slots where nobody stands add nothing
-  nobody-adds : bid 0 ≡ 0 → (f : ℕ → ℕ) (s c : ℕ) → ((j : ℕ) → s ≤ j → j < s + c → f j ≡ 0) → sumFrom bid effect f s c ≡ 0
+  pub nobody-adds : bid 0 ≡ 0 → (f : ℕ → ℕ) (s c : ℕ) → ((j : ℕ) → s ≤ j → j < s + c → f j ≡ 0) → sumFrom bid effect f s c ≡ 0
   unfolding sumFrom
   nobody-adds z f s zero h = refl
   nobody-adds z f s (suc c) h =
@@ -103,51 +102,121 @@ module _ (bid effect : ℕ → ℕ) where
       none
       ∙ omega arith
 
-module _ (eligible : ℕ → Bool) (rank bid effect : ℕ → ℕ) (k m : ℕ) where
-  -- a free bidder takes the next slot where there is one left,
-  pub slot-taken : (i : ℕ) → eligible (rank i) ≡ true → slotAfter eligible rank k m i < m →
-      slotAfter eligible rank k m (suc i) ≡ suc (slotAfter eligible rank k m i)
+module _ (eligible : ℕ → Bool) (k m : ℕ) where
+  -- an eligible rank takes the next slot where there is one left,
+  pub slot-taken : (i : ℕ) → eligible i ≡ true → slotAfter eligible k m i < m → slotAfter eligible k m (suc i) ≡ suc (slotAfter eligible k m i)
   unfolding slotAfter
   slot-taken i e l =
       ap
-      (λ (t : Bool). cond t (suc (slotAfter eligible rank k m i)) (slotAfter eligible rank k m i))
-      (and-holds e (lt-ltb (slotAfter eligible rank k m i) m l))
+      (λ (t : Bool). cond t (suc (slotAfter eligible k m i)) (slotAfter eligible k m i))
+      (and-holds e (lt-ltb (slotAfter eligible k m i) m l))
 
-  pub add-taken : (i : ℕ) → eligible (rank i) ≡ true → slotAfter eligible rank k m i < m →
-      addAfter eligible rank bid effect k m (suc i)
-      ≡ addAfter eligible rank bid effect k m i + bid (rank i) * effect (slotAfter eligible rank k m i)
+  -- and else nothing changes
+  none-taken : (i : ℕ) → (eligible i ≡ false) ⊎ (m ≤ slotAfter eligible k m i) → (eligible i && ltb (slotAfter eligible k m i) m) ≡ false
+  none-taken i =
+      ⊎-elim
+      (λ (e : eligible i ≡ false). ap (λ (t : Bool). t && ltb (slotAfter eligible k m i) m) e)
+      (λ (l : m ≤ slotAfter eligible k m i).
+      ap (λ (t : Bool). eligible i && t) (le-ltb (slotAfter eligible k m i) m l) ∙ and-false (eligible i))
+
+  pub slot-kept : (i : ℕ) → (eligible i ≡ false) ⊎ (m ≤ slotAfter eligible k m i) → slotAfter eligible k m (suc i) ≡ slotAfter eligible k m i
+  unfolding slotAfter
+  slot-kept i h = ap (λ (t : Bool). cond t (suc (slotAfter eligible k m i)) (slotAfter eligible k m i)) (none-taken i h)
+
+  -- so also for some ranks that are not eligible
+  pub slots-none : (i more : ℕ) → ((r : ℕ) → i ≤ r → r < i + more → eligible r ≡ false) →
+      slotAfter eligible k m (i + more) ≡ slotAfter eligible k m i
+  slots-none i zero none = ap (slotAfter eligible k m) (add-zero i)
+  slots-none i (suc more) none =
+      let next : i + suc more ≡ suc (i + more) = omega arith in
+      ap (slotAfter eligible k m) next
+      ∙ slot-kept (i + more) (inl (none (i + more) (omega arith) (omega arith)))
+      ∙ slots-none i more (λ r l b. none r l (omega arith))
+
+-- what those add
+module _ (eligible : ℕ → Bool) (gain : ℕ → ℕ → ℕ) (k m : ℕ) where
+  pub add-taken : (i : ℕ) → eligible i ≡ true → slotAfter eligible k m i < m →
+      addAfter eligible gain k m (suc i) ≡ addAfter eligible gain k m i + gain i (slotAfter eligible k m i)
   unfolding addAfter
   add-taken i e l =
       ap
-      (λ (t : Bool). addAfter eligible rank bid effect k m i + cond t (bid (rank i) * effect (slotAfter eligible rank k m i)) 0)
-      (and-holds e (lt-ltb (slotAfter eligible rank k m i) m l))
+      (λ (t : Bool). addAfter eligible gain k m i + cond t (gain i (slotAfter eligible k m i)) 0)
+      (and-holds e (lt-ltb (slotAfter eligible k m i) m l))
 
-  -- and else nothing changes
-  none-taken : (i : ℕ) → (eligible (rank i) ≡ false) ⊎ (m ≤ slotAfter eligible rank k m i) →
-      (eligible (rank i) && ltb (slotAfter eligible rank k m i) m) ≡ false
-  none-taken i =
-      ⊎-elim
-      (λ (e : eligible (rank i) ≡ false). ap (λ (t : Bool). t && ltb (slotAfter eligible rank k m i) m) e)
-      (λ (l : m ≤ slotAfter eligible rank k m i).
-      ap (λ (t : Bool). eligible (rank i) && t) (le-ltb (slotAfter eligible rank k m i) m l) ∙ and-false (eligible (rank i)))
-
-  pub slot-kept : (i : ℕ) → (eligible (rank i) ≡ false) ⊎ (m ≤ slotAfter eligible rank k m i) →
-      slotAfter eligible rank k m (suc i) ≡ slotAfter eligible rank k m i
-  unfolding slotAfter
-  slot-kept i h = ap (λ (t : Bool). cond t (suc (slotAfter eligible rank k m i)) (slotAfter eligible rank k m i)) (none-taken i h)
-
-  pub add-kept : (i : ℕ) → (eligible (rank i) ≡ false) ⊎ (m ≤ slotAfter eligible rank k m i) →
-      addAfter eligible rank bid effect k m (suc i) ≡ addAfter eligible rank bid effect k m i
+  pub add-kept : (i : ℕ) → (eligible i ≡ false) ⊎ (m ≤ slotAfter eligible k m i) → addAfter eligible gain k m (suc i) ≡ addAfter eligible gain k m i
   unfolding addAfter
   add-kept i h =
       ap
-      (λ (t : Bool). addAfter eligible rank bid effect k m i + cond t (bid (rank i) * effect (slotAfter eligible rank k m i)) 0)
-      (none-taken i h)
+      (λ (t : Bool). addAfter eligible gain k m i + cond t (gain i (slotAfter eligible k m i)) 0)
+      (none-taken eligible k m i h)
       ∙ omega arith
 
--- g gives each slot index from s to below m nobody, or a free bidder of rank i or later, and nobody two of them
+  pub added-none : (i more : ℕ) → ((r : ℕ) → i ≤ r → r < i + more → eligible r ≡ false) →
+      addAfter eligible gain k m (i + more) ≡ addAfter eligible gain k m i
+  added-none i zero none = ap (addAfter eligible gain k m) (add-zero i)
+  added-none i (suc more) none =
+      let next : i + suc more ≡ suc (i + more) = omega arith in
+      ap (addAfter eligible gain k m) next
+      ∙ add-kept (i + more) (inl (none (i + more) (omega arith) (omega arith)))
+      ∙ added-none i more (λ r l b. none r l (omega arith))
+
+  -- each rank adds at most the most that one adds
+  pub added-low : (i most : ℕ) → ((r s : ℕ) → gain r s ≤ most) → addAfter eligible gain k m i ≤ i * most
+  unfolding addAfter
+  added-low zero most low = omega arith
+  added-low (suc i) most low =
+      let before = added-low i most low in
+      let this = by-test (eligible i && ltb (slotAfter eligible k m i) m) (gain i (slotAfter eligible k m i)) (low _ _) in
+      let all : suc i * most ≡ i * most + most = omega arith in
+      omega arith
+    where
+      by-test : (t : Bool) (x : ℕ) → x ≤ most → cond t x 0 ≤ most
+      by-test true x l = l
+      by-test false x l = omega arith
+
+-- what the first ranks add depends on what they add at those slots alone
+pub added-same : (eligible : ℕ → Bool) (gain gain′ : ℕ → ℕ → ℕ) (k m i : ℕ) → ((r s : ℕ) → r < i → s < m → gain r s ≡ gain′ r s) →
+    addAfter eligible gain k m i ≡ addAfter eligible gain′ k m i
+unfolding addAfter
+added-same eligible gain gain′ k m zero same = refl
+added-same eligible gain gain′ k m (suc i) same =
+    ap₂ _+_
+    (added-same eligible gain gain′ k m i (λ r s l b. same r s (omega arith) b))
+    (⊎-elim
+    (λ (b : slotAfter eligible k m i < m).
+    ap (λ (x : ℕ). cond (eligible i && ltb (slotAfter eligible k m i) m) x 0) (same i (slotAfter eligible k m i) (omega arith) b))
+    (λ (b : m ≤ slotAfter eligible k m i).
+    let none = none-taken eligible k m i (inr b) in
+    ap (λ (t : Bool). cond t (gain i (slotAfter eligible k m i)) 0) none
+    ∙ sym (ap (λ (t : Bool). cond t (gain′ i (slotAfter eligible k m i)) 0) none))
+    (below-or-not (slotAfter eligible k m i) m))
+
+-- and on which of those ranks are eligible
+slots-alike : (eligible eligible′ : ℕ → Bool) (k m i : ℕ) → ((r : ℕ) → r < i → eligible r ≡ eligible′ r) →
+    slotAfter eligible k m i ≡ slotAfter eligible′ k m i
+unfolding slotAfter
+slots-alike eligible eligible′ k m zero same = refl
+slots-alike eligible eligible′ k m (suc i) same =
+    ap₂
+    (λ (t : Bool) (s : ℕ). cond (t && ltb s m) (suc s) s)
+    (same i (omega arith))
+    (slots-alike eligible eligible′ k m i (λ r l. same r (omega arith)))
+
+pub added-alike : (eligible eligible′ : ℕ → Bool) (gain : ℕ → ℕ → ℕ) (k m i : ℕ) → ((r : ℕ) → r < i → eligible r ≡ eligible′ r) →
+    addAfter eligible gain k m i ≡ addAfter eligible′ gain k m i
+unfolding addAfter
+added-alike eligible eligible′ gain k m zero same = refl
+added-alike eligible eligible′ gain k m (suc i) same =
+    ap₂ _+_
+    (added-alike eligible eligible′ gain k m i (λ r l. same r (omega arith)))
+    (ap₂
+    (λ (t : Bool) (s : ℕ). cond (t && ltb s m) (gain i s) 0)
+    (same i (omega arith))
+    (slots-alike eligible eligible′ k m i (λ r l. same r (omega arith))))
+
+-- g gives each slot index from s to below m nobody, or the bidder of an eligible rank from i on, and nobody two of them
 record Later (eligible : ℕ → Bool) (rank : ℕ → ℕ) (n i s m : ℕ) (g : ℕ → ℕ) : Type 0 where
-  ranked : (j : ℕ) → s ≤ j → j < m → (g j ≡ 0) ⊎ ((r : ℕ) × (i ≤ r) × (r < n) × (rank r ≡ g j) × (eligible (g j) ≡ true))
+  ranked : (j : ℕ) → s ≤ j → j < m → (g j ≡ 0) ⊎ ((r : ℕ) × (i ≤ r) × (r < n) × (rank r ≡ g j) × (eligible r ≡ true))
   once : (a b : ℕ) → s ≤ a → a < m → s ≤ b → b < m → (g a ≡ 0 → ⊥) → g a ≡ g b → a ≡ b
 
 -- what the first i ranked bidders add, and an assignment of later ones to the slots left, add at least a total
@@ -161,11 +230,11 @@ record Covers (eligible : ℕ → Bool) (rank bid effect : ℕ → ℕ) (n m tot
 module _ (eligible : ℕ → Bool) (rank : ℕ → ℕ) (n i s m : ℕ) (g : ℕ → ℕ) (h : Later eligible rank n i s m g) where
   -- an index that holds another than the i-th holds nobody or a later one
   not-this-one : (j : ℕ) → s ≤ j → j < m → (g j ≡ rank i → ⊥) →
-      (g j ≡ 0) ⊎ ((r : ℕ) × (suc i ≤ r) × (r < n) × (rank r ≡ g j) × (eligible (g j) ≡ true))
+      (g j ≡ 0) ⊎ ((r : ℕ) × (suc i ≤ r) × (r < n) × (rank r ≡ g j) × (eligible r ≡ true))
   not-this-one j l b d =
       ⊎-elim
       (λ (z : g j ≡ 0). inl z)
-      (λ (w : (r : ℕ) × (i ≤ r) × (r < n) × (rank r ≡ g j) × (eligible (g j) ≡ true)).
+      (λ (w : (r : ℕ) × (i ≤ r) × (r < n) × (rank r ≡ g j) × (eligible r ≡ true)).
       ⊎-elim
       (λ (q : i ≡ w .0). absurd (d (sym (w .3) ∙ ap rank (sym q))))
       (λ (lt : i < w .0). inr (w .0, lt, w .2, w .3, w .4))
@@ -177,7 +246,7 @@ module _ (eligible : ℕ → Bool) (rank : ℕ → ℕ) (n i s m : ℕ) (g : ℕ
   none-higher bid z falling j l b =
       ⊎-elim
       (λ (e : g j ≡ 0). let q : bid (g j) ≡ 0 = ap bid e ∙ z in omega arith)
-      (λ (w : (r : ℕ) × (i ≤ r) × (r < n) × (rank r ≡ g j) × (eligible (g j) ≡ true)).
+      (λ (w : (r : ℕ) × (i ≤ r) × (r < n) × (rank r ≡ g j) × (eligible r ≡ true)).
       subst (λ (x : ℕ). bid x ≤ bid (rank i)) (w .3) (falling i (w .0) (w .1) (w .2)))
       (h .ranked j l b)
 
@@ -210,12 +279,12 @@ module _ (eligible : ℕ → Bool) (rank : ℕ → ℕ) (n i s m : ℕ) (g : ℕ
           (λ (q : j ≡ j0).
           let e : change g j0 (g s) j ≡ g s = ap (change g j0 (g s)) q ∙ moved-same in
           subst
-          (λ (x : ℕ). (x ≡ 0) ⊎ ((r : ℕ) × (suc i ≤ r) × (r < n) × (rank r ≡ x) × (eligible x ≡ true)))
+          (λ (x : ℕ). (x ≡ 0) ⊎ ((r : ℕ) × (suc i ≤ r) × (r < n) × (rank r ≡ x) × (eligible r ≡ true)))
           (sym e)
           (not-this-one s (omega arith) (omega arith) (λ t. let u = only-there s (omega arith) (omega arith) t in omega arith)))
           (λ (d : j ≡ j0 → ⊥).
           subst
-          (λ (x : ℕ). (x ≡ 0) ⊎ ((r : ℕ) × (suc i ≤ r) × (r < n) × (rank r ≡ x) × (eligible x ≡ true)))
+          (λ (x : ℕ). (x ≡ 0) ⊎ ((r : ℕ) × (suc i ≤ r) × (r < n) × (rank r ≡ x) × (eligible r ≡ true)))
           (sym (moved-other j d))
           (not-this-one j (omega arith) b (λ t. d (sym (only-there j (omega arith) b t)))))
           (same-or-not j j0);
@@ -244,7 +313,10 @@ module _ (eligible : ℕ → Bool) (rank : ℕ → ℕ) (n i s m : ℕ) (g : ℕ
     }
 
 module _ (eligible : ℕ → Bool) (rank bid effect : ℕ → ℕ) (n m total : ℕ) (z : bid 0 ≡ 0) (some : (i : ℕ) → i < n → rank i ≡ 0 → ⊥)
-    (falling : BidsFall rank bid n) (no-rise : NoRise effect m) where
+    (once : (i j : ℕ) → i < n → j < n → rank i ≡ rank j → i ≡ j) (falling : BidsFall rank bid n) (no-rise : NoRise effect m) where
+  abbrev gain : ℕ → ℕ → ℕ
+  gain i j = bid (rank i) * effect j
+
   -- the next ranked bidder at the first slot left, and another assignment after it
   placed-covers : (i s added : ℕ) → i < n → s < m → Covers eligible rank bid effect n m total i s added →
       Covers eligible rank bid effect n m total (suc i) (suc s) (added + bid (rank i) * effect s)
@@ -299,8 +371,8 @@ module _ (eligible : ℕ → Bool) (rank bid effect : ℕ → ℕ) (n m total : 
           })
           (holds-or-fails (anyBelow (λ d. eqb (g (suc s + d)) (rank i)) left))
 
-  -- a ranked bidder that is not free, or that finds no slot, stands nowhere
-  skipped-covers : (i s added : ℕ) → i < n → (eligible (rank i) ≡ false) ⊎ (m ≤ s) → Covers eligible rank bid effect n m total i s added →
+  -- a bidder whose rank is not eligible, or that finds no slot, stands nowhere
+  skipped-covers : (i s added : ℕ) → i < n → (eligible i ≡ false) ⊎ (m ≤ s) → Covers eligible rank bid effect n m total i s added →
       Covers eligible rank bid effect n m total (suc i) s added
   skipped-covers i s added lt why c = record {
     given = c .given;
@@ -318,11 +390,11 @@ module _ (eligible : ℕ → Bool) (rank bid effect : ℕ → ℕ) (n m total : 
         (c .later)
         (λ j l b e.
         ⊎-elim
-        (λ (f : eligible (rank i) ≡ false).
+        (λ (f : eligible i ≡ false).
         ⊎-elim
         (λ (o : c .given j ≡ 0). some i lt (sym e ∙ o))
-        (λ (w : (r : ℕ) × (i ≤ r) × (r < n) × (rank r ≡ c .given j) × (eligible (c .given j) ≡ true)).
-        not-both (ap eligible (sym e) ∙ w .4) f)
+        (λ (w : (r : ℕ) × (i ≤ r) × (r < n) × (rank r ≡ c .given j) × (eligible r ≡ true)).
+        not-both (ap eligible (once i (w .0) lt (w .2) (sym e ∙ sym (w .3))) ∙ w .4) f)
         (c .later .ranked j l b))
         (λ (o : m ≤ s). omega arith)
         why);
@@ -330,33 +402,33 @@ module _ (eligible : ℕ → Bool) (rank bid effect : ℕ → ℕ) (n m total : 
   }
 
   covers-after : (k : ℕ) → Covers eligible rank bid effect n m total 0 k 0 → (i : ℕ) → i ≤ n →
-      Covers eligible rank bid effect n m total i (slotAfter eligible rank k m i) (addAfter eligible rank bid effect k m i)
+      Covers eligible rank bid effect n m total i (slotAfter eligible k m i) (addAfter eligible gain k m i)
   unfolding slotAfter addAfter
   covers-after k c zero l = c
   covers-after k c (suc i) l =
       let ih = covers-after k c i (omega arith) in
-      let s : ℕ = slotAfter eligible rank k m i in
-      let added : ℕ = addAfter eligible rank bid effect k m i in
-      let kept : (eligible (rank i) ≡ false) ⊎ (m ≤ s) → Covers eligible rank bid effect n m total (suc i) (slotAfter eligible rank k m (suc i)) (addAfter eligible rank bid effect k m (suc i))
+      let s : ℕ = slotAfter eligible k m i in
+      let added : ℕ = addAfter eligible gain k m i in
+      let kept : (eligible i ≡ false) ⊎ (m ≤ s) → Covers eligible rank bid effect n m total (suc i) (slotAfter eligible k m (suc i)) (addAfter eligible gain k m (suc i))
       = λ why.
       subst₂
       (Covers eligible rank bid effect n m total (suc i))
-      (sym (slot-kept eligible rank bid effect k m i why))
-      (sym (add-kept eligible rank bid effect k m i why))
+      (sym (slot-kept eligible k m i why))
+      (sym (add-kept eligible gain k m i why))
       (skipped-covers i s added l why ih) in
       ⊎-elim
-      (λ (e : eligible (rank i) ≡ true).
+      (λ (e : eligible i ≡ true).
       ⊎-elim
       (λ (b : s < m).
       subst₂
       (Covers eligible rank bid effect n m total (suc i))
-      (sym (slot-taken eligible rank bid effect k m i e b))
-      (sym (add-taken eligible rank bid effect k m i e b))
+      (sym (slot-taken eligible k m i e b))
+      (sym (add-taken eligible gain k m i e b))
       (placed-covers i s added l b ih))
       (λ (b : m ≤ s). kept (inr b))
       (below-or-not s m))
-      (λ (e : eligible (rank i) ≡ false). kept (inl e))
-      (holds-or-fails (eligible (rank i)))
+      (λ (e : eligible i ≡ false). kept (inl e))
+      (holds-or-fails (eligible i))
 
   -- after the last ranked bidder nobody is left
   all-covered : (s added : ℕ) → Covers eligible rank bid effect n m total n s added → total ≤ added
@@ -369,7 +441,7 @@ module _ (eligible : ℕ → Bool) (rank bid effect : ℕ → ℕ) (n m total : 
       nobody-left j l b =
           ⊎-elim
           (λ (o : c .given j ≡ 0). o)
-          (λ (w : (r : ℕ) × (n ≤ r) × (r < n) × (rank r ≡ c .given j) × (eligible (c .given j) ≡ true)).
+          (λ (w : (r : ℕ) × (n ≤ r) × (r < n) × (rank r ≡ c .given j) × (eligible r ≡ true)).
           let low : n ≤ w .0 = w .1 in
           let high : w .0 < n = w .2 in
           absurd (omega arith))
@@ -380,10 +452,10 @@ unfolding BoundHolds
 bound-holds eligible rank bid effect n k left z some once falling no-rise f h =
     let m : ℕ = k + left in
     let total : ℕ = sumFrom bid effect f k left in
-    all-covered eligible rank bid effect n m total z some falling no-rise
-    (slotAfter eligible rank k m n)
-    (addAfter eligible rank bid effect k m n)
-    (covers-after eligible rank bid effect n m total z some falling no-rise k
+    all-covered eligible rank bid effect n m total z some once falling no-rise
+    (slotAfter eligible k m n)
+    (addAfter eligible (λ i j. bid (rank i) * effect j) k m n)
+    (covers-after eligible rank bid effect n m total z some once falling no-rise k
     (record {
       given = f;
       left = left;
@@ -392,7 +464,7 @@ bound-holds eligible rank bid effect n k left z some once falling no-rise f h =
         ranked = λ j l b.
             ⊎-elim
             (λ (o : f j ≡ 0). inl o)
-            (λ (w : (i : ℕ) × (i < n) × (rank i ≡ f j) × (eligible (f j) ≡ true)). inr (w .0, omega arith, w .1, w .2, w .3))
+            (λ (w : (i : ℕ) × (i < n) × (rank i ≡ f j) × (eligible i ≡ true)). inr (w .0, omega arith, w .1, w .2, w .3))
             (h .ranked j l b);
         once = h .once;
       };
@@ -401,36 +473,12 @@ bound-holds eligible rank bid effect n k left z some once falling no-rise f h =
     n
     (omega arith))
 
--- the and of a word and the same shifted down by n bytes
-abbrev pub halved : ℕ → ℕ → ℕ
-halved x n = bitAnd x (x / 2 ^ (8 * n))
+-- the bid at a rank is that of the bidder there, and after the last one 0
+module _ (ranked bids : List ℕ) (n i : ℕ) where
+  pub bid-ranked : i < n → bidAtRank ranked bids n i ≡ bidIn bids (getD ranked i 0)
+  unfolding bidAtRank
+  bid-ranked l = ap (λ (t : Bool). cond t (bidIn bids (getD ranked i 0)) 0) (lt-ltb i n l)
 
--- bit i is set in all of its first n bytes where it is set in all of the word's first 2 n
-bytes-halved : (x n i : ℕ) → allBelow (λ l. bitOf x (8 * l + i)) (n + n) ≡ allBelow (λ l. bitOf (halved x n) (8 * l + i)) n
-bytes-halved x n i =
-    all-pairs
-    (λ l. bitOf x (8 * l + i))
-    (λ l. bitOf (halved x n) (8 * l + i))
-    n
-    (λ l b.
-    let at : 8 * n + (8 * l + i) ≡ 8 * (n + l) + i = omega arith in
-    bit-and x (x / 2 ^ (8 * n)) (8 * l + i)
-    ∙ ap (λ (t : Bool). bitOf x (8 * l + i) && t) (bit-shr x (8 * n) (8 * l + i) ∙ ap (bitOf x) at))
-
--- the and of the eight bytes: its bit i is set where no slot is open to bidder i + 1
-pub bytes-and : (barred i : ℕ) → bitOf (halved (halved (halved barred 4) 2) 1) i ≡ not (eligibleIn barred (suc i))
-unfolding eligibleIn allBelow
-bytes-and barred i =
-    let first : i ≡ 8 * 0 + i = omega arith in
-    let index : i ≡ suc i - 1 = omega arith in
-    ap (bitOf (halved (halved (halved barred 4) 2) 1)) first
-    ∙ sym (bytes-halved (halved (halved barred 4) 2) 1 i)
-    ∙ sym (bytes-halved (halved barred 4) 2 i)
-    ∙ sym (bytes-halved barred 4 i)
-    ∙ none-fails (λ l. bitOf barred (8 * l + i)) 8
-    ∙ ap (λ (k : ℕ). not (anyBelow (λ l. not (bitOf barred (8 * l + k))) 8)) index
-
--- a bidder that some slot is open to is live
-pub open-eligible : (barred b j : ℕ) → j < 8 → bitOf barred (8 * j + (b - 1)) ≡ false → eligibleIn barred b ≡ true
-unfolding eligibleIn
-open-eligible barred b j inside e = any-at (λ l. not (bitOf barred (8 * l + (b - 1)))) 8 j inside (ap not e)
+  pub bid-past : n ≤ i → bidAtRank ranked bids n i ≡ 0
+  unfolding bidAtRank
+  bid-past l = ap (λ (t : Bool). cond t (bidIn bids (getD ranked i 0)) 0) (le-ltb i n l)

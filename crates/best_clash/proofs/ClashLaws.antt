@@ -2,15 +2,14 @@
 -- a constraint is one bidder at one slot, so what was not broken before is broken by the new one and at most one more. Assumes nothing.
 use Prim.Native.Nat.{ℕ, zero, suc, _<_, _≤_}
 use borrow.Author.Tests.{eq-eqb, ne-eqb, eqb-true, eqb-false, not-true}
-use mathlib.Core.Bool.{Bool, true, false, not, _&&_, _||_}
-use mathlib.Core.List.{List}
+use mathlib.Core.Bool.{true, false, not, _&&_}
 use mathlib.Core.Logic.{_⊎_, inl, inr, ⊎-elim}
-use mathlib.Core.Path.{_≡_, refl, sym, _∙_, ap, ap₂}
+use mathlib.Core.Path.{_≡_, refl, sym, _∙_, ap}
 use native.Mathlib.Nat.{not-suc-le-zero}
 use native.Mathlib.Omega.{arith}
 use lib.Dec.{eqb}
 use Rattle.basis.specs.Tests.{anyBelow}
-use Rattle.basis.proofs.TestLaws.{holds-or-fails, not-both, fails, same-tests, and-holds, and-parts, or-left, or-right, or-parts, not-holds, any-at, any-where, any-same}
+use Rattle.basis.proofs.TestLaws.{not-both, fails, same-tests, and-holds, and-parts, or-left, or-right, or-parts, not-holds, any-at, any-where}
 use Rattle.sheet.specs.declared.Bidder.{Bidder}
 use Rattle.sheet.specs.declared.Slot.{Slot}
 use Rattle.sheet.specs.declared.Kind.{Kind}
@@ -25,7 +24,7 @@ use Rattle.sheet.specs.Round.{Has}
 use Rattle.auction.proofs.PageLaws.{put-sized, empty-sized, at-put-same, at-put-other, at-empty, at-within, placed-at, placed-where, placed-put, Keeps}
 use Rattle.basis.proofs.NumberLaws.{same-or-not, below-or-not}
 use Rattle.auction.proofs.BrokenLaws.{broken-parts, parts-broken, broken-stays, breaks-at, breaks-where, breaks-none}
-use Rattle.best_clash.specs.EngineClash.{pairPage, clash, clashes, entryAt, clashesIn, TableOf}
+use Rattle.best_clash.specs.EngineClash.{pairPage, clash, clashes}
 
 -- The page of two: the second bidder stands at its slot, the first too where the slots differ, and nobody else.
 module _ (b k j l : ℕ) (k-some : 0 < k) (k-most : k ≤ 16) (l-some : 0 < l) (l-most : l ≤ 16) where
@@ -239,7 +238,7 @@ breaks-added r proper p k b s k-some k-most later unplaced b-some unbroken =
     (λ e. clashes-break r proper p k b s k-some k-most later b-some e)
 
 -- who stands on a page that breaks nothing breaks nothing alone
-unbroken-alone : (r : Round) → ProperRound r → (p : Page) → Sized p → breaks r p ≡ false → (y : ℕ) → (at p y ≡ 0 → ⊥) →
+pub unbroken-alone : (r : Round) → ProperRound r → (p : Page) → Sized p → breaks r p ≡ false → (y : ℕ) → (at p y ≡ 0 → ⊥) →
     clash r (at p y) y (at p y) y ≡ false
 unfolding clash
 unbroken-alone r proper p s unbroken y some =
@@ -253,35 +252,3 @@ unbroken-alone r proper p s unbroken y some =
     (two-kept (at p y) y (at p y) y (inside .0) (inside .1) (inside .0) (inside .1) p refl refl)
     (proper .proper (w .0) (w .1)) (w .2)))
     unbroken)
-
--- the round's table tells the clashes of a bidder at an empty slot of a page that breaks nothing
-pub table-clashes : (r : Round) (table : List ℕ) → TableOf r table → ProperRound r → (p : Page) (k b : ℕ) → 0 < k → k ≤ 8 → 0 < b → b ≤ 8 →
-    ((i : ℕ) → at p i ≤ 8) → placed p b ≡ false → Sized p → at p k ≡ 0 → breaks r p ≡ false → clashesIn table p k b ≡ clashes r p k b
-unfolding clashesIn clashes
-table-clashes r table t proper p k b k-some k-most b-some b-most small unplaced s k-empty unbroken =
-    ⊎-elim
-    (λ (e : clash r b k b k ≡ true). or-left _ (t .alone b k b-some b-most k-some k-most ∙ e) ∙ sym (or-left _ e))
-    (λ (e : clash r b k b k ≡ false).
-    ap₂ _||_ (t .alone b k b-some b-most k-some k-most)
-    (any-same
-    (λ i. not (eqb (at p (suc i)) 0) && entryAt table (at p (suc i)) (suc i) b k)
-    (λ i. not (eqb (at p (suc i)) 0) && clash r b k (at p (suc i)) (suc i))
-    k
-    (same e)))
-    (holds-or-fails (clash r b k b k))
-  where
-    same : clash r b k b k ≡ false → (i : ℕ) → i < k →
-        (not (eqb (at p (suc i)) 0) && entryAt table (at p (suc i)) (suc i) b k)
-        ≡ (not (eqb (at p (suc i)) 0) && clash r b k (at p (suc i)) (suc i))
-    same alone i below =
-        ⊎-elim
-        (λ (nobody : at p (suc i) ≡ 0).
-        ap (λ (x : Bool). not x && entryAt table (at p (suc i)) (suc i) b k) (eq-eqb (at p (suc i)) 0 nobody)
-        ∙ sym (ap (λ (x : Bool). not x && clash r b k (at p (suc i)) (suc i)) (eq-eqb (at p (suc i)) 0 nobody)))
-        (λ (some : at p (suc i) ≡ 0 → ⊥).
-        ap (λ (x : Bool). not (eqb (at p (suc i)) 0) && x)
-        (t .pairs b k (at p (suc i)) (suc i) b-some b-most k-some k-most (omega arith) (small (suc i)) (omega arith) (omega arith)
-        (λ e. not-both (placed-at p b (suc i) (omega arith) (omega arith) (sym e)) unplaced)
-        (λ e. some (ap (at p) (sym e) ∙ k-empty))
-        alone (unbroken-alone r proper p s unbroken (suc i) some)))
-        (same-or-not (at p (suc i)) 0)

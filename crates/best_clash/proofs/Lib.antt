@@ -1,6 +1,6 @@
--- Why a page breaks a constraint exactly when two of its bidders do, what each store in the table marks, the words of a slot and of a
--- bidder, and who is barred on a page.
+-- Which bidders at which slots break a constraint together, and how the table tells it.
 pub mod ClashLaws
 pub mod MarkLaws
-pub mod WordLaws
-pub mod BarredLaws
+pub mod TableLaws
+pub mod RowLaws
+pub mod ShutLaws

@@ -1,21 +1,13 @@
--- What a store marks, how the marks of a loop add up, and why the marks of a constraint are the pairs that break it: on a page of two a
--- constraint is broken by one of them at its own slot, or by the owner and the other in one order or the other. Assumes nothing.
-use Prim.Native.Nat.{ℕ, zero, suc, _+_, _*_, _-_, _%_, _^_, _<_, _≤_}
-use borrow.Author.Tests.{eq-eqb, ne-eqb, eqb-true, le-leb, lt-leb, leb-true}
-use mathlib.Core.Bool.{Bool, true, false, _&&_, _||_, and-true, or-false}
-use mathlib.Core.List.{List}
+-- Why the marks of a constraint are the pairs that break it: on a page of two a constraint is broken by one of them at its own slot, or by the owner
+-- and the other in one order or the other. Assumes nothing.
+use Prim.Native.Nat.{ℕ, _<_, _≤_}
+use borrow.Author.Tests.{eq-eqb, eqb-true}
+use mathlib.Core.Bool.{Bool, true, false, _&&_, _||_, or-false}
 use mathlib.Core.Logic.{_⊎_, inl, inr, ⊎-elim}
 use mathlib.Core.Path.{_≡_, refl, sym, _∙_, ap, ap₂}
-use native.Mathlib.Nat.{not-suc-le-zero}
 use native.Mathlib.Omega.{arith}
-use lib.Bits.{bitOr}
-use lib.Dec.{eqb, leb}
-use lib.ListN.{length, getD, set}
-use lib.Seq.{getD-set-same, getD-set-other}
-use Rattle.basis.specs.Bits.{bitOf}
-use Rattle.basis.specs.Tests.{anyBelow}
-use Rattle.basis.proofs.BitLaws.{bit-or, bit-zero, bit-single}
-use Rattle.basis.proofs.TestLaws.{not-both, fails, same-tests, any-at, and-holds, and-parts, or-left, or-right, or-parts, any-same, or-assoc}
+use lib.Dec.{eqb}
+use Rattle.basis.proofs.TestLaws.{not-both, fails, same-tests, any-at, and-holds, and-parts, or-left, or-right, or-parts, any-same}
 use Rattle.sheet.specs.declared.Bidder.{Bidder}
 use Rattle.sheet.specs.declared.Slot.{Slot}
 use Rattle.sheet.specs.declared.Kind.{Kind}
@@ -27,10 +19,9 @@ use Rattle.auction.specs.Broken.{ownHolds, otherHolds, broken, breaks}
 use Rattle.sheet.specs.Round.{constraintAt}
 use Rattle.sheet.specs.Proper.{Proper, ProperRound}
 use Rattle.auction.proofs.PageLaws.{placed-at, placed-where}
-use Rattle.basis.proofs.NumberLaws.{same-or-not}
 use Rattle.auction.proofs.BrokenLaws.{broken-parts, parts-broken}
-use Rattle.best_clash.specs.EngineClash.{pairPage, clash, entryAt}
-use Rattle.best_clash.specs.EngineMarks.{Entry, Numbered, sameAt, bothAre, eitherWay, anywhere, among, pairBreaks, marks}
+use Rattle.best_clash.specs.EngineClash.{pairPage, clash}
+use Rattle.best_clash.specs.EngineMarks.{Entry, sameAt, bothAre, eitherWay, anywhere, among, pairBreaks, marks, someMarks}
 use Rattle.best_clash.proofs.ClashLaws.{second-here, first-here, only-two}
 
 same-at : (b k j l : ℕ) → b ≡ j → k ≡ l → sameAt b k j l ≡ true
@@ -52,173 +43,6 @@ entry-twice b k b-some b-most k-some k-most =
       some-l = k-some;
       most-l = k-most;
     }
-
--- the number of bidder b at slot k in the table
-abbrev numberOf : ℕ → ℕ → ℕ
-numberOf b k = 8 * (k - 1) + (b - 1)
-
-number-same : (x s u b k : ℕ) → 0 < x → x ≤ 8 → 0 < s → s ≤ 8 → u ≡ numberOf x s → 0 < b → b ≤ 8 → 0 < k → k ≤ 8 →
-    eqb (numberOf b k) u ≡ sameAt x s b k
-number-same x s u b k x-some x-most s-some s-most at-u b-some b-most k-some k-most =
-    same-tests (eqb (numberOf b k) u) (sameAt x s b k)
-    (λ e. let h = eqb-true (numberOf b k) u e in same-at x s b k (omega arith) (omega arith))
-    (λ e.
-    let same = at-same x s b k e in
-    let x-b : x ≡ b = same .0 in
-    let s-k : s ≡ k = same .1 in
-    eq-eqb (numberOf b k) u (omega arith))
-
--- an entry is a bit of a word, by the numbers of the two
-pub entry-bit : (table : List ℕ) (b k j l : ℕ) → 0 < b → 0 < k → 0 < j → 0 < l →
-    entryAt table b k j l ≡ bitOf (getD table (numberOf b k) 0) (numberOf j l)
-unfolding entryAt
-entry-bit table zero k j l b-some k-some j-some l-some = absurd (not-suc-le-zero b-some)
-entry-bit table (suc b) zero j l b-some k-some j-some l-some = absurd (not-suc-le-zero k-some)
-entry-bit table (suc b) (suc k) zero l b-some k-some j-some l-some = absurd (not-suc-le-zero j-some)
-entry-bit table (suc b) (suc k) (suc j) zero b-some k-some j-some l-some = absurd (not-suc-le-zero l-some)
-entry-bit table (suc b) (suc k) (suc j) (suc l) b-some k-some j-some l-some =
-    ap₂ (λ (m n : ℕ). bitOf (getD table m 0) n)
-    (let e : 8 * k + b ≡ numberOf (suc b) (suc k) = omega arith in e)
-    (let e : 8 * l + j ≡ numberOf (suc j) (suc l) = omega arith in e)
-
--- the word at u with bit v set
-abbrev withBit : List ℕ → ℕ → ℕ → ℕ
-withBit table u v = bitOr (getD table u 0) (1 * 2 ^ v % 2 ^ 64)
-
--- one store sets one bit of one word
-store-sets : (table : List ℕ) (u v n i : ℕ) → length table ≡ 64 → u < 64 → i < 64 →
-    bitOf (getD (set table u (withBit table u v)) n 0) i ≡ (bitOf (getD table n 0) i || (eqb n u && eqb i v))
-store-sets table u v n i size u-most i-most =
-    ⊎-elim
-    (λ (e : n ≡ u).
-    ap (λ (m : ℕ). bitOf m i)
-    (ap (λ (m : ℕ). getD (set table u (withBit table u v)) m 0) e ∙ getD-set-same table u (withBit table u v) 0 (omega arith))
-    ∙ bit-or (getD table u 0) (1 * 2 ^ v % 2 ^ 64) i
-    ∙ ap₂ _||_ (ap (λ (m : ℕ). bitOf (getD table m 0) i) (sym e))
-    (bit-single v 64 i i-most ∙ ap (λ (t : Bool). t && eqb i v) (sym (eq-eqb n u e))))
-    (λ (d : n ≡ u → ⊥).
-    ap (λ (m : ℕ). bitOf m i) (getD-set-other table u n (withBit table u v) 0 d)
-    ∙ sym
-    (ap (λ (t : Bool). bitOf (getD table n 0) i || (t && eqb i v)) (ne-eqb n u d)
-    ∙ or-false (bitOf (getD table n 0) i)))
-    (same-or-not n u)
-
--- and so marks one entry
-module _ (table : List ℕ) (x s y t u v : ℕ) (size : length table ≡ 64) (x-some : 0 < x) (x-most : x ≤ 8) (s-some : 0 < s) (s-most : s ≤ 8)
-    (y-some : 0 < y) (y-most : y ≤ 8) (t-some : 0 < t) (t-most : t ≤ 8) (at-u : u ≡ numberOf x s) (at-v : v ≡ numberOf y t) where
-  pub store-marks : (b k j l : ℕ) → Entry b k j l →
-      entryAt (set table u (withBit table u v)) b k j l ≡ (entryAt table b k j l || bothAre x s y t b k j l)
-  store-marks b k j l i =
-      entry-bit (set table u (withBit table u v)) b k j l (i .some-b) (i .some-k) (i .some-j) (i .some-l)
-      ∙ store-sets table u v (numberOf b k) (numberOf j l) size (omega arith) (omega arith)
-      ∙ ap₂ _||_ (sym (entry-bit table b k j l (i .some-b) (i .some-k) (i .some-j) (i .some-l)))
-      (ap₂ _&&_
-      (number-same x s u b k x-some x-most s-some s-most at-u (i .some-b) (i .most-b) (i .some-k) (i .most-k))
-      (number-same y t v j l y-some y-most t-some t-most at-v (i .some-j) (i .most-j) (i .some-l) (i .most-l)))
-
--- a bidder or a slot that the table does not have marks nothing
-pub first-left-out : (n x s y t b k j l : ℕ) (m : Bool) → Numbered x s n → 64 ≤ n → Entry b k j l → m ≡ (m || bothAre x s y t b k j l)
-first-left-out n x s y t b k j l m d past i =
-    sym
-    (ap (λ (z : Bool). m || z)
-    (fails (bothAre x s y t b k j l)
-    (λ f.
-    let one = at-same x s b k (and-parts (sameAt x s b k) (sameAt y t j l) f .0) in
-    let x-b : x ≡ b = one .0 in
-    let s-k : s ≡ k = one .1 in
-    d .left-out past (omega arith) (omega arith)))
-    ∙ or-false m)
-
-pub second-left-out : (n x s y t b k j l : ℕ) (m : Bool) → Numbered y t n → 64 ≤ n → Entry b k j l → m ≡ (m || bothAre x s y t b k j l)
-second-left-out n x s y t b k j l m d past i =
-    sym
-    (ap (λ (z : Bool). m || z)
-    (fails (bothAre x s y t b k j l)
-    (λ f.
-    let two = at-same y t j l (and-parts (sameAt x s b k) (sameAt y t j l) f .1) in
-    let y-j : y ≡ j = two .0 in
-    let t-l : t ≡ l = two .1 in
-    d .left-out past (omega arith) (omega arith)))
-    ∙ or-false m)
-
--- 1 to n and the next one
-below-or-next : (k n : ℕ) → (leb k n || eqb (n + 1) k) ≡ leb k (n + 1)
-below-or-next k n =
-    same-tests (leb k n || eqb (n + 1) k) (leb k (n + 1))
-    (λ e.
-    ⊎-elim
-    (λ (t : leb k n ≡ true). le-leb k (n + 1) (let h = leb-true k n t in omega arith))
-    (λ (t : eqb (n + 1) k ≡ true). le-leb k (n + 1) (let h = eqb-true (n + 1) k t in omega arith))
-    (or-parts (leb k n) (eqb (n + 1) k) e))
-    (λ e.
-    ⊎-elim
-    (λ (t : n + 1 ≡ k). or-right (leb k n) (eq-eqb (n + 1) k t))
-    (λ (t : n + 1 ≡ k → ⊥). or-left (eqb (n + 1) k) (le-leb k n (let h = leb-true k (n + 1) e in omega arith)))
-    (same-or-not (n + 1) k))
-
--- two either-or tests of one shape are one
-or-crossed : (a b c d : Bool) → ((a || b) || (c || d)) ≡ ((a || c) || (b || d))
-or-crossed true b c d = refl
-or-crossed false true true d = refl
-or-crossed false false true d = refl
-or-crossed false true false d = refl
-or-crossed false false false d = refl
-
-joined-left : (a u v s : Bool) → (((a && u) && s) || ((a && v) && s)) ≡ ((a && (u || v)) && s)
-joined-left true true v true = refl
-joined-left true true true false = refl
-joined-left true true false false = refl
-joined-left true false v s = refl
-joined-left false u v s = refl
-
-joined-right : (s a u v : Bool) → ((s && (a && u)) || (s && (a && v))) ≡ (s && (a && (u || v)))
-joined-right true true u v = refl
-joined-right true false u v = refl
-joined-right false a u v = refl
-
-joined : (a s s′ a′ u v u′ v′ : Bool) →
-    ((((a && u) && s) || (s′ && (a′ && u′))) || (((a && v) && s) || (s′ && (a′ && v′))))
-    ≡ (((a && (u || v)) && s) || (s′ && (a′ && (u′ || v′))))
-joined a s s′ a′ u v u′ v′ =
-    or-crossed ((a && u) && s) (s′ && (a′ && u′)) ((a && v) && s) (s′ && (a′ && v′))
-    ∙ ap₂ _||_ (joined-left a u v s) (joined-right s′ a′ u′ v′)
-
-none-joined : (a s s′ a′ : Bool) → (((a && false) && s) || (s′ && (a′ && false))) ≡ false
-none-joined true s true true = refl
-none-joined true s true false = refl
-none-joined true s false a′ = refl
-none-joined false s true true = refl
-none-joined false s true false = refl
-none-joined false s false a′ = refl
-
--- bidder x at slots 1 to n and y at t: none at first, one slot more with each turn, and any slot at the end
-unfoldable pub someSlots : ℕ → ℕ → ℕ → ℕ → ℕ → ℕ → ℕ → ℕ → Bool
-someSlots x y t n b k j l = ((eqb x b && leb k n) && sameAt y t j l) || (sameAt y t b k && (eqb x j && leb l n))
-
-pub no-slots : (m : Bool) (x y t b k j l : ℕ) → Entry b k j l → m ≡ (m || someSlots x y t 0 b k j l)
-unfolding someSlots
-no-slots m x y t b k j l i =
-    sym
-    (ap₂ (λ (u v : Bool). m || (((eqb x b && u) && sameAt y t j l) || (sameAt y t b k && (eqb x j && v)))) (lt-leb k 0 (i .some-k)) (lt-leb l 0 (i .some-l))
-    ∙ ap (λ (z : Bool). m || z) (none-joined (eqb x b) (sameAt y t j l) (sameAt y t b k) (eqb x j))
-    ∙ or-false m)
-
-pub slot-more : (m before after : Bool) (x y t n b k j l : ℕ) → after ≡ (before || eitherWay x (n + 1) y t b k j l) →
-    before ≡ (m || someSlots x y t n b k j l) → after ≡ (m || someSlots x y t (n + 1) b k j l)
-unfolding someSlots
-slot-more m before after x y t n b k j l now was =
-    now
-    ∙ ap (λ (z : Bool). z || eitherWay x (n + 1) y t b k j l) was
-    ∙ or-assoc m (someSlots x y t n b k j l) (eitherWay x (n + 1) y t b k j l)
-    ∙ ap (λ (z : Bool). m || z)
-    (joined (eqb x b) (sameAt y t j l) (sameAt y t b k) (eqb x j) (leb k n) (eqb (n + 1) k) (leb l n) (eqb (n + 1) l)
-    ∙ ap₂ (λ (u v : Bool). ((eqb x b && u) && sameAt y t j l) || (sameAt y t b k && (eqb x j && v))) (below-or-next k n) (below-or-next l n))
-
-pub every-slot : (m : Bool) (x y t n b k j l : ℕ) → Entry b k j l → 8 ≤ n → (m || someSlots x y t n b k j l) ≡ (m || anywhere x y t b k j l)
-unfolding someSlots
-every-slot m x y t n b k j l i h =
-    ap₂ (λ (u v : Bool). m || (((eqb x b && u) && sameAt y t j l) || (sameAt y t b k && (eqb x j && v)))) (le-leb k n (omega arith)) (le-leb l n (omega arith))
-    ∙ ap₂ (λ (u v : Bool). m || ((u && sameAt y t j l) || (sameAt y t b k && v))) (and-true (eqb x b)) (and-true (eqb x j))
 
 -- A page with b at k and j at l, and nobody else, breaks a constraint exactly when the pair breaks it.
 module _ (p : Page) (b k j l : ℕ) (k-some : 0 < k) (k-most : k ≤ 16) (l-some : 0 < l) (l-most : l ≤ 16) (first : at p k ≡ b) (second : at p l ≡ j)
@@ -333,23 +157,6 @@ module _ (p : Page) (b k j l : ℕ) (k-some : 0 < k) (k-most : k ≤ 16) (l-some
       same-tests (pairBreaks kind (owner .0) b k j l) (broken p (record { owner = owner; kind = kind }))
       (told-broken owner kind q) (broken-told owner kind q)
 
--- some constraint among the first n marks the entry
-unfoldable pub someMarks : Round → ℕ → ℕ → ℕ → ℕ → ℕ → Bool
-someMarks r n b k j l = anyBelow (λ i. marks (constraintAt r i .kind) (constraintAt r i .owner .0) b k j l) n
-
-pub no-marks : (r : Round) (table : List ℕ) (b k j l : ℕ) → ((i : ℕ) → getD table i 0 ≡ 0) → entryAt table b k j l ≡ someMarks r 0 b k j l
-unfolding someMarks anyBelow entryAt
-no-marks r table zero k j l z = refl
-no-marks r table (suc b) zero j l z = refl
-no-marks r table (suc b) (suc k) zero l z = refl
-no-marks r table (suc b) (suc k) (suc j) zero z = refl
-no-marks r table (suc b) (suc k) (suc j) (suc l) z = ap (λ (n : ℕ). bitOf n (8 * l + j)) (z (8 * k + b)) ∙ bit-zero (8 * l + j)
-
-pub marks-more : (r : Round) (n b k j l : ℕ) →
-    (someMarks r n b k j l || marks (constraintAt r n .kind) (constraintAt r n .owner .0) b k j l) ≡ someMarks r (suc n) b k j l
-unfolding someMarks anyBelow
-marks-more r n b k j l = refl
-
 -- A constraint that a pair breaks marks the pair, or one of the two alone.
 own-split : (x y : Bool) → (y || x) ≡ ((x && y) || ((x && x) || (y && y)))
 own-split true true = refl
@@ -361,7 +168,7 @@ nothing-more : (x y z : Bool) → y ≡ false → z ≡ false → x ≡ (x || (y
 nothing-more x y z e f = sym (ap₂ (λ (v w : Bool). x || (v || w)) e f ∙ or-false x)
 
 module _ (owner : Bidder) where
-  other-not-alone : (i : Bidder) (m : Slot) → Proper (record { owner = owner; kind = OtherSlot i m }) → (b k : ℕ) →
+  pub other-not-alone : (i : Bidder) (m : Slot) → Proper (record { owner = owner; kind = OtherSlot i m }) → (b k : ℕ) →
       anywhere (owner .0) (i .0) (m .0) b k b k ≡ false
   other-not-alone i m q b k =
       fails (anywhere (owner .0) (i .0) (m .0) b k b k)
@@ -375,7 +182,7 @@ module _ (owner : Bidder) where
       q .parts .1 (at-same (i .0) (m .0) b k (both .0) .0 ∙ sym (eqb-true (owner .0) b (both .1))))
       (or-parts (eqb (owner .0) b && sameAt (i .0) (m .0) b k) (sameAt (i .0) (m .0) b k && eqb (owner .0) b) e))
 
-  pair-not-alone : (s : Slot) (i : Bidder) (m : Slot) → Proper (record { owner = owner; kind = Pair s i m }) → (b k : ℕ) →
+  pub pair-not-alone : (s : Slot) (i : Bidder) (m : Slot) → Proper (record { owner = owner; kind = Pair s i m }) → (b k : ℕ) →
       eitherWay (owner .0) (s .0) (i .0) (m .0) b k b k ≡ false
   pair-not-alone s i m q b k =
       fails (eitherWay (owner .0) (s .0) (i .0) (m .0) b k b k)

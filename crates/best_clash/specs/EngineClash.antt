@@ -1,17 +1,18 @@
 -- The engine's own: nothing here need be believed.
 -- Each constraint concerns at most two bidders, so a page breaks one exactly when two of its bidders, or one alone, do.
-use Prim.Native.Nat.{ℕ, zero, suc, _+_, _*_, _-_, _<_, _≤_}
-use mathlib.Core.Bool.{Bool, false, not, _&&_, _||_}
+use Prim.Native.Nat.{ℕ, suc, _+_, _*_, _-_, _^_, _<_, _≤_}
+use mathlib.Core.Bool.{Bool, not, _&&_, _||_}
 use mathlib.Core.List.{List}
 use mathlib.Core.Path.{_≡_}
-use lib.Dec.{eqb}
-use lib.ListN.{length, getD}
+use lib.Dec.{eqb, ltb}
+use lib.ListN.{getD}
 use Rattle.basis.specs.Bits.{bitOf}
 use Rattle.basis.specs.Tests.{anyBelow}
 use Rattle.sheet.specs.declared.Page.{Page}
 use Rattle.sheet.specs.declared.Round.{Round}
-use Rattle.auction.specs.Page.{at, put, emptyPage, placed, Sized}
+use Rattle.auction.specs.Page.{at, put, emptyPage, placed}
 use Rattle.auction.specs.Broken.{breaks}
+use Rattle.best_clash.specs.EngineMarks.{someMarks}
 
 -- the page with bidder b at slot k and bidder j at slot l, and nobody else
 unfoldable pub pairPage : ℕ → ℕ → ℕ → ℕ → Page
@@ -26,33 +27,27 @@ unfoldable pub clashes : Round → Page → ℕ → ℕ → Bool
 clashes r p k b =
     clash r b k b k || anyBelow (λ i. not (eqb (at p (suc i)) 0) && clash r b k (at p (suc i)) (suc i)) k
 
--- the entry of a pair in the table: a word for each bidder at a slot, 8 bidders a slot, and in it a bit for each, in the same order
-unfoldable pub entryAt : List ℕ → ℕ → ℕ → ℕ → ℕ → Bool
-entryAt table (suc b) (suc k) (suc j) (suc l) = bitOf (getD table (8 * k + b) 0) (8 * l + j)
-entryAt table zero k j l = false
-entryAt table (suc b) zero j l = false
-entryAt table (suc b) (suc k) zero l = false
-entryAt table (suc b) (suc k) (suc j) zero = false
+-- bidder b may stand at slot k of the page, where nobody stands yet: it has no slot, and breaks nothing there
+unfoldable pub mayStand : Round → Page → ℕ → ℕ → Bool
+mayStand r p k b = not (placed p b) && not (breaks r (put p k b))
 
--- the same by the table's entries: b's own, and those in the rows of who stands on the page
-unfoldable pub clashesIn : List ℕ → Page → ℕ → ℕ → Bool
-clashesIn table p k b =
-    entryAt table b k b k
-    || anyBelow (λ i. not (eqb (at p (suc i)) 0) && entryAt table (at p (suc i)) (suc i) b k) k
+-- the word tells, for the slots after the first k and the first eight ranks, who may stand there: the bidders of the ranks below n may or may not, and
+-- no other rank and no slot after the last has a bit
+pub record FreeFor (r : Round) (ranked : List ℕ) (p : Page) (k free : ℕ) : Type 0 where
+  pub low : free < 2 ^ (8 * (r .slots - k))
+  pub told : (l i : ℕ) → k + l < r .slots → i < 8 →
+      bitOf free (8 * l + i) ≡ (ltb i (r .bidders) && mayStand r p (suc (k + l)) (getD ranked i 0))
 
--- the table tells who breaks a constraint alone, and of different bidders at different slots, neither of whom does, which two clash
-pub record TableOf (r : Round) (table : List ℕ) : Type 0 where
-  pub size : length table ≡ 64
-  pub alone : (b k : ℕ) → 0 < b → b ≤ 8 → 0 < k → k ≤ 8 → entryAt table b k b k ≡ clash r b k b k
-  pub pairs : (b k j l : ℕ) → 0 < b → b ≤ 8 → 0 < k → k ≤ 8 → 0 < j → j ≤ 8 → 0 < l → l ≤ 8 → (b ≡ j → ⊥) → (k ≡ l → ⊥) →
-      clash r b k b k ≡ false → clash r j l j l ≡ false → entryAt table j l b k ≡ clash r b k j l
+-- the list by bidder number tells each bidder's rank in the list by rank
+pub record RanksOf (n : ℕ) (ranked ranks : List ℕ) : Type 0 where
+  pub named : (i : ℕ) → i < n → (0 < getD ranked i 0) × (getD ranked i 0 ≤ n)
+  pub back : (i : ℕ) → i < n → getD ranks (getD ranked i 0) 0 ≡ i
+  pub low : (b : ℕ) → 0 < b → b ≤ n → getD ranks b 0 < n
+  pub there : (b : ℕ) → 0 < b → b ≤ n → getD ranked (getD ranks b 0) 0 ≡ b
 
--- the bits of a word, 8 bidders a slot, tell for each bidder and each slot after k whether the bidder is barred from it: it has a slot,
--- or clashes there, by the table, with itself or with anybody on the page
-pub record BarredBy (table : List ℕ) (p : Page) (k : ℕ) (barred : ℕ) : Type 0 where
-  pub told : (b l : ℕ) → 0 < b → b ≤ 8 → k < l → l ≤ 8 → bitOf barred (8 * (l - 1) + (b - 1)) ≡ (placed p b || clashesIn table p l b)
-
--- this word tells it, with bidder b or nobody at the next slot, of any page of which that one did
-abbrev pub BarredAlso : (table : List ℕ) (barred k b more : ℕ) → Type 0
-BarredAlso table barred k b more =
-    (p : Page) → Sized p → at p (suc k) ≡ 0 → BarredBy table p k barred → BarredBy table (put p (suc k) b) (suc k) more
+-- what the words by seat tell of a later slot: the rank that stands is shut, and whose constraints, or the other's, the two would break
+abbrev pub ShutOf : Round → (ranked shut : List ℕ) → Type 0
+ShutOf r ranked shut =
+    (k l i j : ℕ) → k < l → l < 8 → i < r .bidders → j < r .bidders →
+    bitOf (getD shut (8 * k + i) 0) (8 * (l - k) + j)
+    ≡ (someMarks r (r .used) (getD ranked i 0) (suc k) (getD ranked j 0) (suc l) || eqb j i)

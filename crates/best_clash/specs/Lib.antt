@@ -1,2 +1,2 @@
-pub mod EngineClash
 pub mod EngineMarks
+pub mod EngineClash

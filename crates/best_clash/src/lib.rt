@@ -1,149 +1,177 @@
-// Which two bidders at which two slots break a constraint: a table of 64 × 64 bits for rounds of up to 8 bidders and 8 slots.
-ghost use mathlib.Core.Bool.{_&&_, _||_};
+// What each choice of the best-page search shuts, by seat: a table made of the constraints of a round of up to 8 bidders and 8 slots.
+ghost use mathlib.Core.Bool.{not, _&&_, _||_};
 ghost use mathlib.Core.Path.{_≡_};
-ghost use Prim.Native.Nat.{ℕ, suc, _+_, _*_, _%_, _<_, _≤_};
-ghost use lib.Dec.{eqb, leb, ltb};
+ghost use Prim.Native.Nat.{ℕ, _+_, _-_, _*_, _%_, _^_, _<_, _≤_};
+ghost use lib.Dec.{eqb, ltb};
 ghost use lib.ListN.{length, getD};
 ghost use Rattle.basis.specs.Bits.{bitOf};
-ghost use Rattle.auction.specs.Page.{emptyPage};
-ghost use Rattle.sheet.specs.Proper.{Proper};
 ghost use Rattle.sheet.specs.Refusal.{Accepted};
 ghost use Rattle.sheet.specs.Round.{roundOf};
 ghost use Rattle.sheet.specs.Sheet.{bidderCount, slotCount};
-ghost use Rattle.best_clash.specs.EngineClash.{entryAt, TableOf, BarredBy, BarredAlso};
-ghost use Rattle.best_clash.specs.EngineMarks.{Entry, Numbered, bothAre, eitherWay, anywhere, marks};
+ghost use Rattle.best_clash.specs.EngineMarks.{seatOf, Small, shuts, FilledBy, WordsOf, LeftBy};
+use best_seats::Rank;
+use best_seats::Seat;
+use best_seats::Seats;
 use sheet::Bidder;
 use sheet::Constraint;
 use sheet::Kind;
 use sheet::Slot;
 
-// The number of a bidder at a slot in the table, 64 where the table has no such bidder or slot.
-fn number(bidder: Bidder, slot: Slot) -> usize
-    requires { ⌜ (0 < bidder .0) × (0 < slot .0) ⌝ }
-    ensures { λ r. ⌜ Numbered (bidder .0) (slot .0) r ⌝ }
+// A line of the table: what is shut once a seat is taken, 0 to 63; from the start, 64; and once a rank stands at any slot, 65 to 72.
+struct Line(u8);
+
+// A bidder's rank.
+pub fn rank_of(ranks: &[u8; 16], bidder: Bidder) -> Rank
+    requires { ⌜ bidder .0 < 16 ⌝ }
+    ensures { λ r. ⌜ r .0 ≡ getD (now (ranks .entry)) (bidder .0) 0 ⌝ }
 {
-    if bidder.0 > 8 {
-        return 64;
-    }
-    if slot.0 > 8 {
-        return 64;
-    }
-    8 * (slot.0 as usize - 1) + (bidder.0 as usize - 1)
+    Rank(ranks[bidder.0 as usize])
 }
 
-// The entry of one bidder at its slot and another at its slot is marked, if the table has it.
-fn mark(table: &mut [u64], bidder: Bidder, slot: Slot, other: Bidder, others: Slot)
-    requires { ⌜ (length (now table) ≡ 64) × (0 < bidder .0) × (0 < slot .0) × (0 < other .0) × (0 < others .0) ⌝ }
-    ensures { λ r. ⌜ ((b k j l : ℕ) → Entry b k j l → entryAt (now (table .exit)) b k j l ≡ (entryAt (now (table .entry)) b k j l || bothAre (bidder .0) (slot .0) (other .0) (others .0) b k j l)) ⌝ }
+// The seat of a bidder at a slot.
+fn seat_of(ranks: &[u8; 16], bidder: Bidder, slot: Slot) -> Seat
+    requires { ⌜ (bidder .0 < 16) × ((b : ℕ) → getD (now ranks) b 0 < 8) × (0 < slot .0) × (slot .0 ≤ 8) ⌝ }
+    ensures { λ r. ⌜ (r .0 ≡ seatOf (now (ranks .entry)) (bidder .0) (slot .0)) × (r .0 < 64) ⌝ }
 {
-    let x = number(bidder, slot);
-    let y = number(other, others);
-    if x >= 64 {
-        return;
-    }
-    if y >= 64 {
-        return;
-    }
-    table[x] = table[x] | (1u64 << y);
+    best_seats::seat_at(slot, rank_of(ranks, bidder))
 }
 
-// The same in both orders.
-fn mark_both(table: &mut [u64], bidder: Bidder, slot: Slot, other: Bidder, others: Slot)
-    requires { ⌜ (length (now table) ≡ 64) × (0 < bidder .0) × (0 < slot .0) × (0 < other .0) × (0 < others .0) ⌝ }
-    ensures { λ r. ⌜ ((b k j l : ℕ) → Entry b k j l → entryAt (now (table .exit)) b k j l ≡ (entryAt (now (table .entry)) b k j l || eitherWay (bidder .0) (slot .0) (other .0) (others .0) b k j l)) ⌝ }
+// The line of a seat.
+fn once_at(seat: Seat) -> Line
+    ensures { λ r. ⌜ r .0 ≡ seat .0 ⌝ }
 {
-    mark(table, bidder, slot, other, others);
-    mark(table, other, others, bidder, slot);
+    Line(seat.0)
 }
 
-// One bidder at any slot, and another at its slot.
-fn mark_anywhere(table: &mut [u64], bidder: Bidder, other: Bidder, others: Slot)
-    requires { ⌜ (length (now table) ≡ 64) × (0 < bidder .0) × (0 < other .0) × (0 < others .0) ⌝ }
-    ensures { λ r. ⌜ ((b k j l : ℕ) → Entry b k j l → entryAt (now (table .exit)) b k j l ≡ (entryAt (now (table .entry)) b k j l || anywhere (bidder .0) (other .0) (others .0) b k j l)) ⌝ }
+// The line of what is shut from the start.
+fn always() -> Line
+    ensures { λ r. ⌜ r .0 ≡ 64 ⌝ }
 {
-    let mut n: u8 = 0;
-    while n < 8 {
-        mark_both(table, bidder, Slot(n + 1), other, others);
-        n += 1;
-    }
+    Line(64)
 }
 
-// Who breaks one constraint alone, and every pair that breaks it.
-fn mark_constraint(table: &mut [u64], constraint: Constraint)
-    requires { ⌜ (length (now table) ≡ 64) × Proper constraint ⌝ }
-    ensures { λ r. ⌜ ((b k j l : ℕ) → Entry b k j l → entryAt (now (table .exit)) b k j l ≡ (entryAt (now (table .entry)) b k j l || marks (constraint .kind) (constraint .owner .0) b k j l)) ⌝ }
+// The line of a rank at any slot.
+fn once_anywhere(rank: Rank) -> Line
+    requires { ⌜ rank .0 < 8 ⌝ }
+    ensures { λ r. ⌜ r .0 ≡ 65 + rank .0 ⌝ }
+{
+    Line(65 + rank.0)
+}
+
+// Seats are shut in a line of the table.
+fn mark(table: &mut [u64; 73], line: Line, shut: Seats)
+    requires { ⌜ (length (now table) ≡ 73) × (line .0 < 73) ⌝ }
+    ensures { λ r. ⌜ (length (now (table .exit)) ≡ 73) × ((x y : ℕ) → y < 64 → bitOf (getD (now (table .exit)) x 0) y ≡ (bitOf (getD (now (table .entry)) x 0) y || (eqb x (line .0) && bitOf (shut .0) y))) ⌝ }
+{
+    let at = line.0 as usize;
+    table[at] = table[at] | shut.0;
+}
+
+// What one constraint shuts: its owner's seat from the start; or the owner everywhere once the other has its seat, and that seat once the owner
+// stands anywhere; or of two seats each once the other is taken.
+fn mark_constraint(table: &mut [u64; 73], ranks: &[u8; 16], constraint: Constraint)
+    requires { ⌜ (length (now table) ≡ 73) × Small constraint × ((b : ℕ) → getD (now ranks) b 0 < 8) ⌝ }
+    ensures { λ r. ⌜ (length (now (table .exit)) ≡ 73) × ((x y : ℕ) → y < 64 → bitOf (getD (now (table .exit)) x 0) y ≡ (bitOf (getD (now (table .entry)) x 0) y || shuts (now (ranks .entry)) (constraint .kind) (constraint .owner .0) x y)) ⌝ }
 {
     let owner = constraint.owner;
     let kind = constraint.kind;
     match kind {
         Kind::OwnSlot(slot) => {
-            mark(table, owner, slot, owner, slot);
+            let own = seat_of(ranks, owner, slot);
+            mark(table, always(), best_seats::only(own));
         }
         Kind::OtherSlot(other, others) => {
-            mark_anywhere(table, owner, other, others);
+            let rank = rank_of(ranks, owner);
+            let seat = seat_of(ranks, other, others);
+            mark(table, once_at(seat), best_seats::everywhere(rank));
+            mark(table, once_anywhere(rank), best_seats::only(seat));
         }
         Kind::Pair(slot, other, others) => {
-            mark_both(table, owner, slot, other, others);
+            let own = seat_of(ranks, owner, slot);
+            let seat = seat_of(ranks, other, others);
+            mark(table, once_at(seat), best_seats::only(own));
+            mark(table, once_at(own), best_seats::only(seat));
         }
     }
 }
 
-// The table of an accepted sheet's round, in a lent slice of 64 words of 0. The constraints are read one by one.
-pub fn fill_table(table: &mut [u64], sheet: &[u8])
-    requires { ⌜ (length (now table) ≡ 64) × ((i : ℕ) → getD (now table) i 0 ≡ 0) ⌝ }
+// What all constraints of an accepted sheet shut, in a table of 0. They are read one by one.
+pub fn fill_table(table: &mut [u64; 73], ranks: &[u8; 16], sheet: &[u8])
+    requires { ⌜ (length (now table) ≡ 73) × ((x : ℕ) → getD (now table) x 0 ≡ 0) × ((b : ℕ) → getD (now ranks) b 0 < 8) ⌝ }
     requires { ⌜ Accepted (now sheet) × (bidderCount (now sheet) ≤ 8) × (slotCount (now sheet) ≤ 8) ⌝ }
-    ensures { λ r. ⌜ TableOf (roundOf (now (sheet .entry))) (now (table .exit)) ⌝ }
+    ensures { λ r. ⌜ FilledBy (now (ranks .entry)) (roundOf (now (sheet .entry))) (now (table .exit)) ⌝ }
 {
     let used = sheet_read::constraint_count(sheet);
     let start = sheet_read::constraints_start(sheet);
     let mut i = 0;
     while i < used {
-        mark_constraint(table, sheet_read::constraint_at(sheet, start, i));
+        mark_constraint(table, ranks, sheet_read::constraint_at(sheet, start, i));
         i += 1;
     }
 }
 
-// Who is barred on an empty page: who breaks a constraint alone.
-pub fn first_barred(table: &[u64]) -> u64
-    requires { ⌜ length (now table) ≡ 64 ⌝ }
-    ensures { λ r. ⌜ BarredBy (now (table .entry)) emptyPage 0 r ⌝ }
+// All that a seat shuts once it is taken: what its line tells, what its rank's line tells, and the rank's own other seats. The slot's own byte comes
+// first and those of the slots above are gone, as in what is free when the slot is the next.
+fn shut_at(table: &[u64; 73], slot: Slot, rank: Rank) -> Seats
+    requires { ⌜ (0 < slot .0) × (slot .0 ≤ 8) × (rank .0 < 8) ⌝ }
+    ensures { λ r. ⌜ ((z : ℕ) → 8 * (slot .0 - 1) + z < 64 → bitOf (r .0) z ≡ ((bitOf (getD (now (table .entry)) (8 * (slot .0 - 1) + rank .0) 0) (8 * (slot .0 - 1) + z) || bitOf (getD (now (table .entry)) (65 + rank .0) 0) (8 * (slot .0 - 1) + z)) || eqb (z % 8) (rank .0))) ⌝ }
 {
-    let mut barred: u64 = 0;
-    let mut x: usize = 0;
-    while x < 64 {
-        barred = barred | (table[x] & (1u64 << x));
-        x += 1;
+    let line = once_at(best_seats::seat_at(slot, rank));
+    let anywhere = once_anywhere(rank);
+    let own = best_seats::everywhere(rank);
+    let above = 8 * (slot.0 - 1);
+    let all = table[line.0 as usize] | table[anywhere.0 as usize] | own.0;
+    let rest = all >> above;
+    Seats(rest)
+}
+
+// The same for every seat.
+pub fn shut_words(table: &[u64; 73]) -> [u64; 64]
+    ensures { λ r. ⌜ WordsOf (now (table .entry)) r ⌝ }
+{
+    let mut shut = [0u64; 64];
+    let mut slot = Slot(1);
+    while slot.0 <= 8 {
+        let mut rank = Rank(0);
+        while rank.0 < 8 {
+            let seat = best_seats::seat_at(slot, rank);
+            let all = shut_at(table, slot, rank);
+            shut[seat.0 as usize] = all.0;
+            rank = best_seats::next_rank(rank);
+        }
+        slot = best_seats::next_slot(slot);
     }
-    barred
+    shut
 }
 
-// Everybody at the slot with this index.
-fn at_slot(index: usize) -> u64
-    requires { ⌜ index < 8 ⌝ }
-    ensures { λ r. ⌜ ((i : ℕ) → i < 64 → bitOf r i ≡ (leb (8 * index) i && ltb i (8 * index + 8))) ⌝ }
+// What a seat shuts once it is taken.
+pub fn shut_by(shut: &[u64; 64], seat: Seat) -> Seats
+    requires { ⌜ seat .0 < 64 ⌝ }
+    ensures { λ r. ⌜ r .0 ≡ getD (now (shut .entry)) (seat .0) 0 ⌝ }
 {
-    255u64 << (8 * index)
+    Seats(shut[seat.0 as usize])
 }
 
-// The bidder with this index at every slot.
-fn everywhere(index: usize) -> u64
-    requires { ⌜ index < 8 ⌝ }
-    ensures { λ r. ⌜ ((i : ℕ) → i < 64 → bitOf r i ≡ eqb (i % 8) index) ⌝ }
+// The seats of a round's bidders and slots.
+fn all_seats(bidders: usize, slots: usize) -> Seats
+    requires { ⌜ (bidders ≤ 8) × (slots ≤ 8) ⌝ }
+    ensures { λ r. ⌜ (r .0 < 2 ^ (8 * slots)) × ((l i : ℕ) → l < 8 → i < 8 → bitOf (r .0) (8 * l + i) ≡ (ltb l slots && ltb i bidders)) ⌝ }
 {
-    0x0101_0101_0101_0101u64 << index
-}
-
-// Who is barred with a bidder, or nobody, at the next slot too: the slot is settled, the bidder has it, and its word of the table tells
-// with whom it clashes.
-pub fn also_barred(table: &[u64], barred: u64, slot: Slot, bidder: Bidder) -> u64
-    requires { ⌜ (length (now table) ≡ 64) × ((0 < slot .0) × (slot .0 ≤ 8)) × (bidder .0 ≤ 8) ⌝ }
-    ensures { λ r. ⌜ ((k : ℕ) → suc k ≡ slot .0 → BarredAlso (now (table .entry)) barred k (bidder .0) r) ⌝ }
-{
-    let slot_index = slot.0 as usize - 1;
-    let settled = barred | at_slot(slot_index);
-    if bidder.0 == 0 {
-        return settled;
+    let row = (1u64 << bidders) - 1;
+    let mut all: u64 = 0;
+    let mut slot = Slot(1);
+    while slot.0 as usize <= slots {
+        all = all | (row << (8 * (slot.0 - 1)));
+        slot = best_seats::next_slot(slot);
     }
-    let index = bidder.0 as usize - 1;
-    settled | table[8 * slot_index + index] | everywhere(index)
+    Seats(all)
+}
+
+// What is free on an empty page.
+pub fn first_free(table: &[u64; 73], bidders: usize, slots: usize) -> Seats
+    requires { ⌜ (bidders ≤ 8) × (slots ≤ 8) ⌝ }
+    ensures { λ r. ⌜ LeftBy (now (table .entry)) bidders slots (r .0) ⌝ }
+{
+    let line = always();
+    best_seats::without(all_seats(bidders, slots), Seats(table[line.0 as usize]))
 }

@@ -59,13 +59,12 @@ module _ (s out : List ℕ) (ok : Accepted s) where
   unrefused m n room =
       by-bounds 0 (sym (simp (le-ltb 8 (bidderCount s) m, le-ltb 8 (slotCount s) n, le-ltb (length out) (slotCount s) room)))
 
-  pub best-given : (r : Round) (p : Page) (need : ℕ) (out′ : List ℕ) → bidderCount s ≤ 8 → slotCount s ≤ 8 → slotCount s ≤ length out →
-      r ≡ roundOf s → p ≡ bestPage r → need ≡ suc (total r p) → out′ ≡ row (λ k. at p (suc k)) (r .slots) ++ drop (r .slots) out →
-      BestGiven s out (record { refusal = 0; total = need - 1 }) out′
+  pub best-given : (r : Round) (p : Page) (sum : ℕ) (out′ : List ℕ) → bidderCount s ≤ 8 → slotCount s ≤ 8 → slotCount s ≤ length out →
+      r ≡ roundOf s → p ≡ bestPage r → sum ≡ total r p → out′ ≡ row (λ k. at p (suc k)) (r .slots) ++ drop (r .slots) out →
+      BestGiven s out (record { refusal = 0; total = sum }) out′
   unfolding chosenFor bestBuffer
-  best-given r p need out′ m n room same best one e =
+  best-given r p sum out′ m n room same best own e =
       let number = unrefused m n room in
-      let own : need - 1 ≡ total r p = omega arith in
       record {
         returned =
             (λ j. record { refusal = 0; total = (own ∙ ap (total r) best ∙ ap (λ (x : Round). total x (bestPage x)) same) j })

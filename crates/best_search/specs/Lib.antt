@@ -1,2 +1,2 @@
-pub mod EngineNode
+pub mod EngineFound
 pub mod Call

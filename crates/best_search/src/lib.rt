@@ -1,6 +1,7 @@
-// The best page of a round of up to 8 bidders and 8 slots.
+// The best page of a round of up to 8 bidders and 8 slots, in two searches: the first finds the largest total, the second the first page in dictionary
+// order that has it. Both go over what is free, by rank and slot, in words.
 ghost use mathlib.Core.Path.{_≡_};
-ghost use Prim.Native.Nat.{ℕ, suc, _<_, _≤_, _+_, _*_};
+ghost use Prim.Native.Nat.{ℕ, suc, _+_, _-_, _*_, _^_, _<_, _≤_};
 ghost use lib.ListN.{length, getD};
 ghost use mathlib.Core.List.{_++_};
 ghost use lib.ListN.{drop};
@@ -8,24 +9,28 @@ ghost use Rattle.basis.specs.Rows.{row};
 ghost use Rattle.sheet.specs.Refusal.{Accepted};
 ghost use Rattle.sheet.specs.Round.{roundOf};
 ghost use Rattle.sheet.specs.Sheet.{bidderCount, slotCount};
-ghost use Rattle.best_page.specs.Best.{Best};
 ghost use Rattle.auction.specs.Allowed.{total};
+ghost use Rattle.auction.specs.Page.{at};
+ghost use Rattle.best_page.specs.Best.{Best};
+ghost use Rattle.best_clash.specs.EngineClash.{RanksOf};
 ghost use Rattle.best_search.specs.Call.{BestGiven};
-ghost use Rattle.choice.specs.EngineBids.{bidIn};
-ghost use Rattle.auction.specs.Page.{at, Sized};
-ghost use Rattle.best_bound.specs.EngineBound.{nth};
-ghost use Rattle.best_clash.specs.EngineClash.{BarredBy};
-ghost use Rattle.best_search.specs.EngineNode.{openTo, Lent, Leads, Attempt, Raised};
-use best_page::Answer;
+ghost use Rattle.best_search.specs.EngineFound.{Raised, Sought};
+use best_seats::Rank;
+use best_seats::Seats;
 use sheet::Bidder;
 use sheet::Page;
 use sheet::Slot;
 
-// What a choice at a slot leads to: a word of who is barred then, 8 bidders a slot, what is had then, and the most that can be had.
-pub struct Prospect {
-    pub barred: u64,
-    pub had: u64,
-    pub most: u64,
+// What the second search gives: whether there is a page with the total, and the first of them.
+pub struct Found {
+    pub found: bool,
+    pub page: Page,
+}
+
+// The best page and its total.
+pub struct BestFound {
+    pub page: Page,
+    pub total: u64,
 }
 
 // The call's answer: a refusal's number, or 0 and the best page's total.
@@ -34,211 +39,155 @@ pub struct Chosen {
     pub total: u64,
 }
 
-// Whether a bidder may stand at the next slot: nobody may, and a bidder that is not barred.
-fn may_stand(barred: u64, slot: Slot, bidder: Bidder) -> bool
-    requires { ⌜ ((0 < slot .0) × (slot .0 ≤ 8)) × (bidder .0 ≤ 8) ⌝ }
-    ensures { λ r. ⌜ r ≡ openTo barred (slot .0) (bidder .0) ⌝ }
+// Each bidder's rank, by its number.
+fn ranks_of(ranked: &[u8], bidders: usize) -> [u8; 16]
+    requires { ⌜ (bidders ≤ 8) × (bidders ≤ length (now ranked)) ⌝ }
+    requires { ⌜ ((i : ℕ) → i < bidders → (0 < getD (now ranked) i 0) × (getD (now ranked) i 0 ≤ bidders)) × ((i j : ℕ) → i < bidders → j < bidders → getD (now ranked) i 0 ≡ getD (now ranked) j 0 → i ≡ j) × ((b : ℕ) → 0 < b → b ≤ bidders → (i : ℕ) × (i < bidders) × (getD (now ranked) i 0 ≡ b)) ⌝ }
+    ensures { λ r. ⌜ RanksOf bidders (now (ranked .entry)) r × ((b : ℕ) → getD r b 0 < 8) ⌝ }
 {
-    if bidder.0 == 0 {
-        return true;
+    let mut ranks = [0u8; 16];
+    let mut rank = Rank(0);
+    while (rank.0 as usize) < bidders {
+        let bidder = choice::ranked_at(ranked, rank.0 as usize);
+        ranks[bidder.0 as usize] = rank.0;
+        rank = best_seats::next_rank(rank);
     }
-    let at = 8 * (slot.0 as usize - 1) + (bidder.0 as usize - 1);
-    (barred >> at) % 2 == 0
+    ranks
 }
 
-// What a bidder, or nobody, adds at a slot.
-fn adds(bids: &[u32], effects: &[u32], bidder: Bidder, index: usize) -> u64
-    requires { ⌜ (bidder .0 ≤ length (now bids)) × (index < length (now effects)) ⌝ }
-    requires { ⌜ ((i : ℕ) → getD (now bids) i 0 ≤ 1000000000) × ((i : ℕ) → getD (now effects) i 0 ≤ 1000000) ⌝ }
-    ensures { λ r. ⌜ r ≡ bidIn (now (bids .entry)) (bidder .0) * nth (now (effects .entry)) index ⌝ }
+// The larger of the total that is known and of the totals that the settled slots, those before `slot`, can lead to. The highest bids are tried first, so
+// that the first page is the greedy one, and what cannot lead to a larger total is left out. Where nothing is free, nobody can join the page.
+fn raise(shut: &[u64; 64], gains: &[u64; 128], slot: Slot, free: Seats, had: u64, known: u64) -> u64
+    requires { ⌜ (0 < slot .0) × (slot .0 ≤ 9) × (free .0 < 2 ^ (8 * (9 - slot .0))) × (had ≤ (slot .0 - 1) * 1000000000000000) ⌝ }
+    requires { ⌜ ((x : ℕ) → getD (now gains) x 0 ≤ 1000000000000000) ⌝ }
+    ensures { λ r. ⌜ Raised (now (shut .entry)) (now (gains .entry)) (slot .0) (free .0) had known r ⌝ }
 {
-    if bidder.0 == 0 {
-        return 0;
-    }
-    let i = bidder.0 as usize - 1;
-    bids[i] as u64 * effects[index] as u64
-}
-
-// What a bidder, or nobody, at the slot with index `from` leads to.
-fn look_ahead(
-    clashes: &[u64],
-    ranked: &[u8],
-    bids: &[u32],
-    effects: &[u32],
-    from: usize,
-    barred: u64,
-    had: u64,
-    bidder: Bidder,
-) -> Prospect
-    requires { ⌜ Lent (now clashes) (now ranked) (now bids) (now effects) ⌝ }
-    requires { ⌜ (from < 8) × (had ≤ from * 1000000000000000) × (bidder .0 ≤ length (now ranked)) ⌝ }
-    ensures { λ r. ⌜ Leads (now (clashes .entry)) (now (ranked .entry)) (now (bids .entry)) (now (effects .entry)) from barred had (bidder .0) r ⌝ }
-{
-    let slot = Slot((from + 1) as u8);
-    let more = best_clash::also_barred(clashes, barred, slot, bidder);
-    let with = had + adds(bids, effects, bidder, from);
-    let most = with + best_bound::most_added(more, ranked, bids, effects, from + 1);
-    Prospect {
-        barred: more,
-        had: with,
-        most,
-    }
-}
-
-// The ranked bidder at an index, and nobody after the last one.
-fn choice_at(ranked: &[u8], index: usize) -> Bidder
-    ensures { λ r. ⌜ r .0 ≡ getD (now (ranked .entry)) index 0 ⌝ }
-{
-    if index < ranked.len() {
-        return choice::ranked_at(ranked, index);
-    }
-    Bidder(0)
-}
-
-// The larger of the total that is known and of the totals that the settled slots, those before index `from`, can lead to. The highest bids
-// are tried first, so that the first page is the greedy one. The search that follows looks for no page with a smaller total, and may
-// because some page has this one; only its speed rests on how large it is.
-fn raise(
-    clashes: &[u64],
-    ranked: &[u8],
-    bids: &[u32],
-    effects: &[u32],
-    slots: usize,
-    from: usize,
-    barred: u64,
-    had: u64,
-    known: u64,
-) -> u64
-    requires { ⌜ Lent (now clashes) (now ranked) (now bids) (now effects) × (slots ≤ 8) ⌝ }
-    requires { ⌜ (from ≤ slots) × (had ≤ from * 1000000000000000) ⌝ }
-    ensures { λ r. ⌜ Raised (now (clashes .entry)) (now (ranked .entry)) (now (bids .entry)) (now (effects .entry)) slots from barred had known r ⌝ }
-{
-    if from == slots {
+    if free.0 == 0 {
         if known < had {
             return had;
         }
         return known;
     }
-    let slot = Slot((from + 1) as u8);
+    let next = best_seats::next_slot(slot);
     let mut highest = known;
-    let mut i: usize = 0;
-    while i <= ranked.len() {
-        let bidder = choice_at(ranked, i);
-        if may_stand(barred, slot, bidder) {
-            let ahead = look_ahead(clashes, ranked, bids, effects, from, barred, had, bidder);
-            if highest < ahead.most {
-                highest = raise(
-                    clashes,
-                    ranked,
-                    bids,
-                    effects,
-                    slots,
-                    from + 1,
-                    ahead.barred,
-                    ahead.had,
-                    highest,
-                );
-            }
+    let mut left = best_seats::here(free);
+    while left.0 != 0 {
+        let rank = best_seats::first_of(left);
+        let ahead = best_node::look_ahead(shut, gains, slot, free, had, rank);
+        if highest < ahead.most {
+            highest = raise(shut, gains, next, ahead.free, ahead.had, highest);
         }
-        i += 1;
+        left = best_seats::after_first(left);
+    }
+    let passed = best_node::pass_over(gains, slot, free, had);
+    if highest < passed.most {
+        highest = raise(shut, gains, next, passed.free, passed.had, highest);
     }
     highest
 }
 
-// The best of the answer so far and of every page that the settled slots, those before index `from`, can become. The slot at `from` is
-// settled with nobody and then with each bidder, each time on the page as it was, and what remains is the same search with one slot fewer.
-// A choice that cannot lead to what is needed is left out.
+// The first page in dictionary order with the total, of those that the settled slots, those before `slot`, can lead to. The slot is settled with nobody and
+// then with each bidder by its number, each time on the page as it was, and what remains is the same search with one slot fewer.
 fn search(
-    clashes: &[u64],
-    ranked: &[u8],
-    bids: &[u32],
-    effects: &[u32],
-    slots: usize,
-    from: usize,
+    shut: &[u64; 64],
+    gains: &[u64; 128],
+    ranks: &[u8; 16],
+    bidders: usize,
+    slot: Slot,
     page: Page,
-    barred: u64,
+    free: Seats,
     had: u64,
-    answer: Answer,
-) -> Answer
-    requires { ⌜ Lent (now clashes) (now ranked) (now bids) (now effects) × (slots ≤ 8) ⌝ }
-    requires { ⌜ (from ≤ slots) × (had ≤ from * 1000000000000000) × Sized page ⌝ }
-    requires { ⌜ BarredBy (now clashes) page from barred × ((k : ℕ) → from < k → at page k ≡ 0) ⌝ }
-    ensures { λ r. ⌜ Attempt (now (clashes .entry)) (now (ranked .entry)) (now (bids .entry)) (now (effects .entry)) slots from page had (answer .need) (answer .page) (r .need) (r .page) ⌝ }
+    total: u64,
+) -> Found
+    requires { ⌜ (0 < slot .0) × (slot .0 ≤ 9) × (free .0 < 2 ^ (8 * (9 - slot .0))) × (had ≤ (slot .0 - 1) * 1000000000000000) ⌝ }
+    requires { ⌜ ((x : ℕ) → getD (now gains) x 0 ≤ 1000000000000000) × (bidders ≤ 8) × ((b : ℕ) → getD (now ranks) b 0 < 8) ⌝ }
+    ensures { λ r. ⌜ Sought (now (shut .entry)) (now (gains .entry)) (now (ranks .entry)) bidders (slot .0) page (free .0) had total (r .found) (r .page) ⌝ }
 {
-    if from == slots {
-        if answer.need <= had {
-            return Answer {
-                page,
-                need: had + 1,
-            };
-        }
-        return answer;
+    if free.0 == 0 {
+        return Found {
+            found: had == total,
+            page,
+        };
     }
-    let slot = Slot((from + 1) as u8);
-    let mut best = answer;
-    let mut b: usize = 0;
-    while b <= ranked.len() {
-        let bidder = Bidder(b as u16);
-        if may_stand(barred, slot, bidder) {
-            let next = look_ahead(clashes, ranked, bids, effects, from, barred, had, bidder);
-            if best.need <= next.most {
-                best = search(
-                    clashes,
-                    ranked,
-                    bids,
-                    effects,
-                    slots,
-                    from + 1,
+    let next = best_seats::next_slot(slot);
+    let passed = best_node::pass_over(gains, slot, free, had);
+    if total <= passed.most {
+        let below = search(
+            shut,
+            gains,
+            ranks,
+            bidders,
+            next,
+            page,
+            passed.free,
+            passed.had,
+            total,
+        );
+        if below.found {
+            return below;
+        }
+    }
+    let mut bidder = Bidder(1);
+    while bidder.0 as usize <= bidders {
+        let rank = best_clash::rank_of(ranks, bidder);
+        if best_seats::is_free(free, rank) {
+            let ahead = best_node::look_ahead(shut, gains, slot, free, had, rank);
+            if total <= ahead.most {
+                let below = search(
+                    shut,
+                    gains,
+                    ranks,
+                    bidders,
+                    next,
                     auction::with_bidder(page, slot, bidder),
-                    next.barred,
-                    next.had,
-                    best,
+                    ahead.free,
+                    ahead.had,
+                    total,
                 );
+                if below.found {
+                    return below;
+                }
             }
         }
-        b += 1;
+        bidder = Bidder(bidder.0 + 1);
     }
-    best
+    Found { found: false, page }
 }
 
-// The best page of a small round, with one more than its total.
-fn best_page(sheet: &[u8]) -> Answer
+// The best page of a small round. Bids and effects are read and the constraints gone through once, and no round is made of them.
+fn best_page(sheet: &[u8]) -> BestFound
     requires { ⌜ Accepted (now sheet) × (bidderCount (now sheet) ≤ 8) × (slotCount (now sheet) ≤ 8) ⌝ }
-    ensures { λ r. ⌜ Best (roundOf (now (sheet .entry))) (r .page) × (r .need ≡ suc (total (roundOf (now (sheet .entry))) (r .page))) ⌝ }
+    ensures { λ r. ⌜ Best (roundOf (now (sheet .entry))) (r .page) × (r .total ≡ total (roundOf (now (sheet .entry))) (r .page)) ⌝ }
 {
-    let round = sheet_read::accepted_round(sheet);
-    let bids = round.bids;
-    let effects = round.effects;
-    let bidders = round.bidders;
-    let slots = round.slots;
+    let bidders = sheet[5] as usize;
+    let slots = sheet[6] as usize;
+    let effects = sheet_read::accepted_effects(sheet);
+    let bids = sheet_read::accepted_bids(sheet);
     let ranked = choice::ranking_of(&bids, bidders);
-    let mut table = [0u64; 64];
-    best_clash::fill_table(&mut table, sheet);
+    let ranks = ranks_of(&ranked, bidders);
+    let gains = best_bound::gains_of(&ranked, &bids, &effects, bidders, slots);
+    let mut table = [0u64; 73];
+    best_clash::fill_table(&mut table, &ranks, sheet);
+    let shut = best_clash::shut_words(&table);
+    let free = best_clash::first_free(&table, bidders, slots);
     let page = auction::empty_page();
-    let barred = best_clash::first_barred(&table);
-    let need = raise(
-        &table,
-        &ranked[..bidders],
-        &bids,
-        &effects,
-        slots,
-        0,
-        barred,
-        0,
-        0,
-    );
-    search(
-        &table,
-        &ranked[..bidders],
-        &bids,
-        &effects,
-        slots,
-        0,
+    let largest = raise(&shut, &gains, Slot(1), free, 0, 0);
+    let first = search(
+        &shut,
+        &gains,
+        &ranks,
+        bidders,
+        Slot(1),
         page,
-        barred,
+        free,
         0,
-        Answer { page, need },
-    )
+        largest,
+    );
+    let best = first.page;
+    BestFound {
+        page: best,
+        total: largest,
+    }
 }
 
 // The bidder numbers of the first slots go to the front of the buffer.
@@ -287,6 +236,6 @@ pub fn best(sheet: &[u8], result: &mut [u8]) -> Chosen
     write_page(answer.page, slots, result);
     Chosen {
         refusal: 0,
-        total: answer.need - 1,
+        total: answer.total,
     }
 }

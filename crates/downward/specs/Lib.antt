@@ -1,3 +1,3 @@
 pub mod Downward
 pub mod Call
-pub mod EngineKeys
+pub mod EngineListed

@@ -1,18 +1,22 @@
 // The downward test of one bidder's list.
 //
-// The bidder's own constraints are taken out as numbers, one each, in which the own slot counts ones: the constraint with the own slot
-// one lower ("place k + 1") is the number plus one. So the test looks each number plus one up among the numbers, which costs the
-// square of the bidder's own constraints and not of the sheet's.
+// The bidder's constraints are taken by their other part: for each other part the own slots that are listed with it are a set of bits. A
+// constraint is then entered by one store, and whether a slot is listed whose next one is not is told set by set. So the test costs one pass
+// over the sheet's constraints and one over the other parts, whoever owns the constraints.
+ghost use mathlib.Core.Bool.{_&&_, _||_};
 ghost use mathlib.Core.Path.{_≡_};
-ghost use Prim.Native.Nat.{_≤_};
-ghost use lib.ListN.{length};
+ghost use Prim.Native.Nat.{ℕ, suc, _+_, _*_, _<_, _≤_};
+ghost use lib.Dec.{eqb};
+ghost use lib.ListN.{length, getD};
+ghost use Rattle.basis.specs.Bits.{bitOf};
 ghost use Rattle.sheet.specs.Refusal.{Accepted};
 ghost use Rattle.sheet.specs.Round.{roundOf};
-ghost use Rattle.downward.specs.Downward.{downward};
-ghost use Rattle.downward.specs.EngineKeys.{keyFor, keyOf, Gathered, keyIn, keyAsksLower, keysDownward};
+ghost use Rattle.downward.specs.Downward.{ownSlot, downward};
+ghost use Rattle.downward.specs.EngineListed.{otherPart, KindInRange, Listed, missesNext, someMissing};
 ghost use Rattle.downward.specs.Call.{testedOf};
 use sheet::Bidder;
 use sheet::Kind;
+use sheet::Slot;
 
 // The answer: a refusal's number, or 0 and whether the list is downward monotonic.
 pub struct Tested {
@@ -20,109 +24,118 @@ pub struct Tested {
     pub yes: bool,
 }
 
-// A bidder's own constraints as numbers, of which the first `count` are used.
-struct Keys {
-    keys: [u32; 1024],
-    count: usize,
-}
+// An other part of a constraint in one number: 16 × the other bidder and its slot, and 0 for no other. A slot of another is never 0, so slot 16
+// of one bidder and slot 0 of the next do not meet.
+struct OtherPart(u16);
 
-// Three of a constraint's parts as one number: the own slot counts ones, the other bidder 32s, and its slot 32 × 128s.
-fn key_for(own: u8, other: u16, others: u8) -> u32
-    ensures { λ r. ⌜ r ≡ keyFor own other others ⌝ }
-{
-    own as u32 + 32 * (other as u32 + 128 * (others as u32))
-}
+// A set of own slots, slot 1 in the lowest bit. Own slot 0, any slot, is in no set: it asks for nothing.
+struct OwnSlots(u16);
 
-// A kind's number, with 0 for any own slot, for no other bidder and for its slot.
-fn key_of(kind: Kind) -> u32
-    ensures { λ r. ⌜ r ≡ keyOf kind ⌝ }
+// The own slot of a kind, 0 for any.
+fn own_slot(kind: Kind) -> Slot
+    ensures { λ r. ⌜ r .0 ≡ ownSlot kind ⌝ }
 {
     match kind {
-        Kind::OwnSlot(own) => key_for(own.0, 0, 0),
-        Kind::OtherSlot(other, slot) => key_for(0, other.0, slot.0),
-        Kind::Pair(own, other, slot) => key_for(own.0, other.0, slot.0),
+        Kind::OwnSlot(own) => own,
+        Kind::OtherSlot(_, _) => Slot(0),
+        Kind::Pair(own, _, _) => own,
     }
 }
 
-// The numbers of a bidder's own constraints. They are read one by one, and no round is made of them.
-fn gather(sheet: &[u8], bidder: Bidder) -> Keys
-    requires { ⌜ Accepted (now sheet) ⌝ }
-    ensures { λ r. ⌜ Gathered (roundOf (now (sheet .entry))) (bidder .0) (roundOf (now (sheet .entry)) .used) (r .keys) (r .count) ⌝ }
+// The set of one slot, and of none for slot 0.
+fn slot_set(slot: Slot) -> OwnSlots
+    requires { ⌜ slot .0 ≤ 16 ⌝ }
+    ensures { λ r. ⌜ ((k : ℕ) → k < 16 → bitOf (r .0) k ≡ eqb (slot .0) (suc k)) ⌝ }
+{
+    OwnSlots(((1u32 << slot.0) >> 1u32) as u16)
+}
+
+// The other part of a kind.
+fn other_part(kind: Kind) -> OtherPart
+    requires { ⌜ KindInRange kind ⌝ }
+    ensures { λ r. ⌜ (r .0 ≡ otherPart kind) × (r .0 < 1041) ⌝ }
+{
+    match kind {
+        Kind::OwnSlot(_) => OtherPart(0),
+        Kind::OtherSlot(other, slot) => part_of(other, slot),
+        Kind::Pair(_, other, slot) => part_of(other, slot),
+    }
+}
+
+// Another bidder and its slot as an other part.
+fn part_of(other: Bidder, slot: Slot) -> OtherPart
+    requires { ⌜ (other .0 ≤ 64) × (slot .0 ≤ 16) ⌝ }
+    ensures { λ r. ⌜ r .0 ≡ 16 * other .0 + slot .0 ⌝ }
+{
+    let part = 16 * other.0 + slot.0 as u16;
+    OtherPart(part)
+}
+
+// One of the bidder's constraints is entered: its own slot joins the set of its other part.
+fn list(listed: &mut [u16; 1041], kind: Kind)
+    requires { ⌜ (length (now listed) ≡ 1041) × KindInRange kind ⌝ }
+    ensures { λ r. ⌜ (length (now (listed .exit)) ≡ 1041) × ((part k : ℕ) → k < 16 → bitOf (getD (now (listed .exit)) part 0) k ≡ (bitOf (getD (now (listed .entry)) part 0) k || (eqb (otherPart kind) part && eqb (ownSlot kind) (suc k)))) ⌝ }
+{
+    let part = other_part(kind);
+    let own = slot_set(own_slot(kind));
+    let at = part.0 as usize;
+    listed[at] = listed[at] | own.0;
+}
+
+// All of a bidder's constraints are entered in sets that were empty. They are read one by one, and no round is made of them.
+fn list_all(listed: &mut [u16; 1041], sheet: &[u8], bidder: Bidder)
+    requires { ⌜ (length (now listed) ≡ 1041) × ((part : ℕ) → getD (now listed) part 0 ≡ 0) × Accepted (now sheet) ⌝ }
+    ensures { λ r. ⌜ Listed (roundOf (now (sheet .entry))) (bidder .0) (roundOf (now (sheet .entry)) .used) (now (listed .exit)) ⌝ }
 {
     let used = sheet_read::constraint_count(sheet);
     let start = sheet_read::constraints_start(sheet);
-    let mut keys = [0u32; 1024];
-    let mut count: usize = 0;
     let mut i: usize = 0;
     while i < used {
         let constraint = sheet_read::constraint_at(sheet, start, i);
         let owner = constraint.owner;
         if owner.0 == bidder.0 {
             let kind = constraint.kind;
-            keys[count] = key_of(kind);
-            count += 1;
+            list(listed, kind);
         }
         i += 1;
     }
-    Keys { keys, count }
 }
 
-// Whether a number is among the first `count`.
-fn holds(keys: &[u32], count: usize, key: u32) -> bool
-    requires { ⌜ count ≤ length (now keys) ⌝ }
-    ensures { λ r. ⌜ r ≡ keyIn (now (keys .entry)) count key ⌝ }
+// The slots, of 1 to m, that a set asks for and does not have: the next of each slot of it but the last.
+fn missing_from(had: OwnSlots, slots: usize) -> OwnSlots
+    requires { ⌜ (0 < slots) × (slots ≤ 16) ⌝ }
+    ensures { λ r. ⌜ ((k : ℕ) → k < 16 → bitOf (r .0) k ≡ missesNext slots (had .0) k) ⌝ }
 {
-    let mut p: usize = 0;
-    while p < count {
-        if keys[p] == key {
-            return true;
-        }
-        p += 1;
-    }
-    false
+    let asking = ((1u32 << slots) / 2 - 1) as u16;
+    let asked = (had.0 & asking) << 1u32;
+    OwnSlots((asked | had.0) ^ had.0)
 }
 
-// Whether a number's own slot is from 1 to m − 1: it has one, and the slot one lower is still a slot of the page.
-fn asks_lower(key: u32, slots: usize) -> bool
-    ensures { λ r. ⌜ r ≡ keyAsksLower slots key ⌝ }
+// Whether some set lacks a slot that it asks for. The sets are gone through without a branch, several at once in the machine code.
+fn any_missing(listed: &[u16], slots: usize) -> bool
+    requires { ⌜ (0 < slots) × (slots ≤ 16) ⌝ }
+    ensures { λ r. ⌜ r ≡ someMissing slots (now (listed .entry)) (length (now (listed .entry))) ⌝ }
 {
-    let own = (key % 32) as usize;
-    if own == 0 {
-        return false;
+    let mut missing: u16 = 0;
+    let mut at: usize = 0;
+    while at < listed.len() {
+        let more = missing_from(OwnSlots(listed[at]), slots);
+        missing = missing | more.0;
+        at += 1;
     }
-    if own + 1 <= slots {
-        return true;
-    }
-    false
+    missing != 0
 }
 
-// Whether each number that asks for the next one has it among them.
-fn keys_downward(keys: &[u32], count: usize, slots: usize) -> bool
-    requires { ⌜ (count ≤ length (now keys)) × (slots ≤ 16) ⌝ }
-    ensures { λ r. ⌜ r ≡ keysDownward slots (now (keys .entry)) count ⌝ }
-{
-    let mut p: usize = 0;
-    while p < count {
-        let key = keys[p];
-        if asks_lower(key, slots) {
-            if !holds(keys, count, key + 1) {
-                return false;
-            }
-        }
-        p += 1;
-    }
-    true
-}
-
-// Whether a bidder's list is downward monotonic.
+// Whether a bidder's list is downward monotonic. Other parts go up to bidder n at slot 16.
 fn is_downward(sheet: &[u8], bidder: Bidder) -> bool
     requires { ⌜ Accepted (now sheet) ⌝ }
     ensures { λ r. ⌜ r ≡ downward (roundOf (now (sheet .entry))) (bidder .0) ⌝ }
 {
-    let gathered = gather(sheet, bidder);
-    let keys = gathered.keys;
+    let bidders = sheet[5] as usize;
     let slots = sheet[6] as usize;
-    keys_downward(&keys, gathered.count, slots)
+    let mut listed = [0u16; 1041];
+    list_all(&mut listed, sheet, bidder);
+    !any_missing(&listed[..16 * bidders + 17], slots)
 }
 
 // The number of the first rule that the call breaks, 1 to 13 or 16; or 0 and the test's answer.

@@ -112,6 +112,23 @@ pub fn constraint_at(sheet: &[u8], start: usize, index: usize) -> Constraint
     }
 }
 
+// The effects of an accepted sheet's round, for who makes no round.
+pub fn accepted_effects(sheet: &[u8]) -> [u32; 16]
+    requires { ⌜ Accepted (now sheet) ⌝ }
+    ensures { λ r. ⌜ r ≡ roundOf (now (sheet .entry)) .effects ⌝ }
+{
+    read_effects(sheet, sheet[6] as usize)
+}
+
+// The bids of an accepted sheet's round.
+pub fn accepted_bids(sheet: &[u8]) -> [u32; 64]
+    requires { ⌜ Accepted (now sheet) ⌝ }
+    ensures { λ r. ⌜ r ≡ roundOf (now (sheet .entry)) .bids ⌝ }
+{
+    let slots = sheet[6] as usize;
+    read_bids(sheet, 9 + 4 * slots, sheet[5] as usize)
+}
+
 // The round of an accepted sheet, for a call that has checked it. The array of blank constraints is filled where it stands, a constraint
 // from one word of the sheet, which the machine does for two at once.
 pub fn accepted_round(sheet: &[u8]) -> Round

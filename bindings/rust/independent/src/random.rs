@@ -53,6 +53,8 @@ pub enum Manner {
     Exclusions,
     /// Bidder 1 above 2, 2 above 3 and so on, with rising bids, as in round H.
     Chain,
+    /// As exclusions, with equal bids and equal effects: many pages have the same total, and a bound rules out few.
+    Ties,
 }
 
 impl Manner {
@@ -64,6 +66,7 @@ impl Manner {
             Manner::OwnSlots => "own places",
             Manner::Exclusions => "exclusions",
             Manner::Chain => "chain",
+            Manner::Ties => "ties",
         }
     }
 }
@@ -84,8 +87,13 @@ pub fn round(random: &mut Random, size: Size, manner: Manner, highest_bid: usize
     let mut effects: Vec<u32> = (0..size.slots).map(|_| random.between(1, highest_effect) as u32).collect();
     effects.sort_unstable_by(|one, other| other.cmp(one));
     let mut bids: Vec<u32> = (0..size.bidders).map(|_| random.between(0, highest_bid) as u32).collect();
-    if manner == Manner::Chain {
-        bids.sort_unstable();
+    match manner {
+        Manner::Chain => bids.sort_unstable(),
+        Manner::Ties => {
+            effects = vec![effects[0]; size.slots];
+            bids = vec![bids[0]; size.bidders];
+        }
+        _ => {}
     }
     Round { effects, bids, constraints: constraints(random, size, manner) }
 }
@@ -95,7 +103,7 @@ fn constraints(random: &mut Random, size: Size, manner: Manner) -> Vec<Constrain
     // With one bidder there is no other to name.
     let manner = if size.bidders == 1 { Manner::OwnSlots } else { manner };
     match manner {
-        Manner::Exclusions => {
+        Manner::Exclusions | Manner::Ties => {
             let pairs = std::iter::repeat_with(|| exclusion(random, size));
             pairs.flatten().take(count).collect()
         }

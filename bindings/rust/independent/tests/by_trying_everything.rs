@@ -3,7 +3,8 @@
 use independent::random::{round, Manner, Random, Size};
 use independent::{engine, slow};
 
-const MANNERS: [Manner; 5] = [Manner::Mixed, Manner::Pairs, Manner::OwnSlots, Manner::Exclusions, Manner::Chain];
+const MANNERS: [Manner; 6] =
+    [Manner::Mixed, Manner::Pairs, Manner::OwnSlots, Manner::Exclusions, Manner::Chain, Manner::Ties];
 
 fn small_round(random: &mut Random) -> slow::Round {
     let size = Size { bidders: random.between(1, 5), slots: random.between(1, 5), constraints: random.between(0, 30) };

@@ -1,434 +1,653 @@
--- `best_search::search` meets its contract, by induction on the slots left. A settled page is an answer if its total is large enough; and else,
--- after b turns of the loop, the first b choices for the next slot have been searched: one that may not stand leads nowhere, and one that
--- cannot lead to what is needed holds nothing. Assumes nothing.
-use Prim.Native.Nat.{ℕ, suc, _+_, _-_, _<_, _≤_}
+-- `best_search::search` meets its contract, by induction on the slots left. Where nothing is free the page is all. Else, before the turn of bidder b, no page with
+-- nobody or a lower number at the next slot has the total: a bidder whose seat is not free stands there on no allowed page, and one that cannot lead to the total
+-- on none that has it. Assumes nothing.
+use Prim.Native.Nat.{ℕ, suc, _+_, _*_, _-_, _^_, _<_, _≤_}
 use mathlib.Core.Bool.{Bool, true, false}
 use mathlib.Core.List.{List}
 use mathlib.Core.Logic.{⊎-elim}
 use mathlib.Core.Path.{_≡_, sym, _∙_, ap, subst}
+use native.Mathlib.Nat.{not-suc-le-zero}
 use native.Mathlib.Numerals.{add-one}
 use native.Mathlib.Omega.{arith}
-use lib.ListN.{length}
+use lib.ListN.{getD}
+use Rattle.basis.specs.Bits.{bitOf}
+use Rattle.basis.proofs.TestLaws.{not-both}
 use Rattle.sheet.specs.declared.Page.{Page}
 use Rattle.sheet.specs.declared.Round.{Round}
-use Rattle.auction.specs.Page.{at, put, Sized}
-use Rattle.auction.proofs.PageLaws.{put-sized, at-put-other}
-use Rattle.best_clash.specs.EngineClash.{BarredBy}
-use Rattle.best_page.specs.declared.Answer.{Answer}
-use Rattle.best_page.specs.EngineSearch.{Searched, Agrees, Tried}
-use Rattle.best_page.proofs.TriedLaws.{none-tried, choice-tried, choice-nowhere, all-tried}
-use Rattle.best_search.specs.declared.Prospect.{Prospect}
-use Rattle.best_search.specs.EngineNode.{TablesOf, Node, openTo, Leads, Attempt}
-use Rattle.best_search.proofs.ChoiceLaws.{settled-found, settled-small, led-node, led-small, led-nowhere, product-low}
+use Rattle.auction.specs.Allowed.{Allowed, total}
+use Rattle.auction.specs.Page.{at, put}
+use Rattle.auction.proofs.PageLaws.{put-nobody}
+use Rattle.best_page.specs.EngineSearch.{Agrees}
+use Rattle.best_clash.specs.EngineClash.{FreeFor, RanksOf}
+use Rattle.best_node.specs.declared.Ahead.{Ahead}
+use Rattle.best_node.specs.EngineNode.{TablesOf, Node, Leads, Passes}
+use Rattle.best_search.specs.EngineFound.{FirstWith, Sought}
+use Rattle.best_node.proofs.FreeLaws.{slot-left, agrees-before}
+use Rattle.best_node.proofs.LeadLaws.{free-here, lead-node, lead-free, lead-most, pass-node, pass-free, pass-most, slot-most, slots-after, gain-low}
+use Rattle.best_search.proofs.SeekLaws.{NoneBelow, leaf-first, none-next, found-next, none-found}
 use borrow.Fn.Kinds.{In}
 use borrow.Fn.PlainCycle.{Measures, is, falls, and}
 use Rattle.best_search.proofs.search.Reads as search′
 use Rattle.best_search.proofs.search.Kinds as search-kinds
 use Rattle.best_search.proofs.+search.Lts-search as search-lts
 use Rattle.auction.proofs.with_bidder.Reads as with-bidder-reads
-use Rattle.best_search.proofs.look_ahead.Reads as look-ahead-reads
-use Rattle.best_search.proofs.may_stand.Reads as may-stand-reads
+use Rattle.best_clash.proofs.rank_of.Reads as rank-of-reads
+use Rattle.best_node.proofs.look_ahead.Reads as look-ahead-reads
+use Rattle.best_node.proofs.pass_over.Reads as pass-over-reads
+use Rattle.best_seats.proofs.is_free.Reads as is-free-reads
+use Rattle.best_seats.proofs.next_slot.Reads as next-slot-reads
 use Rattle.best_search.proofs.+search.{statement}
 use Rattle.best_search.proofs.+search.Tie.{close}
 
--- the first b choices for the slot at index k have been searched
-record Trying (clashes ranked bids effects : List ℕ) (slots k : ℕ) (p : Page) (had : ℕ) (start now′ : Answer) (b : ℕ) : Type 0 where
-  most : b ≤ suc (length ranked)
-  so-far : (r : Round) → TablesOf r clashes ranked bids effects (length ranked) slots → Node r p k had →
-      Searched r (Tried p k b) (start .need) (start .page) (now′ .need) (now′ .page)
+-- what is said of every round of which the lent tables are, and of the page as a node of it
+abbrev ForAll : (shut gains ranks : List ℕ) (bidders slot : ℕ) (p : Page) (free had : ℕ) → (Round → ℕ → Type 0) → Type 0
+ForAll shut gains ranks bidders slot p free had Says =
+    (r : Round) (ranked : List ℕ) (k : ℕ) → suc k ≡ slot → r .bidders ≡ bidders → TablesOf r ranked shut gains → RanksOf (r .bidders) ranked ranks →
+    Node r p k had → FreeFor r ranked p k free → Says r k
 
--- one choice more: it was searched, it cannot lead to what is needed, or it may not stand
-module _ (clashes ranked bids effects : List ℕ) (slots k : ℕ) (p : Page) (had : ℕ) (start best : Answer) (b : ℕ)
-    (v : Trying clashes ranked bids effects slots k p had start best b) (inside : k < slots) (short : slots ≤ 8) (low : b ≤ length ranked)
-    (barred : ℕ) (told : BarredBy clashes p k barred) where
-  opened : {t : Bool} → openTo barred (k + 1) b ≡ t → openTo barred (suc k) b ≡ t
-  opened {t} may = subst (λ (n : ℕ). openTo barred n b ≡ t) (add-one k) may
+-- before the turn of bidder b
+record Seeking (shut gains ranks : List ℕ) (bidders slot : ℕ) (p : Page) (free had sum b : ℕ) : Type 0 where
+  some : 0 < b
+  most : b ≤ suc bidders
+  so-far : ForAll shut gains ranks bidders slot p free had (λ r k. NoneBelow r p k b sum)
 
-  one-more : (found : Answer) →
-      ((r : Round) → TablesOf r clashes ranked bids effects (length ranked) slots → Node r p k had →
-      Searched r (Agrees (put p (suc k) b) (suc k)) (best .need) (best .page) (found .need) (found .page)) →
-      Trying clashes ranked bids effects slots k p had start found (b + 1)
-  one-more found deeper =
-      record {
-        most = omega arith;
-        so-far = λ r t w.
-            subst (λ (n : ℕ). Searched r (Tried p k n) (start .need) (start .page) (found .need) (found .page)) (sym (add-one b))
-            (choice-tried r p k (w .page .sized) (omega arith) b (start .need) (start .page) (best .need) (best .page) (found .need) (found .page) (v .so-far r t w) (deeper r t w));
-      }
+room : (r : Round) (ranked shut gains : List ℕ) → TablesOf r ranked shut gains → (p : Page) (k had : ℕ) → Node r p k had → (free : ℕ) → FreeFor r ranked p k free →
+    (free ≡ 0 → ⊥) → suc k ≤ 16
+room r ranked shut gains v p k had w free f some =
+    (let inside = slot-left r ranked shut gains v p k had w free f some in let short = v .few-slots in omega arith)
 
-  trying-searched : (found : Answer) (next : Prospect) (page : Page) → openTo barred (k + 1) b ≡ true → Leads clashes ranked bids effects k barred had b next →
-      page ≡ put p (k + 1) b →
-      Attempt clashes ranked bids effects slots (k + 1) page (next .had) (best .need) (best .page) (found .need) (found .page) →
-      Trying clashes ranked bids effects slots k p had start found (b + 1)
-  trying-searched found next page may leads e deeper =
-      one-more found
-      (λ r t w.
-      let node = led-node r clashes ranked bids effects slots t p k had w barred told b inside low next (opened may) leads in
-      subst (λ (n : ℕ). Attempt clashes ranked bids effects slots n (put p n b) (next .had) (best .need) (best .page) (found .need) (found .page)) (add-one k)
-      (subst (λ (q : Page). Attempt clashes ranked bids effects slots (k + 1) q (next .had) (best .need) (best .page) (found .need) (found .page)) e deeper)
-      r t (node .0))
+module _ (shut gains ranks : List ℕ) (bidders slot : ℕ) (p : Page) (free had sum : ℕ) (some : free ≡ 0 → ⊥) where
+  -- no page with nobody below the first
+  none-first : (r : Round) (k : ℕ) → NoneBelow r p k 0 sum
+  none-first r k q a ok l = absurd (not-suc-le-zero l)
 
-  trying-small : (next : Prospect) → openTo barred (k + 1) b ≡ true → Leads clashes ranked bids effects k barred had b next → next .most < best .need →
-      Trying clashes ranked bids effects slots k p had start best (b + 1)
-  trying-small next may leads small =
-      one-more best
-      (λ r t w. led-small r clashes ranked bids effects slots t p k had w barred told b inside low next (best .need) (best .page) (opened may) leads small)
+  -- nobody at the next slot
+  module _ (next : Ahead) (passes : (k : ℕ) → suc k ≡ slot → Passes gains k free had next) where
+    module _ (below : ℕ) (at-below : below ≡ suc slot) (found : Bool) (page : Page) (deeper : Sought shut gains ranks bidders below p (next .free .0) (next .had) sum found page) where
+      nobody-searched : ForAll shut gains ranks bidders slot p free had (λ r k. FirstWith r (Agrees (put p (suc k) 0) (suc k)) sum found page)
+      nobody-searched r ranked k at-k n v o w f =
+          let inside = slot-left r ranked shut gains v p k had w free f some in
+          subst (λ (x : Page). FirstWith r (Agrees x (suc k)) sum found page) (sym (put-nobody p (suc k) (w .later (suc k) (omega arith))))
+          (deeper r ranked (suc k) (omega arith) n v o
+          (pass-node r ranked shut gains v p k had w free f inside next (passes k at-k))
+          (pass-free r ranked shut gains v p k had w free f inside next (passes k at-k)))
 
-  trying-skipped : openTo barred (k + 1) b ≡ false → Trying clashes ranked bids effects slots k p had start best (b + 1)
-  trying-skipped may =
-      record {
-        most = omega arith;
-        so-far = λ r t w.
-            subst (λ (n : ℕ). Searched r (Tried p k n) (start .need) (start .page) (best .need) (best .page)) (sym (add-one b))
-            (choice-nowhere r p k (w .page .sized) (omega arith) b (start .need) (start .page) (best .need) (best .page)
-            (led-nowhere r clashes ranked bids effects slots t p k had w barred told b inside low (opened may))
-            (v .so-far r t w));
-      }
+      nobody-found : found ≡ true → ForAll shut gains ranks bidders slot p free had (λ r k. FirstWith r (Agrees p k) sum found page)
+      nobody-found yes′ r ranked k at-k n v o w f =
+          found-next r p k had sum w (room r ranked shut gains v p k had w free f some) 0 page (none-first r k) found yes′ (nobody-searched r ranked k at-k n v o w f)
 
--- the bits tell who is barred on the next page too, and its later slots are empty
-next-told : (clashes ranked bids effects : List ℕ) (k barred had b : ℕ) (p page : Page) (next : Prospect) → Sized p → page ≡ put p (k + 1) b →
-    Leads clashes ranked bids effects k barred had b next → BarredBy clashes p k barred × ((j : ℕ) → k < j → at p j ≡ 0) →
-    BarredBy clashes page (k + 1) (next .barred) × ((j : ℕ) → k + 1 < j → at page j ≡ 0)
-next-told clashes ranked bids effects k barred had b p page next s e leads was = (
-  subst (λ (q : Page). BarredBy clashes q (k + 1) (next .barred)) (sym e)
-      (subst (λ (n : ℕ). BarredBy clashes (put p n b) n (next .barred)) (sym (add-one k)) (leads .barred-also p s (was .1 (suc k) (omega arith)) (was .0))),
-  λ j l. ap (λ (q : Page). at q j) e ∙ at-put-other p (k + 1) b j (λ x. absurd (omega arith)) ∙ was .1 j (omega arith),
-)
+      nobody-none : found ≡ false → ForAll shut gains ranks bidders slot p free had (λ r k. NoneBelow r p k 1 sum)
+      nobody-none no′ r ranked k at-k n v o w f =
+          none-next r p k had sum w (room r ranked shut gains v p k had w free f some) 0 (none-first r k) (nobody-searched r ranked k at-k n v o w f .none no′)
 
-abbrev μ-search : Measures 4 search-kinds.ps ℕ
-μ-search κs a = a .1 .1 .1 .1 .0 - a .1 .1 .1 .1 .1 .0
+    nobody-small : next .most < sum → ForAll shut gains ranks bidders slot p free had (λ r k. NoneBelow r p k 1 sum)
+    nobody-small small r ranked k at-k n v o w f =
+        none-next r p k had sum w (room r ranked shut gains v p k had w free f some) 0 (none-first r k)
+        (λ q a ok t.
+        let inside = slot-left r ranked shut gains v p k had w free f some in
+        let most = pass-most r ranked shut gains v p k had w free f inside next (passes k at-k) q
+        (subst (λ (x : Page). Agrees x (suc k) q) (put-nobody p (suc k) (w .later (suc k) (omega arith))) a) ok in
+        absurd (omega arith))
 
-abbrev search-at : ℕ → In 4 search-kinds.ps
-search-at t = and 4 search-kinds.ps (is 4 search-kinds.ps μ-search t) search′.Pre
+  -- bidder b there
+  module _ (b : ℕ) (u : Seeking shut gains ranks bidders slot p free had sum b) (turn : b ≤ bidders) (i : ℕ) (i-is : i ≡ getD ranks b 0) (i-low : i < 8) where
+    named : (r : Round) (ranked : List ℕ) → r .bidders ≡ bidders → RanksOf (r .bidders) ranked ranks → getD ranked i 0 ≡ b
+    named r ranked n o = ap (λ (x : ℕ). getD ranked x 0) i-is ∙ o .there b (u .some) (omega arith)
 
-abbrev search-below : ℕ → In 4 search-kinds.ps
-search-below t = and 4 search-kinds.ps (falls 4 search-kinds.ps _<_ μ-search t) search′.Pre
+    next-turn : ForAll shut gains ranks bidders slot p free had (λ r k. (q : Page) → Agrees (put p (suc k) b) (suc k) q → Allowed r q → total r q ≡ sum → ⊥) →
+        Seeking shut gains ranks bidders slot p free had sum (suc b)
+    next-turn here =
+        record {
+          some = omega arith;
+          most = omega arith;
+          so-far = λ r ranked k at-k n v o w f.
+              none-next r p k had sum w (room r ranked shut gains v p k had w free f some) b (u .so-far r ranked k at-k n v o w f) (here r ranked k at-k n v o w f);
+        }
+
+    not-free : bitOf free i ≡ false → Seeking shut gains ranks bidders slot p free had sum (suc b)
+    not-free no′ =
+        next-turn
+        (λ r ranked k at-k n v o w f q a ok t.
+        let inside = slot-left r ranked shut gains v p k had w free f some in
+        let before = agrees-before p q k b (w .page .sized) (room r ranked shut gains v p k had w free f some) a in
+        let low : i < r .bidders = subst (λ (x : ℕ). x < r .bidders) (sym i-is) (o .low b (u .some) (omega arith)) in
+        not-both (free-here r ranked shut gains v p k had w free f inside q (before .0) ok i low (named r ranked n o ∙ sym (before .1))) no′)
+
+    module _ (i-free : bitOf free i ≡ true) (next : Ahead) (leads : (k : ℕ) → suc k ≡ slot → Leads shut gains k free had i next) where
+      too-small : next .most < sum → Seeking shut gains ranks bidders slot p free had sum (suc b)
+      too-small small =
+          next-turn
+          (λ r ranked k at-k n v o w f q a ok t.
+          let inside = slot-left r ranked shut gains v p k had w free f some in
+          let most = lead-most r ranked shut gains v p k had w free f inside i i-low i-free next (leads k at-k) q
+          (subst (λ (x : ℕ). Agrees (put p (suc k) x) (suc k) q) (sym (named r ranked n o)) a) ok in
+          absurd (omega arith))
+
+      module _ (below : ℕ) (at-below : below ≡ suc slot) (child : Page) (child-is : child ≡ put p slot b) (found : Bool) (page : Page)
+          (deeper : Sought shut gains ranks bidders below child (next .free .0) (next .had) sum found page) where
+        searched : ForAll shut gains ranks bidders slot p free had (λ r k. FirstWith r (Agrees (put p (suc k) b) (suc k)) sum found page)
+        searched r ranked k at-k n v o w f =
+            let inside = slot-left r ranked shut gains v p k had w free f some in
+            let same : child ≡ put p (suc k) b = child-is ∙ ap (λ (x : ℕ). put p x b) (sym at-k) in
+            let there = named r ranked n o in
+            subst (λ (x : Page). Sought shut gains ranks bidders below x (next .free .0) (next .had) sum found page) same deeper
+            r ranked (suc k) (omega arith) n v o
+            (subst (λ (x : ℕ). Node r (put p (suc k) x) (suc k) (next .had)) there
+            (lead-node r ranked shut gains v p k had w free f inside i i-low i-free next (leads k at-k)))
+            (subst (λ (x : ℕ). FreeFor r ranked (put p (suc k) x) (suc k) (next .free .0)) there
+            (lead-free r ranked shut gains v p k had w free f inside i i-low i-free next (leads k at-k)))
+
+        is-first : found ≡ true → ForAll shut gains ranks bidders slot p free had (λ r k. FirstWith r (Agrees p k) sum found page)
+        is-first yes′ r ranked k at-k n v o w f =
+            found-next r p k had sum w (room r ranked shut gains v p k had w free f some) b page (u .so-far r ranked k at-k n v o w f) found yes′
+            (searched r ranked k at-k n v o w f)
+
+        none-there : found ≡ false → Seeking shut gains ranks bidders slot p free had sum (suc b)
+        none-there no′ = next-turn (λ r ranked k at-k n v o w f. searched r ranked k at-k n v o w f .none no′)
+
+abbrev μ-search : Measures 3 search-kinds.ps ℕ
+μ-search κs a = 9 - a .1 .1 .1 .1 .0 .0
+
+abbrev search-at : ℕ → In 3 search-kinds.ps
+search-at t = and 3 search-kinds.ps (is 3 search-kinds.ps μ-search t) search′.Pre
+
+abbrev search-below : ℕ → In 3 search-kinds.ps
+search-below t = and 3 search-kinds.ps (falls 3 search-kinds.ps _<_ μ-search t) search′.Pre
 
 abbrev search-Inv-loop : search-lts.InvT-loop
-search-Inv-loop clashes ranked bids effects slots from page barred had slot best₀ b₀ best b =
-    Trying clashes ranked bids effects slots from page had best₀ best b
+search-Inv-loop shut gains ranks bidders slot page free had total next bidder₀ bidder =
+    Seeking shut gains ranks bidders (slot .0) page (free .0) had total (bidder .0)
 
 abbrev search-μ-loop : search-lts.MeasureT-loop
-search-μ-loop clashes ranked bids effects slots from page barred had slot best₀ b₀ best b =
-    suc (length ranked) - b
-
-search-add-t18 : (t : ℕ) → search-lts.Need-add-t18 (
-  may-stand-reads.Asked,
-  may-stand-reads.Learnt,
-  look-ahead-reads.Asked,
-  look-ahead-reads.Learnt,
-  with-bidder-reads.Asked,
-  with-bidder-reads.Learnt,
-  search-below t,
-  search′.Post,
-) (search-at t) search′.Post search-Inv-loop search-μ-loop
-search-add-t18 t c =
-    let start = c .before .before .before .before .before .before .before in
-    let a = start .args in
-    let p = start .pre .1 in
-    let l = p .0 .1 in let m = p .1 .0 .0 in let h = p .1 .0 .1 in omega arith
+search-μ-loop shut gains ranks bidders slot page free had total next bidder₀ bidder = suc bidders - bidder .0
 
 search-returns : (t : ℕ) → search-lts.Need-returns (
-  may-stand-reads.Asked,
-  may-stand-reads.Learnt,
+  next-slot-reads.Asked,
+  next-slot-reads.Learnt,
+  pass-over-reads.Asked,
+  pass-over-reads.Learnt,
+  search-below t,
+  search′.Post,
+  rank-of-reads.Asked,
+  rank-of-reads.Learnt,
+  is-free-reads.Asked,
+  is-free-reads.Learnt,
   look-ahead-reads.Asked,
   look-ahead-reads.Learnt,
   with-bidder-reads.Asked,
   with-bidder-reads.Learnt,
-  search-below t,
-  search′.Post,
 ) (search-at t) search′.Post search-Inv-loop search-μ-loop
 search-returns t c =
-    λ r v w.
-    settled-found r _ _ _ _ _ _ v _ _ _ w _ _ (c .before .before .if1 .taken) (c .if2 .taken)
-
-search-returns-2 : (t : ℕ) → search-lts.Need-returns-2 (
-  may-stand-reads.Asked,
-  may-stand-reads.Learnt,
-  look-ahead-reads.Asked,
-  look-ahead-reads.Learnt,
-  with-bidder-reads.Asked,
-  with-bidder-reads.Learnt,
-  search-below t,
-  search′.Post,
-) (search-at t) search′.Post search-Inv-loop search-μ-loop
-search-returns-2 t c =
-    λ r v w.
-    settled-small r _ _ _ _ _ _ v _ _ _ w _ _ (c .before .before .if1 .taken) (c .if2 .left)
-
-search-add-t19 : (t : ℕ) → search-lts.Need-add-t19 (
-  may-stand-reads.Asked,
-  may-stand-reads.Learnt,
-  look-ahead-reads.Asked,
-  look-ahead-reads.Learnt,
-  with-bidder-reads.Asked,
-  with-bidder-reads.Learnt,
-  search-below t,
-  search′.Post,
-) (search-at t) search′.Post search-Inv-loop search-μ-loop
-search-add-t19 t c =
-    let start = c .before .before .before .before .before in
+    let start = c .before .before in
     let a = start .args in
-    let p = start .pre .1 in
-    let l = p .0 .1 in let m = p .1 .0 .0 in omega arith
+    let q = start .pre .1 in
+    λ r ranked k e n v o w f.
+    leaf-first r ranked (a .shut .now) (a .gains .now) v (a .page) k (a .had) w (a .free .0) f (c .if1 .taken) (a .total)
 
-search-cast-t20 : (t : ℕ) → search-lts.Need-cast-t20 (
-  may-stand-reads.Asked,
-  may-stand-reads.Learnt,
+search-next-slot-requires : (t : ℕ) → search-lts.Need-next-slot-requires (
+  next-slot-reads.Asked,
+  next-slot-reads.Learnt,
+  pass-over-reads.Asked,
+  pass-over-reads.Learnt,
+  search-below t,
+  search′.Post,
+  rank-of-reads.Asked,
+  rank-of-reads.Learnt,
+  is-free-reads.Asked,
+  is-free-reads.Learnt,
   look-ahead-reads.Asked,
   look-ahead-reads.Learnt,
   with-bidder-reads.Asked,
   with-bidder-reads.Learnt,
+) (search-at t) search′.Post search-Inv-loop search-μ-loop
+search-next-slot-requires t c κs =
+    let start = c .before .before in
+    let a = start .args in
+    let q = start .pre .1 in
+    let most = q .0 .1 in omega arith
+
+search-pass-over-requires : (t : ℕ) → search-lts.Need-pass-over-requires (
+  next-slot-reads.Asked,
+  next-slot-reads.Learnt,
+  pass-over-reads.Asked,
+  pass-over-reads.Learnt,
   search-below t,
   search′.Post,
-) (search-at t) search′.Post search-Inv-loop search-μ-loop
-search-cast-t20 t c =
-    let start = c .before .before .before .before .before in
-    let a = start .args in
-    let p = start .pre .1 in
-    let l = p .0 .1 in let m = p .1 .0 .0 in omega arith
-
-search-loop-holds : (t : ℕ) → search-lts.Need-loop-holds (
-  may-stand-reads.Asked,
-  may-stand-reads.Learnt,
+  rank-of-reads.Asked,
+  rank-of-reads.Learnt,
+  is-free-reads.Asked,
+  is-free-reads.Learnt,
   look-ahead-reads.Asked,
   look-ahead-reads.Learnt,
   with-bidder-reads.Asked,
   with-bidder-reads.Learnt,
-  search-below t,
-  search′.Post,
 ) (search-at t) search′.Post search-Inv-loop search-μ-loop
-search-loop-holds t c =
-    let start = c .before .before .before .before .before in
+search-pass-over-requires t c κs =
+    let start = c .before .before .before in
     let a = start .args in
-    let p = start .pre .1 in
-    let l = p .0 .1 in
-    let m = p .1 .0 .0 in
-    record { most = omega arith; so-far = λ r v w. none-tried r _ _ (w .page .sized) (omega arith) _ _ }
-
-search-cast-t23 : (t : ℕ) → search-lts.Need-cast-t23 (
-  may-stand-reads.Asked,
-  may-stand-reads.Learnt,
-  look-ahead-reads.Asked,
-  look-ahead-reads.Learnt,
-  with-bidder-reads.Asked,
-  with-bidder-reads.Learnt,
-  search-below t,
-  search′.Post,
-) (search-at t) search′.Post search-Inv-loop search-μ-loop
-search-cast-t23 t c =
-    let start = c .before .before .before .before .before .before .before in
-    let a = start .args in
-    let p = start .pre .1 in
-    let few = p .0 .0 .few-bidders in let h = c .loop-test .taken in omega arith
-
-search-may-stand-requires : (t : ℕ) → search-lts.Need-may-stand-requires (
-  may-stand-reads.Asked,
-  may-stand-reads.Learnt,
-  look-ahead-reads.Asked,
-  look-ahead-reads.Learnt,
-  with-bidder-reads.Asked,
-  with-bidder-reads.Learnt,
-  search-below t,
-  search′.Post,
-) (search-at t) search′.Post search-Inv-loop search-μ-loop
-search-may-stand-requires t c κs =
-    let start = c .before .before .before .before .before .before .before in
-    let a = start .args in
-    let p = start .pre .1 in
-    let l = p .0 .1 in
-    let m = p .1 .0 .0 in
-    let n = c .before .before .if1 .left in
-    let few = p .0 .0 .few-bidders in
-    let h = c .loop-test .taken in
-    ((omega arith, omega arith), omega arith)
-
-search-look-ahead-requires : (t : ℕ) → search-lts.Need-look-ahead-requires (
-  may-stand-reads.Asked,
-  may-stand-reads.Learnt,
-  look-ahead-reads.Asked,
-  look-ahead-reads.Learnt,
-  with-bidder-reads.Asked,
-  with-bidder-reads.Learnt,
-  search-below t,
-  search′.Post,
-) (search-at t) search′.Post search-Inv-loop search-μ-loop
-search-look-ahead-requires t c κs =
-    let start = c .before .before .before .before .before .before .before .before .before in
-    let a = start .args in
-    let p = start .pre .1 in
-    let l = p .0 .1 in
-    let m = p .1 .0 .0 in
-    let n = c .before .before .before .before .if1 .left in
-    (p .0 .0, (omega arith, p .1 .0 .1, (let h = c .before .before .loop-test .taken in omega arith)))
-
-search-add-search : (t : ℕ) → search-lts.Need-add-search (
-  may-stand-reads.Asked,
-  may-stand-reads.Learnt,
-  look-ahead-reads.Asked,
-  look-ahead-reads.Learnt,
-  with-bidder-reads.Asked,
-  with-bidder-reads.Learnt,
-  search-below t,
-  search′.Post,
-) (search-at t) search′.Post search-Inv-loop search-μ-loop
-search-add-search t c =
-    let start = c .before .before .before .before .before .before .before .before .before .before .before .before .before in
-    let a = start .args in
-    let p = start .pre .1 in
-    let l = p .0 .1 in let m = p .1 .0 .0 in omega arith
-
-search-with-bidder-requires : (t : ℕ) → search-lts.Need-with-bidder-requires (
-  may-stand-reads.Asked,
-  may-stand-reads.Learnt,
-  look-ahead-reads.Asked,
-  look-ahead-reads.Learnt,
-  with-bidder-reads.Asked,
-  with-bidder-reads.Learnt,
-  search-below t,
-  search′.Post,
-) (search-at t) search′.Post search-Inv-loop search-μ-loop
-search-with-bidder-requires t c κs =
-    let start = c .before .before .before .before .before .before .before .before .before .before .before .before .before in
-    let a = start .args in
-    let p = start .pre .1 in
-    let l = p .0 .1 in let m = p .1 .0 .0 in (omega arith, omega arith)
+    let q = start .pre .1 in
+    let low = slot-most (a .slot .0) (a .free .0) (q .0 .1) (q .0 .2) (c .before .if1 .left) in
+    ((q .0 .0, low, q .0 .3), q .1 .0)
 
 search-search-requires : (t : ℕ) → search-lts.Need-search-requires (
-  may-stand-reads.Asked,
-  may-stand-reads.Learnt,
+  next-slot-reads.Asked,
+  next-slot-reads.Learnt,
+  pass-over-reads.Asked,
+  pass-over-reads.Learnt,
+  search-below t,
+  search′.Post,
+  rank-of-reads.Asked,
+  rank-of-reads.Learnt,
+  is-free-reads.Asked,
+  is-free-reads.Learnt,
   look-ahead-reads.Asked,
   look-ahead-reads.Learnt,
   with-bidder-reads.Asked,
   with-bidder-reads.Learnt,
-  search-below t,
-  search′.Post,
 ) (search-at t) search′.Post search-Inv-loop search-μ-loop
 search-search-requires t c κs =
-    let start = c .before .before .before .before .before .before .before .before .before .before .before .before .before .before in
+    let start = c .before .before .before .before .before .before in
     let a = start .args in
-    let p = start .pre .1 in
-    let l = p .0 .1 in
-    let m = p .1 .0 .0 in
-    let n = c .before .before .before .before .before .before .before .before .before .if1 .left in
+    let q = start .pre .1 in
+    let some = c .before .before .before .before .if1 .left in
+    let low = slot-most (a .slot .0) (a .free .0) (q .0 .1) (q .0 .2) some in
+    let next = c .before .before .before .next-slot .ensures in
+    let passes = c .before .before .pass-over .ensures (a .slot .0 - 1) (omega arith) in
     let is-t = start .pre .0 in
-    let leads = c .before .before .before .before .look-ahead .ensures in
-    let had = p .1 .0 .1 in
-    let e = leads .had-is in
-    let low = product-low (a .bids .now) (a .effects .now) (c .before .before .before .before .before .before .before .before .loop .b) (a .«from») (p .0 .0 .bids-low) (p .0 .0 .effects-low) in (
+    let e = passes .had-is in
+    let had = q .0 .3 in (
       omega arith,
       (
-        p .0,
         (
-          (omega arith, omega arith, subst Sized (sym (c .with-bidder .ensures)) (put-sized (a .page) (a .«from» + 1) (c .before .before .before .before .before .before .before .before .loop .b) (p .1 .0 .2))),
-          next-told _ _ _ _ _ _ _ _ (a .page) _ _ (p .1 .0 .2) (c .with-bidder .ensures) leads (p .1 .1),
+          omega arith,
+          omega arith,
+          subst (λ (n : ℕ). c .before .before .pass-over .result .free .0 < 2 ^ (8 * (9 - n))) (sym next) (passes .free-low _ (slots-after (a .slot .0) (a .free .0) low (q .0 .2))),
+          omega arith,
         ),
+        q .1,
       ),
     )
 
-search-add-b : (t : ℕ) → search-lts.Need-add-b (
-  may-stand-reads.Asked,
-  may-stand-reads.Learnt,
+search-returns-2 : (t : ℕ) → search-lts.Need-returns-2 (
+  next-slot-reads.Asked,
+  next-slot-reads.Learnt,
+  pass-over-reads.Asked,
+  pass-over-reads.Learnt,
+  search-below t,
+  search′.Post,
+  rank-of-reads.Asked,
+  rank-of-reads.Learnt,
+  is-free-reads.Asked,
+  is-free-reads.Learnt,
   look-ahead-reads.Asked,
   look-ahead-reads.Learnt,
   with-bidder-reads.Asked,
   with-bidder-reads.Learnt,
+) (search-at t) search′.Post search-Inv-loop search-μ-loop
+search-returns-2 t c =
+    let start = c .before .before .before .before .before .before .before .before in
+    let a = start .args in
+    let q = start .pre .1 in
+    λ r ranked k e n v o w f.
+    nobody-found (a .shut .now) (a .gains .now) (a .ranks .now) (a .bidders) (a .slot .0) (a .page) (a .free .0) (a .had) (a .total) (c .before .before .before .before .before .before .if1 .left)
+    (c .before .before .before .before .pass-over .result) (c .before .before .before .before .pass-over .ensures) (c .before .before .before .before .before .next-slot .result .0) (c .before .before .before .before .before .next-slot .ensures) _ _ (c .before .search .ensures) (c .if3 .taken) r ranked k e n v o w f
+
+search-loop-holds : (t : ℕ) → search-lts.Need-loop-holds (
+  next-slot-reads.Asked,
+  next-slot-reads.Learnt,
+  pass-over-reads.Asked,
+  pass-over-reads.Learnt,
   search-below t,
   search′.Post,
+  rank-of-reads.Asked,
+  rank-of-reads.Learnt,
+  is-free-reads.Asked,
+  is-free-reads.Learnt,
+  look-ahead-reads.Asked,
+  look-ahead-reads.Learnt,
+  with-bidder-reads.Asked,
+  with-bidder-reads.Learnt,
 ) (search-at t) search′.Post search-Inv-loop search-μ-loop
-search-add-b t c =
+search-loop-holds t c =
+    let start = c .before .before .before .before .before .before in
+    let a = start .args in
+    let q = start .pre .1 in
+    let some = c .before .before .before .before .if1 .left in
+    let next = c .before .before .pass-over .result in
+    let passes = c .before .before .pass-over .ensures in
+    record {
+      some = omega arith;
+      most = omega arith;
+      so-far =
+          ⊎-elim
+          (λ x. nobody-none (a .shut .now) (a .gains .now) (a .ranks .now) (a .bidders) (a .slot .0) (a .page) (a .free .0) (a .had) (a .total) some next passes (c .before .before .before .next-slot .result .0) (c .before .before .before .next-slot .ensures) _ _ (x .1 .ensures) (x .2 .left))
+          (λ x. nobody-small (a .shut .now) (a .gains .now) (a .ranks .now) (a .bidders) (a .slot .0) (a .page) (a .free .0) (a .had) (a .total) some next passes (x .left))
+          (c .if2 .came);
+    }
+
+search-cast-if4 : (t : ℕ) → search-lts.Need-cast-if4 (
+  next-slot-reads.Asked,
+  next-slot-reads.Learnt,
+  pass-over-reads.Asked,
+  pass-over-reads.Learnt,
+  search-below t,
+  search′.Post,
+  rank-of-reads.Asked,
+  rank-of-reads.Learnt,
+  is-free-reads.Asked,
+  is-free-reads.Learnt,
+  look-ahead-reads.Asked,
+  look-ahead-reads.Learnt,
+  with-bidder-reads.Asked,
+  with-bidder-reads.Learnt,
+) (search-at t) search′.Post search-Inv-loop search-μ-loop
+search-cast-if4 t c =
+    let start = c .before .before .before .before .before .before .before .before in
+    let a = start .args in
+    let q = start .pre .1 in
+    let few = q .1 .1 in
+    let most = c .before .loop .inv .most in
+    omega arith
+
+search-rank-of-requires : (t : ℕ) → search-lts.Need-rank-of-requires (
+  next-slot-reads.Asked,
+  next-slot-reads.Learnt,
+  pass-over-reads.Asked,
+  pass-over-reads.Learnt,
+  search-below t,
+  search′.Post,
+  rank-of-reads.Asked,
+  rank-of-reads.Learnt,
+  is-free-reads.Asked,
+  is-free-reads.Learnt,
+  look-ahead-reads.Asked,
+  look-ahead-reads.Learnt,
+  with-bidder-reads.Asked,
+  with-bidder-reads.Learnt,
+) (search-at t) search′.Post search-Inv-loop search-μ-loop
+search-rank-of-requires t c κs =
     let start = c .before .before .before .before .before .before .before .before .before in
     let a = start .args in
-    let p = start .pre .1 in
-    let few = p .0 .0 .few-bidders in let h = c .before .before .loop-test .taken in omega arith
+    let q = start .pre .1 in
+    let few = q .1 .1 in
+    let h = c .if4 .taken in
+    omega arith
 
-search-loop-less : (t : ℕ) → search-lts.Need-loop-less (
-  may-stand-reads.Asked,
-  may-stand-reads.Learnt,
+search-is-free-requires : (t : ℕ) → search-lts.Need-is-free-requires (
+  next-slot-reads.Asked,
+  next-slot-reads.Learnt,
+  pass-over-reads.Asked,
+  pass-over-reads.Learnt,
+  search-below t,
+  search′.Post,
+  rank-of-reads.Asked,
+  rank-of-reads.Learnt,
+  is-free-reads.Asked,
+  is-free-reads.Learnt,
   look-ahead-reads.Asked,
   look-ahead-reads.Learnt,
   with-bidder-reads.Asked,
   with-bidder-reads.Learnt,
-  search-below t,
-  search′.Post,
 ) (search-at t) search′.Post search-Inv-loop search-μ-loop
-search-loop-less t c =
-    let h = c .before .before .loop-test .taken in omega arith
-
-search-loop-again : (t : ℕ) → search-lts.Need-loop-again (
-  may-stand-reads.Asked,
-  may-stand-reads.Learnt,
-  look-ahead-reads.Asked,
-  look-ahead-reads.Learnt,
-  with-bidder-reads.Asked,
-  with-bidder-reads.Learnt,
-  search-below t,
-  search′.Post,
-) (search-at t) search′.Post search-Inv-loop search-μ-loop
-search-loop-again t c =
-    let start = c .before .before .before .before .before .before .before .before .before in
+search-is-free-requires t c κs =
+    let start = c .before .before .before .before .before .before .before .before .before .before in
     let a = start .args in
-    let p = start .pre .1 in
-    let low : c .before .before .before .loop .b ≤ length (a .ranked .now) = (let h = c .before .before .loop-test .taken in omega arith) in
-    let v = c .before .before .before .loop .inv in
-    let l = p .1 .0 .0 in
-    let n = c .before .before .before .before .if1 .left in
-    let inside : a .«from» < a .slots = omega arith in
-    ⊎-elim
-    (λ x.
-    subst (λ (n : Answer). Trying (a .clashes .now) (a .ranked .now) (a .bids .now) (a .effects .now) (a .slots) (a .«from») (a .page) (a .had) (a .answer) n (c .before .before .before .loop .b + 1)) (sym (x .7))
-    (trying-searched _ _ _ _ _ _ _ _ _ _ _ v inside (p .0 .1) low _ (p .1 .1 .0) (x .6 .result) (x .1 .result) (x .5 .result) (sym (c .before .may-stand .ensures) ∙ x .0 .taken) (x .1 .ensures) (x .5 .ensures) (x .6 .ensures)))
-    (⊎-elim
-    (λ x.
-    subst (λ (n : Answer). Trying (a .clashes .now) (a .ranked .now) (a .bids .now) (a .effects .now) (a .slots) (a .«from») (a .page) (a .had) (a .answer) n (c .before .before .before .loop .b + 1)) (sym (x .5))
-    (trying-small _ _ _ _ _ _ _ _ _ _ _ v inside (p .0 .1) low _ (p .1 .1 .0) (x .1 .result) (sym (c .before .may-stand .ensures) ∙ x .0 .taken) (x .1 .ensures) (x .4 .left)))
-    (λ x.
-    subst (λ (n : Answer). Trying (a .clashes .now) (a .ranked .now) (a .bids .now) (a .effects .now) (a .slots) (a .«from») (a .page) (a .had) (a .answer) n (c .before .before .before .loop .b + 1)) (sym (x .1))
-    (trying-skipped _ _ _ _ _ _ _ _ _ _ _ v inside (p .0 .1) low _ (p .1 .1 .0) (sym (c .before .may-stand .ensures) ∙ x .0 .left))))
-    (c .if3 .came)
+    let q = start .pre .1 in
+    subst (λ (n : ℕ). n < 8) (sym (c .rank-of .ensures)) (q .1 .2 _)
+
+search-look-ahead-requires : (t : ℕ) → search-lts.Need-look-ahead-requires (
+  next-slot-reads.Asked,
+  next-slot-reads.Learnt,
+  pass-over-reads.Asked,
+  pass-over-reads.Learnt,
+  search-below t,
+  search′.Post,
+  rank-of-reads.Asked,
+  rank-of-reads.Learnt,
+  is-free-reads.Asked,
+  is-free-reads.Learnt,
+  look-ahead-reads.Asked,
+  look-ahead-reads.Learnt,
+  with-bidder-reads.Asked,
+  with-bidder-reads.Learnt,
+) (search-at t) search′.Post search-Inv-loop search-μ-loop
+search-look-ahead-requires t c κs =
+    let start = c .before .before .before .before .before .before .before .before .before .before .before .before in
+    let a = start .args in
+    let q = start .pre .1 in
+    let low = slot-most (a .slot .0) (a .free .0) (q .0 .1) (q .0 .2) (c .before .before .before .before .before .before .before .before .before .before .if1 .left) in
+    ((q .0 .0, low, subst (λ (n : ℕ). n < 8) (sym (c .before .before .rank-of .ensures)) (q .1 .2 _), q .0 .3), q .1 .0)
+
+search-with-bidder-requires : (t : ℕ) → search-lts.Need-with-bidder-requires (
+  next-slot-reads.Asked,
+  next-slot-reads.Learnt,
+  pass-over-reads.Asked,
+  pass-over-reads.Learnt,
+  search-below t,
+  search′.Post,
+  rank-of-reads.Asked,
+  rank-of-reads.Learnt,
+  is-free-reads.Asked,
+  is-free-reads.Learnt,
+  look-ahead-reads.Asked,
+  look-ahead-reads.Learnt,
+  with-bidder-reads.Asked,
+  with-bidder-reads.Learnt,
+) (search-at t) search′.Post search-Inv-loop search-μ-loop
+search-with-bidder-requires t c κs =
+    let start = c .before .before .before .before .before .before .before .before .before .before .before .before .before .before .before in
+    let a = start .args in
+    let q = start .pre .1 in
+    let low = slot-most (a .slot .0) (a .free .0) (q .0 .1) (q .0 .2) (c .before .before .before .before .before .before .before .before .before .before .before .before .before .if1 .left) in
+    (q .0 .0, omega arith)
+
+search-search-requires-2 : (t : ℕ) → search-lts.Need-search-requires-2 (
+  next-slot-reads.Asked,
+  next-slot-reads.Learnt,
+  pass-over-reads.Asked,
+  pass-over-reads.Learnt,
+  search-below t,
+  search′.Post,
+  rank-of-reads.Asked,
+  rank-of-reads.Learnt,
+  is-free-reads.Asked,
+  is-free-reads.Learnt,
+  look-ahead-reads.Asked,
+  look-ahead-reads.Learnt,
+  with-bidder-reads.Asked,
+  with-bidder-reads.Learnt,
+) (search-at t) search′.Post search-Inv-loop search-μ-loop
+search-search-requires-2 t c κs =
+    let start = c .before .before .before .before .before .before .before .before .before .before .before .before .before .before .before .before in
+    let a = start .args in
+    let q = start .pre .1 in
+    let some = c .before .before .before .before .before .before .before .before .before .before .before .before .before .before .if1 .left in
+    let low = slot-most (a .slot .0) (a .free .0) (q .0 .1) (q .0 .2) some in
+    let next = c .before .before .before .before .before .before .before .before .before .before .before .before .before .next-slot .ensures in
+    let leads = c .before .before .before .look-ahead .ensures (a .slot .0 - 1) (omega arith) in
+    let is-t = start .pre .0 in
+    let e = leads .had-is in
+    let had = q .0 .3 in
+    let one = gain-low (a .gains .now) (q .1 .0) (c .before .before .before .before .before .before .rank-of .result .0) (a .slot .0 - 1) in (
+      omega arith,
+      (
+        (
+          omega arith,
+          omega arith,
+          subst (λ (n : ℕ). c .before .before .before .look-ahead .result .free .0 < 2 ^ (8 * (9 - n))) (sym next) (leads .free-low _ (slots-after (a .slot .0) (a .free .0) low (q .0 .2))),
+          omega arith,
+        ),
+        q .1,
+      ),
+    )
 
 search-returns-3 : (t : ℕ) → search-lts.Need-returns-3 (
-  may-stand-reads.Asked,
-  may-stand-reads.Learnt,
+  next-slot-reads.Asked,
+  next-slot-reads.Learnt,
+  pass-over-reads.Asked,
+  pass-over-reads.Learnt,
+  search-below t,
+  search′.Post,
+  rank-of-reads.Asked,
+  rank-of-reads.Learnt,
+  is-free-reads.Asked,
+  is-free-reads.Learnt,
   look-ahead-reads.Asked,
   look-ahead-reads.Learnt,
   with-bidder-reads.Asked,
   with-bidder-reads.Learnt,
-  search-below t,
-  search′.Post,
 ) (search-at t) search′.Post search-Inv-loop search-μ-loop
 search-returns-3 t c =
-    λ r v w.
-    all-tried r _ _ _ _ _ _ _ (let e = v .bidders-are in let h = c .loop-test .left in omega arith) (c .before .loop .inv .so-far r v w)
+    let start = c .before .before .before .before .before .before .before .before .before .before .before .before .before .before .before .before .before .before in
+    let a = start .args in
+    let q = start .pre .1 in
+    let some = c .before .before .before .before .before .before .before .before .before .before .before .before .before .before .before .before .if1 .left in
+    is-first (a .shut .now) (a .gains .now) (a .ranks .now) (a .bidders) (a .slot .0) (a .page) (a .free .0) (a .had) (a .total) some (c .before .before .before .before .before .before .before .before .before .before .before .loop .bidder .0) (c .before .before .before .before .before .before .before .before .before .before .before .loop .inv) (c .before .before .before .before .before .before .before .before .before .if4 .taken) (c .before .before .before .before .before .before .before .before .rank-of .result .0) (c .before .before .before .before .before .before .before .before .rank-of .ensures)
+    (subst (λ (n : ℕ). n < 8) (sym (c .before .before .before .before .before .before .before .before .rank-of .ensures)) (q .1 .2 _)) (sym (c .before .before .before .before .before .before .before .is-free .ensures) ∙ c .before .before .before .before .before .before .if5 .taken)
+    (c .before .before .before .before .before .look-ahead .result) (c .before .before .before .before .before .look-ahead .ensures) (c .before .before .before .before .before .before .before .before .before .before .before .before .before .before .before .next-slot .result .0) (c .before .before .before .before .before .before .before .before .before .before .before .before .before .before .before .next-slot .ensures)
+    (c .before .before .with-bidder .result) (c .before .before .with-bidder .ensures) _ _ (c .before .search2 .ensures) (c .if7 .taken)
+
+search-add-t26 : (t : ℕ) → search-lts.Need-add-t26 (
+  next-slot-reads.Asked,
+  next-slot-reads.Learnt,
+  pass-over-reads.Asked,
+  pass-over-reads.Learnt,
+  search-below t,
+  search′.Post,
+  rank-of-reads.Asked,
+  rank-of-reads.Learnt,
+  is-free-reads.Asked,
+  is-free-reads.Learnt,
+  look-ahead-reads.Asked,
+  look-ahead-reads.Learnt,
+  with-bidder-reads.Asked,
+  with-bidder-reads.Learnt,
+) (search-at t) search′.Post search-Inv-loop search-μ-loop
+search-add-t26 t c =
+    let start = c .before .before .before .before .before .before .before .before .before .before .before .before .before in
+    let a = start .args in
+    let q = start .pre .1 in
+    let few = q .1 .1 in let h = c .before .before .before .before .if4 .taken in omega arith
+
+search-loop-less : (t : ℕ) → search-lts.Need-loop-less (
+  next-slot-reads.Asked,
+  next-slot-reads.Learnt,
+  pass-over-reads.Asked,
+  pass-over-reads.Learnt,
+  search-below t,
+  search′.Post,
+  rank-of-reads.Asked,
+  rank-of-reads.Learnt,
+  is-free-reads.Asked,
+  is-free-reads.Learnt,
+  look-ahead-reads.Asked,
+  look-ahead-reads.Learnt,
+  with-bidder-reads.Asked,
+  with-bidder-reads.Learnt,
+) (search-at t) search′.Post search-Inv-loop search-μ-loop
+search-loop-less t c =
+    let start = c .before .before .before .before .before .before .before .before .before .before .before .before .before in
+    let a = start .args in
+    let q = start .pre .1 in
+    let few = q .1 .1 in let h = c .before .before .before .before .if4 .taken in omega arith
+
+search-loop-again : (t : ℕ) → search-lts.Need-loop-again (
+  next-slot-reads.Asked,
+  next-slot-reads.Learnt,
+  pass-over-reads.Asked,
+  pass-over-reads.Learnt,
+  search-below t,
+  search′.Post,
+  rank-of-reads.Asked,
+  rank-of-reads.Learnt,
+  is-free-reads.Asked,
+  is-free-reads.Learnt,
+  look-ahead-reads.Asked,
+  look-ahead-reads.Learnt,
+  with-bidder-reads.Asked,
+  with-bidder-reads.Learnt,
+) (search-at t) search′.Post search-Inv-loop search-μ-loop
+search-loop-again t c =
+    let start = c .before .before .before .before .before .before .before .before .before .before .before .before .before in
+    let a = start .args in
+    let q = start .pre .1 in
+    let some = c .before .before .before .before .before .before .before .before .before .before .before .if1 .left in
+    let b = c .before .before .before .before .before .before .loop .bidder .0 in
+    let inv = c .before .before .before .before .before .before .loop .inv in
+    let turn = c .before .before .before .before .if4 .taken in
+    let i = c .before .before .before .rank-of .result .0 in
+    let i-is = c .before .before .before .rank-of .ensures in
+    let i-low = subst (λ (n : ℕ). n < 8) (sym i-is) (q .1 .2 _) in
+    let told = c .before .before .is-free .ensures in
+    rw (add-one b)
+    (⊎-elim
+    (λ x.
+    none-there (a .shut .now) (a .gains .now) (a .ranks .now) (a .bidders) (a .slot .0) (a .page) (a .free .0) (a .had) (a .total) some b inv turn i i-is i-low (sym told ∙ x .0 .taken) (x .1 .result) (x .1 .ensures) (c .before .before .before .before .before .before .before .before .before .before .next-slot .result .0) (c .before .before .before .before .before .before .before .before .before .before .next-slot .ensures)
+    (x .4 .result) (x .4 .ensures) _ _ (x .5 .ensures) (x .6 .left))
+    (⊎-elim
+    (λ x. too-small (a .shut .now) (a .gains .now) (a .ranks .now) (a .bidders) (a .slot .0) (a .page) (a .free .0) (a .had) (a .total) some b inv turn i i-is i-low (sym told ∙ x .0 .taken) (x .1 .result) (x .1 .ensures) (x .3 .left))
+    (λ x. not-free (a .shut .now) (a .gains .now) (a .ranks .now) (a .bidders) (a .slot .0) (a .page) (a .free .0) (a .had) (a .total) some b inv turn i i-is i-low (sym told ∙ x .left)))
+    (c .before .if5 .came))
+
+search-returns-4 : (t : ℕ) → search-lts.Need-returns-4 (
+  next-slot-reads.Asked,
+  next-slot-reads.Learnt,
+  pass-over-reads.Asked,
+  pass-over-reads.Learnt,
+  search-below t,
+  search′.Post,
+  rank-of-reads.Asked,
+  rank-of-reads.Learnt,
+  is-free-reads.Asked,
+  is-free-reads.Learnt,
+  look-ahead-reads.Asked,
+  look-ahead-reads.Learnt,
+  with-bidder-reads.Asked,
+  with-bidder-reads.Learnt,
+) (search-at t) search′.Post search-Inv-loop search-μ-loop
+search-returns-4 t c =
+    let start = c .before .before .before .before .before .before .before .before .before in
+    let a = start .args in
+    let q = start .pre .1 in
+    let inv = c .before .before .loop .inv in
+    λ r ranked k e n v o w f.
+    none-found r (a .page) k (a .had) (a .total) w (room r ranked (a .shut .now) (a .gains .now) v (a .page) k (a .had) w (a .free .0) f (c .before .before .before .before .before .before .before .if1 .left)) (c .before .before .loop .bidder .0) (a .page) (let past = c .if4 .left in omega arith) (inv .so-far r ranked k e n v o w f)
 
 pub +search-spec : {M : Type 1} → statement M
 +search-spec = close μ-search λ t. search-lts.spec (
-  may-stand-reads.Asked,
-  may-stand-reads.Learnt,
+  next-slot-reads.Asked,
+  next-slot-reads.Learnt,
+  pass-over-reads.Asked,
+  pass-over-reads.Learnt,
+  search-below t,
+  search′.Post,
+  rank-of-reads.Asked,
+  rank-of-reads.Learnt,
+  is-free-reads.Asked,
+  is-free-reads.Learnt,
   look-ahead-reads.Asked,
   look-ahead-reads.Learnt,
   with-bidder-reads.Asked,
   with-bidder-reads.Learnt,
-  search-below t,
-  search′.Post,
 )
     (search-at t)
     search′.Post
     search-Inv-loop
     search-μ-loop
-    (search-add-t18 t)
     (search-returns t)
-    (search-returns-2 t)
-    (search-add-t19 t)
-    (search-cast-t20 t)
-    (search-loop-holds t)
-    (search-cast-t23 t)
-    (search-may-stand-requires t)
-    (search-look-ahead-requires t)
-    (search-add-search t)
-    (search-with-bidder-requires t)
+    (search-next-slot-requires t)
+    (search-pass-over-requires t)
     (search-search-requires t)
-    (search-add-b t)
+    (search-returns-2 t)
+    (search-loop-holds t)
+    (search-cast-if4 t)
+    (search-rank-of-requires t)
+    (search-is-free-requires t)
+    (search-look-ahead-requires t)
+    (search-with-bidder-requires t)
+    (search-search-requires-2 t)
+    (search-returns-3 t)
+    (search-add-t26 t)
     (search-loop-less t)
     (search-loop-again t)
-    (search-returns-3 t)
+    (search-returns-4 t)

@@ -90,25 +90,22 @@ write-page-requires c κs =
     let size = c .before .before .if4 .left in
     (omega arith, omega arith, λ k. omega (arith, c .before .best-page .ensures .0 .allowed .page .bidders k))
 
-sub-t15 : tie.Need-sub-t15
-sub-t15 c = search needs
-
 same-length : tie.Need-same-length
 same-length c = search needs
 
 returns-5 : tie.Need-returns-5
 returns-5 c =
-    let s = c .before .before .before .before .before .before .before .before .before .before .before .before .before .before .before .args .sheet .now in
-    let out = c .before .before .before .before .before .before .before .before .before .before .before .before .before .before .before .args .result .now in
-    let ok : Accepted s = sym (c .before .before .before .before .before .before .before .before .before .before .before .before .check .ensures) ∙ c .before .before .before .before .before .before .before .before .before .before .before .if1 .left in
+    let s = c .before .before .before .before .before .before .before .before .before .before .before .before .before .before .args .sheet .now in
+    let out = c .before .before .before .before .before .before .before .before .before .before .before .before .before .before .args .result .now in
+    let ok : Accepted s = sym (c .before .before .before .before .before .before .before .before .before .before .before .check .ensures) ∙ c .before .before .before .before .before .before .before .before .before .before .if1 .left in
     let r = roundOf s in
     let proper = round-proper s ok in
-    let found = c .before .before .before .before .before .best-page .ensures in
-    let page = c .before .before .before .before .before .best-page .result .page in
-    best-given s out ok r page (c .before .before .before .before .before .best-page .result .need) _
-    (c .before .before .before .before .before .before .before .before .if2 .left) (c .before .before .before .before .before .before .before .if3 .left) (c .before .before .before .before .before .before .if4 .left)
+    let found = c .before .before .before .before .best-page .ensures in
+    let page = c .before .before .before .before .best-page .result .page in
+    best-given s out ok r page (c .before .before .before .before .best-page .result .total) _
+    (c .before .before .before .before .before .before .before .if2 .left) (c .before .before .before .before .before .before .if3 .left) (c .before .before .before .before .before .if4 .left)
     refl (is-best-page r (proper .most-slots) proper page (found .0)) (found .1)
-    (c .before .before .before .write-page .ensures ∙ ap (written out page) (sym (round-slots s)))
+    (c .before .before .write-page .ensures ∙ ap (written out page) (sym (round-slots s)))
 
 pub best-spec : {M : Type 1} → statement M
 best-spec =
@@ -125,6 +122,5 @@ best-spec =
     returns-4
     best-page-requires
     write-page-requires
-    sub-t15
     same-length
     returns-5)

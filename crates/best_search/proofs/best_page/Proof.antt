@@ -1,164 +1,204 @@
--- `best_search::best_page` meets its contract: the search through all pages of the sheet's round, from a total that some page has, finds
--- the best one. Assumes nothing.
-use Rattle.basis.proofs.RowLaws.{zeros}
-use Prim.Native.Nat.{ℕ, suc, _≤_}
+-- `best_search::best_page` meets its contract: each table is the round's, and so what the two searches give is the best page. Assumes nothing.
+use Prim.Native.Nat.{ℕ, suc, _*_, _-_, _^_, _<_, _≤_}
+use mathlib.Core.Bool.{Bool}
 use mathlib.Core.List.{List}
 use mathlib.Core.Path.{_≡_, refl, sym, _∙_, ap, subst}
+use native.Mathlib.Nat.{lt-of-lt-of-le}
 use native.Mathlib.Omega.{arith}
+use lib.ListN.{length, getD}
+use lib.Pow.{pow-mono}
+use Rattle.basis.proofs.RowLaws.{zeros, getD-padded-after}
 use Rattle.sheet.specs.declared.Page.{Page}
-use Rattle.sheet.specs.declared.Round.{Round}
-use Rattle.sheet.specs.Sheet.{bidderCount, slotCount}
 use Rattle.sheet.specs.Refusal.{Accepted}
 use Rattle.sheet.specs.Round.{roundOf}
-use Rattle.sheet.specs.Proper.{ProperRound}
+use Rattle.sheet.specs.Sheet.{bidderCount, slotCount, effectField}
+use Rattle.sheet.proofs.AcceptedLaws.{accepted-sheet}
 use Rattle.sheet.proofs.RoundLaws.{round-proper}
-use Rattle.auction.specs.Page.{at, emptyPage, Sized}
+use Rattle.choice.specs.EngineBids.{bidIn}
+use Rattle.choice.specs.EngineRanking.{InOrder}
+use Rattle.choice.proofs.RankingLaws.{ranked-once}
 use Rattle.auction.specs.Allowed.{total}
-use Rattle.auction.proofs.PageLaws.{at-empty, empty-sized}
-use Rattle.best_clash.specs.EngineClash.{TableOf, BarredBy}
+use Rattle.auction.specs.Page.{emptyPage}
 use Rattle.best_page.specs.Best.{Best}
-use Rattle.best_search.proofs.StartLaws.{front-size, lent-of, best-found}
+use Rattle.best_bound.specs.EngineBound.{nth, bidAtRank, GainsOf}
+use Rattle.best_clash.specs.EngineClash.{RanksOf}
+use Rattle.best_clash.specs.EngineMarks.{FilledBy, WordsOf, LeftBy}
+use Rattle.best_clash.proofs.ShutLaws.{shut-of, free-start}
+use Rattle.best_search.specs.EngineFound.{Raised, Sought}
+use Rattle.best_search.proofs.StartLaws.{bids-low, effects-low, best-found}
 use borrow.Author.Needs.{needs}
 use Rattle.best_search.proofs.best_page.Statement.{statement}
 use Rattle.best_search.proofs.best_page.Tie as tie
 
--- who is barred at first is barred on the page that the search starts from
-barred-of-empty : (table : List ℕ) (barred : ℕ) (p : Page) → p ≡ emptyPage → BarredBy table emptyPage 0 barred → BarredBy table p 0 barred
-barred-of-empty table barred p e h = subst (λ (q : Page). BarredBy table q 0 barred) (sym e) h
+-- the ranking is one of the round's bids
+order-of : (s bids ranked : List ℕ) → bids ≡ roundOf s .bids → InOrder (bidIn bids) (bidderCount s) ranked → InOrder (bidIn (roundOf s .bids)) (bidderCount s) ranked
+order-of s bids ranked e o = subst (λ (x : List ℕ). InOrder (bidIn x) (bidderCount s) ranked) e o
 
--- a proper round of up to 8 bidders and 8 slots
-abbrev Small : Round → Type 0
-Small r = ProperRound r × (r .bidders ≤ 8) × (r .slots ≤ 8)
+-- what is free lies in eight slots
+free-low : (free slots : ℕ) → slots ≤ 8 → free < 2 ^ (8 * slots) → free < 2 ^ (8 * (9 - 1))
+free-low free slots short l = lt-of-lt-of-le l (pow-mono {i = 8 * slots} {j = 64} (omega arith))
 
-sheet-small : (s : List ℕ) → Accepted s × (bidderCount s ≤ 8) × (slotCount s ≤ 8) → Small (roundOf s)
+-- after the last slot there is no effect
+effects-end : (s : List ℕ) → Accepted s → (k : ℕ) → slotCount s ≤ k → getD (roundOf s .effects) k 0 ≡ 0
 unfolding roundOf
-sheet-small s p = (round-proper s (p .0), p .1, p .2)
+effects-end s ok k l = getD-padded-after (λ j. effectField s (suc j)) (slotCount s) 16 0 k (accepted-sheet s ok .counts .most-slots) l
 
--- the round that is made is the sheet's, so it is one
-small : (c : tie.After-accepted-round) → Small (c .accepted-round .result)
-small c = subst Small (sym (c .accepted-round .ensures)) (sheet-small _ (c .before .before .pre))
+-- what is handed on to the table of gains
+record Gained (s bids effects ranked : List ℕ) : Type 0 where
+  few : bidderCount s ≤ 8
+  listed : bidderCount s ≤ length ranked
+  named : (i : ℕ) → i < bidderCount s → (0 < getD ranked i 0) × (getD ranked i 0 ≤ length bids)
+  size : length effects ≡ 16
+  none : (k : ℕ) → slotCount s ≤ k → getD effects k 0 ≡ 0
+  bid : (i : ℕ) → getD bids i 0 ≤ 1000000000
+  effect : (i : ℕ) → getD effects i 0 ≤ 1000000
 
--- and the sheet's table is its table
-table-of : (table : List ℕ) (r q : Round) → r ≡ q → TableOf q table → TableOf r table
-table-of table r q e t = subst (λ (x : Round). TableOf x table) (sym e) t
+gained : (s bids effects ranked : List ℕ) → Accepted s → bidderCount s ≤ 8 → bids ≡ roundOf s .bids → effects ≡ roundOf s .effects →
+    InOrder (bidIn (roundOf s .bids)) (bidderCount s) ranked → Gained s bids effects ranked
+gained s bids effects ranked ok few same-bids same-effects o =
+    let proper = round-proper s ok in
+    let room : length bids ≡ 64 = ap length same-bids ∙ proper .sized-bids in
+    let size = o .size in
+    record {
+      few = few;
+      listed = omega arith;
+      named = λ i l. (o .some i l .0, (let low = o .some i l .1 in omega arith));
+      size = ap length same-effects ∙ proper .sized-effects;
+      none = λ k l. ap (λ (x : List ℕ). getD x k 0) same-effects ∙ effects-end s ok k l;
+      bid = λ i. subst (λ (x : List ℕ). getD x i 0 ≤ 1000000000) (sym same-bids) (bids-low (roundOf s) proper i);
+      effect = λ i. subst (λ (x : List ℕ). getD x i 0 ≤ 1000000) (sym same-effects) (effects-low (roundOf s) proper i);
+    }
 
-accepted-round-requires : tie.Need-accepted-round-requires
-accepted-round-requires c κs = c .before .pre .0
+-- all tables are the round's, so the searches give its best page
+found-best : (s : List ℕ) → Accepted s → bidderCount s ≤ 8 → slotCount s ≤ 8 →
+    (bids effects ranked ranks gains table shut : List ℕ) (free largest : ℕ) (found : Bool) (page empty : Page) →
+    bids ≡ roundOf s .bids → effects ≡ roundOf s .effects → InOrder (bidIn bids) (bidderCount s) ranked → RanksOf (bidderCount s) ranked ranks →
+    GainsOf (bidAtRank ranked bids (bidderCount s)) (nth effects) gains →
+    FilledBy ranks (roundOf s) table → WordsOf table shut → LeftBy table (bidderCount s) (slotCount s) free →
+    Raised shut gains 1 free 0 0 largest → empty ≡ emptyPage → Sought shut gains ranks (bidderCount s) 1 empty free 0 largest found page →
+    Best (roundOf s) page × (largest ≡ total (roundOf s) page)
+unfolding roundOf
+found-best s ok few short bids effects ranked ranks gains table shut free largest found page empty same-bids same-effects o by-number g filled words left raised none sought =
+    best-found (roundOf s) (round-proper s ok) few short ranked (order-of s bids ranked same-bids o) shut gains
+    (subst (λ (x : List ℕ). GainsOf (bidAtRank ranked (roundOf s .bids) (bidderCount s)) (nth x) gains) same-effects
+    (subst (λ (x : List ℕ). GainsOf (bidAtRank ranked x (bidderCount s)) (nth effects) gains) same-bids g))
+    (shut-of s ok few short ranked ranks table shut by-number filled words)
+    ranks free largest found page by-number (free-start s ok few short ranked ranks table free by-number filled left) raised
+    (subst (λ (x : Page). Sought shut gains ranks (bidderCount s) 1 x free 0 largest found page) none sought)
+
+shared-slice-read-bidders : tie.Need-shared-slice-read-bidders
+shared-slice-read-bidders c =
+    omega (arith, accepted-sheet _ (c .before .before .pre .0) .counts)
+
+cast-bidders : tie.Need-cast-bidders
+cast-bidders c = search needs
+
+shared-slice-read-slots : tie.Need-shared-slice-read-slots
+shared-slice-read-slots c =
+    omega (arith, accepted-sheet _ (c .before .before .before .pre .0) .counts)
+
+cast-slots : tie.Need-cast-slots
+cast-slots c = search needs
+
+accepted-effects-requires : tie.Need-accepted-effects-requires
+accepted-effects-requires c κs = search needs
+
+accepted-bids-requires : tie.Need-accepted-bids-requires
+accepted-bids-requires c κs = search needs
 
 slice-aggregate-ranking-of : tie.Need-slice-aggregate-ranking-of
 slice-aggregate-ranking-of c = search needs
 
 ranking-of-requires : tie.Need-ranking-of-requires
-ranking-of-requires c κs =
-    let p = small (c .before .before .before) in
-    search needs
+ranking-of-requires c κs = search needs
 
-slice-aggregate-fill-table : tie.Need-slice-aggregate-fill-table
-slice-aggregate-fill-table c = search needs
+slice-aggregate-ranks-of : tie.Need-slice-aggregate-ranks-of
+slice-aggregate-ranks-of c = search needs
+
+ranks-of-requires : tie.Need-ranks-of-requires
+ranks-of-requires c κs =
+    let start = c .before .before .before .before .before .before .before .before in
+    let s = start .args .sheet .now in
+    let few = start .pre .1 in
+    let o = order-of (c .before .before .before .before .before .before .before .before .args .sheet .now) _ _ (c .before .before .before .accepted-bids .ensures) (c .before .ranking-of .ensures) in
+    let size = o .size in
+    ((few, omega arith), (o .some, (λ i j l m e. ranked-once _ _ _ o i j l m e), o .everybody))
+
+slice-aggregate-gains-of : tie.Need-slice-aggregate-gains-of
+slice-aggregate-gains-of c = search needs
+
+slice-aggregate-gains-of-2 : tie.Need-slice-aggregate-gains-of-2
+slice-aggregate-gains-of-2 c = search needs
+
+slice-aggregate-gains-of-3 : tie.Need-slice-aggregate-gains-of-3
+slice-aggregate-gains-of-3 c = search needs
+
+gains-of-requires : tie.Need-gains-of-requires
+gains-of-requires c κs =
+    let start = c .before .before .before .before .before .before .before .before .before .before .before .before in
+    let s = start .args .sheet .now in
+    let p = start .pre in
+    let few = p .1 in
+    let o = order-of (c .before .before .before .before .before .before .before .before .before .before .before .before .args .sheet .now) _ _ (c .before .before .before .before .before .before .before .accepted-bids .ensures) (c .before .before .before .before .before .ranking-of .ensures) in
+    let g = gained s _ _ _ (p .0) few (c .before .before .before .before .before .before .before .accepted-bids .ensures) (c .before .before .before .before .before .before .before .before .accepted-effects .ensures) o in
+    ((g .few, g .listed, g .named), ((p .2, g .size, g .none), (g .bid, g .effect)))
 
 fill-table-requires : tie.Need-fill-table-requires
-fill-table-requires c κs = ((refl, zeros 64), c .before .before .before .before .before .before .before .pre)
+fill-table-requires c κs =
+    let p = c .before .before .before .before .before .before .before .before .before .before .before .before .before .before .before .pre in
+    ((refl, (λ x. zeros 73 x), c .before .before .before .before .before .before .ranks-of .ensures .1), p)
+
+shut-words-requires : tie.Need-shut-words-requires
+shut-words-requires c κs = search needs
+
+first-free-requires : tie.Need-first-free-requires
+first-free-requires c κs = search needs
 
 empty-page-requires : tie.Need-empty-page-requires
 empty-page-requires c κs = search needs
 
-slice-aggregate-first-barred : tie.Need-slice-aggregate-first-barred
-slice-aggregate-first-barred c = search needs
-
-first-barred-requires : tie.Need-first-barred-requires
-first-barred-requires c κs = search needs
-
-slice-aggregate-raise : tie.Need-slice-aggregate-raise
-slice-aggregate-raise c = search needs
-
-array-share-prefix-ranked : tie.Need-array-share-prefix-ranked
-array-share-prefix-ranked c =
-    let p = small (c .before .before .before .before .before .before .before .before .before .before .before) in
-    search needs
-
-slice-aggregate-raise-2 : tie.Need-slice-aggregate-raise-2
-slice-aggregate-raise-2 c =
-    let p = small (c .before .before .before .before .before .before .before .before .before .before .before .before) in
-    sym (front-size _ (p .0) (p .1) (p .2) _ _ (c .before .before .before .before .before .before .before .before .ranking-of .ensures) (table-of _ _ _ (c .before .before .before .before .before .before .before .before .before .before .before .before .accepted-round .ensures) (c .before .before .before .before .before .before .fill-table .ensures)))
-
-slice-aggregate-raise-3 : tie.Need-slice-aggregate-raise-3
-slice-aggregate-raise-3 c = search needs
-
-slice-aggregate-raise-4 : tie.Need-slice-aggregate-raise-4
-slice-aggregate-raise-4 c = search needs
-
 raise-requires : tie.Need-raise-requires
-raise-requires c κs =
-    let p = small (c .before .before .before .before .before .before .before .before .before .before .before .before .before .before) in
-    ((lent-of _ (p .0) (p .1) (p .2) _ _ (c .before .before .before .before .before .before .before .before .before .before .ranking-of .ensures) (table-of _ _ _ (c .before .before .before .before .before .before .before .before .before .before .before .before .before .before .accepted-round .ensures) (c .before .before .before .before .before .before .before .before .fill-table .ensures)), p .2), (omega arith, omega arith))
-
-slice-aggregate-search : tie.Need-slice-aggregate-search
-slice-aggregate-search c = search needs
-
-array-share-prefix-ranked-2 : tie.Need-array-share-prefix-ranked-2
-array-share-prefix-ranked-2 c =
-    let p = small (c .before .before .before .before .before .before .before .before .before .before .before .before .before .before .before .before) in
-    search needs
-
-slice-aggregate-search-2 : tie.Need-slice-aggregate-search-2
-slice-aggregate-search-2 c =
-    let p = small (c .before .before .before .before .before .before .before .before .before .before .before .before .before .before .before .before .before) in
-    sym (front-size _ (p .0) (p .1) (p .2) _ _ (c .before .before .before .before .before .before .before .before .before .before .before .before .before .ranking-of .ensures) (table-of _ _ _ (c .before .before .before .before .before .before .before .before .before .before .before .before .before .before .before .before .before .accepted-round .ensures) (c .before .before .before .before .before .before .before .before .before .before .before .fill-table .ensures)))
-
-slice-aggregate-search-3 : tie.Need-slice-aggregate-search-3
-slice-aggregate-search-3 c =
-    let p = small (c .before .before .before .before .before .before .before .before .before .before .before .before .before .before .before .before .before .before) in
-    search needs
-
-slice-aggregate-search-4 : tie.Need-slice-aggregate-search-4
-slice-aggregate-search-4 c =
-    let p = small (c .before .before .before .before .before .before .before .before .before .before .before .before .before .before .before .before .before .before .before) in
-    search needs
+raise-requires c κs = search needs
 
 search-requires : tie.Need-search-requires
 search-requires c κs =
-    let p = small (c .before .before .before .before .before .before .before .before .before .before .before .before .before .before .before .before .before .before .before) in
-    let empty = c .before .before .before .before .before .before .before .before .before .before .before .empty-page .ensures in (
-      (lent-of _ (p .0) (p .1) (p .2) _ _ (c .before .before .before .before .before .before .before .before .before .before .before .before .before .before .before .ranking-of .ensures) (table-of _ _ _ (c .before .before .before .before .before .before .before .before .before .before .before .before .before .before .before .before .before .before .before .accepted-round .ensures) (c .before .before .before .before .before .before .before .before .before .before .before .before .before .fill-table .ensures)), p .2),
-      (
-        (omega arith, omega arith, subst Sized (sym empty) empty-sized),
-        (
-          barred-of-empty _ _ _ empty (c .before .before .before .before .before .before .before .before .before .first-barred .ensures),
-          (λ k l. ap (λ (x : Page). at x k) empty ∙ at-empty k),
-        ),
-      ),
-    )
+    let p = c .before .before .before .before .before .before .before .before .before .before .before .before .before .before .before .before .before .before .before .before .before .before .before .before .before .before .before .pre in
+    let few = p .1 in
+    let free = c .before .before .before .before .before .before .before .first-free .ensures .low in
+    ((omega arith, omega arith, free-low _ _ (p .2) free, omega arith), (c .before .before .before .before .before .before .before .before .before .before .before .before .before .before .gains-of .ensures .1, few, c .before .before .before .before .before .before .before .before .before .before .before .before .before .before .before .before .before .before .ranks-of .ensures .1))
 
 returns : tie.Need-returns
 returns c =
-    let p = small (c .before .before .before .before .before .before .before .before .before .before .before .before .before .before .before .before .before .before .before .before) in
-    let page = c .search .result .page in
-    subst (λ (r : Round). Best r page × (c .search .result .need ≡ suc (total r page))) (c .before .before .before .before .before .before .before .before .before .before .before .before .before .before .before .before .before .before .before .before .accepted-round .ensures)
-    (best-found _ (p .0) (p .1) (p .2) _ _ (c .before .before .before .before .before .before .before .before .before .before .before .before .before .before .before .before .ranking-of .ensures) (table-of _ _ _ (c .before .before .before .before .before .before .before .before .before .before .before .before .before .before .before .before .before .before .before .before .accepted-round .ensures) (c .before .before .before .before .before .before .before .before .before .before .before .before .before .before .fill-table .ensures)) _ _ _ _ _ (c .before .before .before .before .before .before .before .before .before .before .first-barred .ensures) (c .before .before .before .before .before .raise .ensures)
-    (rw (c .before .before .before .before .before .before .before .before .before .before .before .before .empty-page .ensures) at (c .search .ensures)))
+    let start = c .before .before .before .before .before .before .before .before .before .before .before .before .before .before .before .before .before .before .before .before .before .before .before .before .before .before .before .before .before in
+    let s = start .args .sheet .now in
+    let p = start .pre in
+    found-best s (p .0) (p .1) (p .2) _ _ _ _ _ _ _ _ _ _ _ _ (c .before .before .before .before .before .before .before .before .before .before .before .before .before .before .before .before .before .before .before .before .before .before .before .before .accepted-bids .ensures) (c .before .before .before .before .before .before .before .before .before .before .before .before .before .before .before .before .before .before .before .before .before .before .before .before .before .accepted-effects .ensures) (c .before .before .before .before .before .before .before .before .before .before .before .before .before .before .before .before .before .before .before .before .before .before .ranking-of .ensures)
+    (c .before .before .before .before .before .before .before .before .before .before .before .before .before .before .before .before .before .before .before .before .ranks-of .ensures .0) (c .before .before .before .before .before .before .before .before .before .before .before .before .before .before .before .before .gains-of .ensures .0) (c .before .before .before .before .before .before .before .before .before .before .before .before .before .fill-table .ensures) (c .before .before .before .before .before .before .before .before .before .before .before .shut-words .ensures)
+    (c .before .before .before .before .before .before .before .before .before .first-free .ensures) (c .before .before .before .before .before .raise .ensures)
+    (c .before .before .before .before .before .before .before .before .empty-page .ensures) (c .before .search .ensures)
 
 pub best-page-spec : {M : Type 1} → statement M
 best-page-spec =
     tie.close
     (tie.spec
-    accepted-round-requires
+    shared-slice-read-bidders
+    cast-bidders
+    shared-slice-read-slots
+    cast-slots
+    accepted-effects-requires
+    accepted-bids-requires
     slice-aggregate-ranking-of
     ranking-of-requires
-    slice-aggregate-fill-table
+    slice-aggregate-ranks-of
+    ranks-of-requires
+    slice-aggregate-gains-of
+    slice-aggregate-gains-of-2
+    slice-aggregate-gains-of-3
+    gains-of-requires
     fill-table-requires
+    shut-words-requires
+    first-free-requires
     empty-page-requires
-    slice-aggregate-first-barred
-    first-barred-requires
-    slice-aggregate-raise
-    array-share-prefix-ranked
-    slice-aggregate-raise-2
-    slice-aggregate-raise-3
-    slice-aggregate-raise-4
     raise-requires
-    slice-aggregate-search
-    array-share-prefix-ranked-2
-    slice-aggregate-search-2
-    slice-aggregate-search-3
-    slice-aggregate-search-4
     search-requires
     returns)

@@ -1,0 +1,61 @@
+-- The words of one rank and of all bytes together: each rank and each bit is tried; and the or of a word's eight bytes has a bit where one of them
+-- has it, since each half's or tells it for the slots of that half. Assumes nothing.
+use Prim.Native.Nat.{ℕ, _+_, _*_, _/_, _%_, _^_, _<_}
+use mathlib.Core.Bool.{Bool, true, false, cond, not, _||_, false≢true}
+use mathlib.Core.Path.{_≡_, refl, sym, _∙_, ap}
+use native.Mathlib.Omega.{arith}
+use lib.Bits.{bitOr}
+use lib.Dec.{eqb}
+use Rattle.basis.specs.Bits.{bitOf}
+use Rattle.basis.specs.Tests.{anyBelow, allBelow}
+use Rattle.basis.proofs.BitLaws.{bit-or, bit-shr, bit-kept}
+use Rattle.basis.proofs.TestLaws.{all-at, any-pairs}
+use Rattle.best_seats.specs.EngineSeats.{somewhere}
+
+-- two tests with the same answer
+abbrev agree : Bool → Bool → Bool
+agree s t = cond s t (not t)
+
+agree-same : (s t : Bool) → agree s t ≡ true → s ≡ t
+agree-same true t e = sym e
+agree-same false true e = absurd (false≢true e)
+agree-same false false e = refl
+
+-- for each rank below 8, bit by bit
+tried : (f g : ℕ → ℕ → Bool) → allBelow (λ x. allBelow (λ i. agree (f x i) (g x i)) 64) 8 ≡ true →
+    (x : ℕ) → x < 8 → (i : ℕ) → i < 64 → f x i ≡ g x i
+tried f g e x below i inside =
+    agree-same (f x i) (g x i)
+    (all-at (λ n. agree (f x n) (g x n)) 64 (all-at (λ n. allBelow (λ m. agree (f n m) (g n m)) 64) 8 e x below) i inside)
+
+-- every eighth bit: the number is 0x0101010101010101
+pub bits-everywhere : (rank : ℕ) → rank < 8 → (i : ℕ) → i < 64 → bitOf (72340172838076673 * 2 ^ rank % 2 ^ 64) i ≡ eqb (i % 8) rank
+unfolding allBelow bitOf
+bits-everywhere = tried (λ x i. bitOf (72340172838076673 * 2 ^ x % 2 ^ 64) i) (λ x i. eqb (i % 8) x) refl
+
+-- the or of a word and the same shifted down by n bytes
+abbrev pub halved : ℕ → ℕ → ℕ
+halved x n = bitOr x (x / 2 ^ (8 * n))
+
+-- bit i is set in one of its first n bytes where it is set in one of the word's first 2 n
+bytes-halved : (x n i : ℕ) → anyBelow (λ l. bitOf x (8 * l + i)) (n + n) ≡ anyBelow (λ l. bitOf (halved x n) (8 * l + i)) n
+bytes-halved x n i =
+    any-pairs
+    (λ l. bitOf x (8 * l + i))
+    (λ l. bitOf (halved x n) (8 * l + i))
+    n
+    (λ l b.
+    let at : 8 * n + (8 * l + i) ≡ 8 * (n + l) + i = omega arith in
+    bit-or x (x / 2 ^ (8 * n)) (8 * l + i)
+    ∙ ap (λ (t : Bool). bitOf x (8 * l + i) || t) (bit-shr x (8 * n) (8 * l + i) ∙ ap (bitOf x) at))
+
+-- the or of the eight bytes: its bit i is set where rank i has a seat
+pub bytes-or : (free i : ℕ) → i < 8 → bitOf (halved (halved (halved free 4) 2) 1 % 256) i ≡ somewhere free i
+unfolding somewhere anyBelow
+bytes-or free i l =
+    let first : i ≡ 8 * 0 + i = omega arith in
+    bit-kept (halved (halved (halved free 4) 2) 1) 8 i l
+    ∙ ap (bitOf (halved (halved (halved free 4) 2) 1)) first
+    ∙ sym (bytes-halved (halved (halved free 4) 2) 1 i)
+    ∙ sym (bytes-halved (halved free 4) 2 i)
+    ∙ sym (bytes-halved free 4 i)
