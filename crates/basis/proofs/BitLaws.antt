@@ -2,7 +2,8 @@
 -- Assumes nothing.
 use Prim.Native.Nat.{ℕ, zero, suc, _+_, _-_, _*_, _/_, _%_, _^_, _<_, _≤_}
 use borrow.Author.Tests.{eq-eqb, ne-eqb, eqb-true, eqb-false, le-leb, leb-true, leb-false}
-use mathlib.Core.Bool.{Bool, true, false, cond, not, _&&_, _||_}
+use mathlib.Core.Bool.{Bool, true, false, cond, not, _&&_, _||_, or-false}
+use mathlib.Core.List.{List}
 use mathlib.Core.Logic.{_⊎_, inl, inr, ⊎-elim}
 use mathlib.Core.Path.{_≡_, refl, sym, _∙_, ap, ap₂, subst}
 use native.Mathlib.Nat.{mod-lt, zero-lt-suc, mul-assoc, zero-div, div-eq-of-lt, div-one, div-add-mod', lt-of-lt-of-le, not-suc-le-zero}
@@ -10,7 +11,10 @@ use native.Mathlib.Omega.{arith}
 use lib.Bits.{bitAnd, bitOr, bitXor, and-shr, or-shr, xor-shr, and-mod, or-mod, xor-mod, shifted-even}
 use lib.Count.{under, trailingZeros}
 use lib.Dec.{eqb, leb}
+use lib.ListN.{length, getD, set}
 use lib.Pow.{pow-add, pow-lt, pow-mono, shr-lt, shl-shr, shr-shr, field, mod-mod-pow}
+use lib.Seq.{getD-set-same, getD-set-other}
+use Rattle.basis.proofs.NumberLaws.{same-or-not}
 use Rattle.basis.proofs.TestLaws.{holds-or-fails, same-tests, and-holds, and-parts}
 use Rattle.basis.specs.Bits.{bitOf}
 
@@ -263,3 +267,18 @@ in-common (suc w) x i l some = by-digit (x % 2) refl (λ h j. in-common w (x / 2
 pub lowest-dropped : (w x : ℕ) → x < 2 ^ w → (x ≡ 0 → ⊥) → (i : ℕ) →
     bitOf (bitAnd x (x - 1)) i ≡ (bitOf x i && not (eqb i (trailingZeros w x)))
 lowest-dropped w x l some i = bit-and x (x - 1) i ∙ in-common w x i l some
+
+-- One store of an or adds bits to one word of a list.
+pub store-or : (table : List ℕ) (at word x y : ℕ) → at < length table →
+    bitOf (getD (set table at (bitOr (getD table at 0) word)) x 0) y ≡ (bitOf (getD table x 0) y || (eqb x at && bitOf word y))
+store-or table at word x y inside =
+    let more = bitOr (getD table at 0) word in
+    ⊎-elim
+    (λ (e : x ≡ at).
+    ap (λ (m : ℕ). bitOf m y) (ap (λ (m : ℕ). getD (set table at more) m 0) e ∙ getD-set-same table at more 0 inside)
+    ∙ bit-or (getD table at 0) word y
+    ∙ ap₂ _||_ (ap (λ (m : ℕ). bitOf (getD table m 0) y) (sym e)) (ap (λ (t : Bool). t && bitOf word y) (sym (eq-eqb x at e))))
+    (λ (d : x ≡ at → ⊥).
+    ap (λ (m : ℕ). bitOf m y) (getD-set-other table at x more 0 d)
+    ∙ sym (ap (λ (t : Bool). bitOf (getD table x 0) y || (t && bitOf word y)) (ne-eqb x at d) ∙ or-false (bitOf (getD table x 0) y)))
+    (same-or-not x at)

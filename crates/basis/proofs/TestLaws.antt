@@ -194,3 +194,18 @@ any-pairs f g n pair =
     (λ (t : f (w .0) ≡ true). any-at f (n + n) (w .0) (omega arith) t)
     (λ (t : f (n + w .0) ≡ true). any-at f (n + n) (n + w .0) (omega arith) t)
     (or-parts (f (w .0)) (f (n + w .0)) (sym (pair (w .0) there) ∙ w .2)))
+
+-- Two tests of two small numbers that agree wherever they are tried: of a row of numbers below m and a column below n each pair is tried.
+abbrev pub agree : Bool → Bool → Bool
+agree s t = cond s t (not t)
+
+agree-same : (s t : Bool) → agree s t ≡ true → s ≡ t
+agree-same true t e = sym e
+agree-same false true e = absurd (false≢true e)
+agree-same false false e = refl
+
+pub tried : (f g : ℕ → ℕ → Bool) (m n : ℕ) → allBelow (λ x. allBelow (λ i. agree (f x i) (g x i)) n) m ≡ true →
+    (x : ℕ) → x < m → (i : ℕ) → i < n → f x i ≡ g x i
+tried f g m n e x below i inside =
+    agree-same (f x i) (g x i)
+    (all-at (λ j. agree (f x j) (g x j)) n (all-at (λ y. allBelow (λ j. agree (f y j) (g y j)) n) m e x below) i inside)

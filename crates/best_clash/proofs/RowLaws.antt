@@ -1,7 +1,7 @@
 -- The seats of a round's bidders and slots: a row of ones for each slot, one slot after another. The bits of each row are tried. Assumes nothing.
 use Prim.Native.Nat.{ℕ, suc, _+_, _*_, _-_, _%_, _^_, _<_, _≤_}
 use borrow.Author.Tests.{lt-ltb, le-ltb, ltb-true, le-leb, leb-true}
-use mathlib.Core.Bool.{Bool, true, false, cond, not, _&&_, _||_, false≢true}
+use mathlib.Core.Bool.{Bool, true, _&&_, _||_}
 use mathlib.Core.Logic.{⊎-elim}
 use mathlib.Core.Path.{_≡_, refl, sym, _∙_, ap, ap₂, subst}
 use native.Mathlib.Nat.{mod-le, lt-of-lt-of-le, lt-of-le-of-lt}
@@ -12,24 +12,16 @@ use lib.Pow.{pow-mono, shl-lt}
 use Rattle.basis.specs.Bits.{bitOf}
 use Rattle.basis.specs.Tests.{allBelow}
 use Rattle.basis.proofs.BitLaws.{bit-or, bit-shl, bit-zero}
-use Rattle.basis.proofs.TestLaws.{same-tests, and-holds, and-parts, or-left, or-right, or-parts, all-at}
+use Rattle.basis.proofs.TestLaws.{same-tests, and-holds, and-parts, or-left, or-right, or-parts, all-at, tried}
 use Rattle.basis.proofs.NumberLaws.{below-or-not}
 
 -- a row of ones
 abbrev pub rowOf : ℕ → ℕ
 rowOf bidders = 1 * 2 ^ bidders % 2 ^ 64 - 1
 
-agree-same : (s t : Bool) → cond s t (not t) ≡ true → s ≡ t
-agree-same true t e = sym e
-agree-same false true e = absurd (false≢true e)
-agree-same false false e = refl
-
 row-bits : (bidders : ℕ) → bidders < 9 → (i : ℕ) → i < 64 → bitOf (rowOf bidders) i ≡ ltb i bidders
 unfolding allBelow bitOf
-row-bits bidders few i inside =
-    agree-same (bitOf (rowOf bidders) i) (ltb i bidders)
-    (all-at (λ j. cond (bitOf (rowOf bidders) j) (ltb j bidders) (not (ltb j bidders))) 64
-    (all-at (λ n. allBelow (λ j. cond (bitOf (rowOf n) j) (ltb j n) (not (ltb j n))) 64) 9 refl bidders few) i inside)
+row-bits = tried (λ n i. bitOf (rowOf n) i) (λ n i. ltb i n) 9 64 refl
 
 -- there is a one to take off, and the row is of at most 8
 pub row-low : (bidders : ℕ) → bidders < 9 → (1 ≤ 1 * 2 ^ bidders % 2 ^ 64) × (rowOf bidders < 2 ^ 8)

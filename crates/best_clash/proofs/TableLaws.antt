@@ -1,20 +1,18 @@
 -- How the table is filled: a store of an or adds bits to one word, each constraint adds what it shuts, and those of an accepted sheet speak of the
 -- round's bidders and slots alone. Assumes nothing.
 use Prim.Native.Nat.{ℕ, zero, suc, _+_, _*_, _%_, _<_, _≤_}
-use borrow.Author.Tests.{eq-eqb, ne-eqb}
-use mathlib.Core.Bool.{Bool, _&&_, _||_, or-false}
+use mathlib.Core.Bool.{_||_}
 use mathlib.Core.List.{List}
 use mathlib.Core.Logic.{⊎-elim}
 use mathlib.Core.Path.{_≡_, refl, sym, _∙_, ap, ap₂, subst}
 use native.Mathlib.Omega.{arith}
-use lib.Bits.{bitOr}
 use lib.Dec.{eqb}
 use lib.ListN.{length, getD, set, length-set}
 use lib.Seq.{getD-set-same, getD-set-other}
 use Rattle.basis.specs.Bits.{bitOf}
 use Rattle.basis.specs.Tests.{anyBelow}
-use Rattle.basis.proofs.BitLaws.{bit-or, bit-zero}
-use Rattle.basis.proofs.NumberLaws.{same-or-not, below-or-not}
+use Rattle.basis.proofs.BitLaws.{bit-zero}
+use Rattle.basis.proofs.NumberLaws.{below-or-not}
 use Rattle.sheet.specs.declared.Kind.{Kind}
 use Rattle.sheet.specs.declared.Kind.the-variants.{OwnSlot, OtherSlot, Pair}
 use Rattle.sheet.specs.declared.Constraint.{Constraint}
@@ -26,21 +24,6 @@ use Rattle.sheet.specs.Sheet.{bidderCount, slotCount, constraintCount, ownerFie
 use Rattle.sheet.proofs.AcceptedLaws.{accepted-sheet}
 use Rattle.sheet.proofs.RoundLaws.{round-constraint}
 use Rattle.best_clash.specs.EngineMarks.{SmallKind, Small, shuts, someShuts}
-
--- one store of an or adds bits to one word
-pub store-or : (table : List ℕ) (at word x y : ℕ) → at < length table →
-    bitOf (getD (set table at (bitOr (getD table at 0) word)) x 0) y ≡ (bitOf (getD table x 0) y || (eqb x at && bitOf word y))
-store-or table at word x y inside =
-    let more = bitOr (getD table at 0) word in
-    ⊎-elim
-    (λ (e : x ≡ at).
-    ap (λ (m : ℕ). bitOf m y) (ap (λ (m : ℕ). getD (set table at more) m 0) e ∙ getD-set-same table at more 0 inside)
-    ∙ bit-or (getD table at 0) word y
-    ∙ ap₂ _||_ (ap (λ (m : ℕ). bitOf (getD table m 0) y) (sym e)) (ap (λ (t : Bool). t && bitOf word y) (sym (eq-eqb x at e))))
-    (λ (d : x ≡ at → ⊥).
-    ap (λ (m : ℕ). bitOf m y) (getD-set-other table at x more 0 d)
-    ∙ sym (ap (λ (t : Bool). bitOf (getD table x 0) y || (t && bitOf word y)) (ne-eqb x at d) ∙ or-false (bitOf (getD table x 0) y)))
-    (same-or-not x at)
 
 -- the word tells what a seat shuts, the slot's own byte first
 abbrev pub ShutWord : (table : List ℕ) → (word k i : ℕ) → Type 0

@@ -135,18 +135,6 @@ module _ (r : Round) where
           not-both (placed-at p b i (place .0) (place .1) there) u)
           eligible
 
-  -- a choice that is placed already, or breaks a constraint, leads to no allowed page
-  pub placed-nowhere : (p : Page) (k had b : ℕ) → Node r p k had → r .slots ≤ 16 → k < r .slots → (b ≡ 0 → ⊥) → placed p b ≡ true →
-      (q : Page) → Agrees (put p (suc k) b) (suc k) q → Allowed r q → ⊥
-  placed-nowhere p k had b v few inside s t q f ok =
-      let w = placed-where p b t in
-      let settled : w .0 ≤ k
-      = ⊎-elim (λ (a : k < w .0). absurd (s (sym (w .3) ∙ v .later (w .0) a))) (λ (a : w .0 ≤ k). a) (below-or-not k (w .0)) in
-      let there : at q (w .0) ≡ b = f (w .0) (omega arith) ∙ at-put-other p (suc k) b (w .0) (λ e. absurd (omega arith)) ∙ w .3 in
-      let here : at q (suc k) ≡ b = f (suc k) (omega arith) ∙ at-put-same p (suc k) b (v .page .sized) (omega arith) (omega arith) in
-      let same = ok .page .once (w .0) (suc k) (λ z. s (sym there ∙ z)) (there ∙ sym here) in
-      absurd (omega arith)
-
   -- a page that agrees with a node and has b at a slot left breaks what the node with b there breaks
   pub broken-later : ProperRound r → (p : Page) (k had : ℕ) → Node r p k had → (q : Page) → Agrees p k q → Allowed r q →
       (j b : ℕ) → k ≤ j → suc j ≤ 16 → at q (suc j) ≡ b → breaks r (put p (suc j) b) ≡ false
@@ -166,10 +154,3 @@ module _ (r : Round) where
           let same = at-put-other p (suc j) b i d in
           ⊎-elim (λ (a : k < i). absurd (s (same ∙ v .later i a))) (λ (a : i ≤ k). f i a ∙ sym same) (below-or-not k i))
           (same-or-not i (suc j))
-
-  pub broken-nowhere : ProperRound r → (p : Page) (k had b : ℕ) → Node r p k had → k < r .slots → r .slots ≤ 16 → breaks r (put p (suc k) b) ≡ true →
-      (q : Page) → Agrees (put p (suc k) b) (suc k) q → Allowed r q → ⊥
-  broken-nowhere c p k had b v inside few t q f ok =
-      not-both t
-      (broken-later c p k had v q (λ j l. f j (omega arith) ∙ at-put-other p (suc k) b j (λ e. absurd (omega arith))) ok k b (omega arith) (omega arith)
-      (f (suc k) (omega arith) ∙ at-put-same p (suc k) b (v .page .sized) (omega arith) (omega arith)))

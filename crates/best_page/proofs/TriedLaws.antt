@@ -1,5 +1,5 @@
--- The pages that a page with its first slots settled can become: one choice more at the next slot, a choice that leads nowhere, all choices
--- tried, and nothing left to choose. Assumes nothing.
+-- The pages that a page with its first slots settled can become: one choice more at the next slot, all choices tried, and
+-- nothing left to choose. Assumes nothing.
 use Prim.Native.Nat.{ℕ, zero, suc, _<_, _≤_}
 use mathlib.Core.Logic.{_⊎_, inl, inr, ⊎-elim}
 use mathlib.Core.Path.{_≡_, sym, _∙_, ap}
@@ -70,12 +70,6 @@ module _ (r : Round) (p : Page) (k : ℕ) (s : Sized p) (room : suc k ≤ 16) wh
   choice-tried b need page n₁ p₁ n₂ p₂ f g =
       searched-next r (Tried p k b) (Agrees (put p (suc k) b) (suc k)) (Tried p k (suc b)) need page n₁ p₁ n₂ p₂
       (tried-part p k b s room) (tried-more p k b) (tried-next p k b s room) (λ q q′ t u. tried-order p k b s room q q′ t u) f g
-
-  pub choice-nowhere : (b need : ℕ) (page : Page) (n₁ : ℕ) (p₁ : Page) → ((q : Page) → Agrees (put p (suc k) b) (suc k) q → Allowed r q → ⊥) →
-      Searched r (Tried p k b) need page n₁ p₁ → Searched r (Tried p k (suc b)) need page n₁ p₁
-  choice-nowhere b need page n₁ p₁ h f =
-      choice-tried b need page n₁ p₁ n₁ p₁ f
-      (searched-none r (Agrees (put p (suc k) b) (suc k)) n₁ p₁ (λ q a ok. absurd (h q a ok)))
 
 -- every allowed page that agrees has one of the round's bidders, or nobody, at the next slot
 pub all-tried : (r : Round) (p : Page) (k n need : ℕ) (page : Page) (n₁ : ℕ) (p₁ : Page) → r .bidders < n →

@@ -1,7 +1,7 @@
 -- The words of one rank and of all bytes together: each rank and each bit is tried; and the or of a word's eight bytes has a bit where one of them
 -- has it, since each half's or tells it for the slots of that half. Assumes nothing.
 use Prim.Native.Nat.{ℕ, _+_, _*_, _/_, _%_, _^_, _<_}
-use mathlib.Core.Bool.{Bool, true, false, cond, not, _||_, false≢true}
+use mathlib.Core.Bool.{Bool, _||_}
 use mathlib.Core.Path.{_≡_, refl, sym, _∙_, ap}
 use native.Mathlib.Omega.{arith}
 use lib.Bits.{bitOr}
@@ -9,29 +9,13 @@ use lib.Dec.{eqb}
 use Rattle.basis.specs.Bits.{bitOf}
 use Rattle.basis.specs.Tests.{anyBelow, allBelow}
 use Rattle.basis.proofs.BitLaws.{bit-or, bit-shr, bit-kept}
-use Rattle.basis.proofs.TestLaws.{all-at, any-pairs}
+use Rattle.basis.proofs.TestLaws.{any-pairs, tried}
 use Rattle.best_seats.specs.EngineSeats.{somewhere}
-
--- two tests with the same answer
-abbrev agree : Bool → Bool → Bool
-agree s t = cond s t (not t)
-
-agree-same : (s t : Bool) → agree s t ≡ true → s ≡ t
-agree-same true t e = sym e
-agree-same false true e = absurd (false≢true e)
-agree-same false false e = refl
-
--- for each rank below 8, bit by bit
-tried : (f g : ℕ → ℕ → Bool) → allBelow (λ x. allBelow (λ i. agree (f x i) (g x i)) 64) 8 ≡ true →
-    (x : ℕ) → x < 8 → (i : ℕ) → i < 64 → f x i ≡ g x i
-tried f g e x below i inside =
-    agree-same (f x i) (g x i)
-    (all-at (λ n. agree (f x n) (g x n)) 64 (all-at (λ n. allBelow (λ m. agree (f n m) (g n m)) 64) 8 e x below) i inside)
 
 -- every eighth bit: the number is 0x0101010101010101
 pub bits-everywhere : (rank : ℕ) → rank < 8 → (i : ℕ) → i < 64 → bitOf (72340172838076673 * 2 ^ rank % 2 ^ 64) i ≡ eqb (i % 8) rank
 unfolding allBelow bitOf
-bits-everywhere = tried (λ x i. bitOf (72340172838076673 * 2 ^ x % 2 ^ 64) i) (λ x i. eqb (i % 8) x) refl
+bits-everywhere = tried (λ x i. bitOf (72340172838076673 * 2 ^ x % 2 ^ 64) i) (λ x i. eqb (i % 8) x) 8 64 refl
 
 -- the or of a word and the same shifted down by n bytes
 abbrev pub halved : ℕ → ℕ → ℕ

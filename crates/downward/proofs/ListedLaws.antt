@@ -4,18 +4,16 @@ use Prim.Native.Nat.{ℕ, zero, suc, _+_, _*_, _-_, _/_, _%_, _^_, _<_, _≤_}
 use borrow.Author.Tests.{eq-eqb, ne-eqb, eqb-true, eqb-false, lt-ltb, ltb-true, le-leb, not-true}
 use mathlib.Core.Bool.{Bool, true, false, not, _&&_, _||_, false≢true, or-false}
 use mathlib.Core.List.{List}
-use mathlib.Core.Logic.{⊎-elim}
 use mathlib.Core.Path.{_≡_, refl, sym, _∙_, ap, ap₂}
 use native.Mathlib.Omega.{arith}
 use lib.Bits.{bitAnd, bitOr, bitXor}
 use lib.Dec.{eqb, ltb}
-use lib.ListN.{length, getD, set, take, replicate, length-take, length-replicate, getD-replicate, List·getD-eq-default}
-use lib.Seq.{getD-set-same, getD-set-other, getD-take}
+use lib.ListN.{length, getD, set, take, length-take}
+use lib.Seq.{getD-take}
 use Rattle.basis.specs.Bits.{bitOf}
 use Rattle.basis.specs.Tests.{anyBelow, allBelow}
-use Rattle.basis.proofs.BitLaws.{bit-or, bit-and, bit-without, bit-shl, bit-shr, bit-single, bit-zero, no-bits}
-use Rattle.basis.proofs.NumberLaws.{same-or-not, below-or-not}
-use Rattle.basis.proofs.TestLaws.{not-both, holds, fails, same-tests, and-holds, and-parts, not-holds, any-at, any-where, none-any, all-at, at-all}
+use Rattle.basis.proofs.BitLaws.{bit-and, bit-without, bit-shl, bit-shr, bit-single, bit-zero, no-bits, store-or}
+use Rattle.basis.proofs.TestLaws.{not-both, holds, fails, same-tests, and-holds, and-parts, not-holds, any-at, any-where, none-any, at-all, tried}
 use Rattle.sheet.specs.declared.Kind.{Kind}
 use Rattle.sheet.specs.declared.Kind.the-variants.{OwnSlot, OtherSlot, Pair}
 use Rattle.sheet.specs.declared.Round.{Round}
@@ -28,7 +26,7 @@ use Rattle.sheet.proofs.AcceptedLaws.{accepted-sheet}
 use Rattle.sheet.proofs.RoundLaws.{round-constraint}
 use Rattle.downward.specs.Downward.{ownSlot, oneLower, listHas, asksLower, downward}
 use Rattle.downward.specs.EngineListed.{otherPart, KindInRange, ownsWith, Listed, missesNext, someMissing}
-use Rattle.downward.proofs.DownwardLaws.{implied, implies, list-where, list-at, downward-at}
+use Rattle.downward.proofs.DownwardLaws.{implies, list-where, list-at, downward-at}
 
 -- The bits of one slot's set: slot k + 1 at bit k.
 pub slot-bits : (s k : ℕ) → k < 16 → bitOf (1 * 2 ^ s % 2 ^ 32 / 2 ^ 1) k ≡ eqb s (suc k)
@@ -43,15 +41,9 @@ slot-bits s k l =
 abbrev asking : ℕ → ℕ
 asking m = 1 * 2 ^ m % 2 ^ 32 / 2 - 1
 
-tried : (f : ℕ → ℕ → Bool) → allBelow (λ m. allBelow (f m) 16) 17 ≡ true → (m k : ℕ) → m ≤ 16 → k < 16 → f m k ≡ true
-tried f e m k l h = all-at (f m) 16 (all-at (λ n. allBelow (f n) 16) 17 e m (omega arith)) k h
-
 asking-bits : (m k : ℕ) → m ≤ 16 → k < 16 → bitOf (asking m) k ≡ ltb (suc k) m
 unfolding allBelow bitOf
-asking-bits m k l h =
-    same-tests (bitOf (asking m) k) (ltb (suc k) m)
-    (implied (bitOf (asking m) k) (ltb (suc k) m) (tried (λ n i. not (bitOf (asking n) i) || ltb (suc i) n) refl m k l h))
-    (implied (ltb (suc k) m) (bitOf (asking m) k) (tried (λ n i. not (ltb (suc i) n) || bitOf (asking n) i) refl m k l h))
+asking-bits m k l h = tried (λ n i. bitOf (asking n) i) (λ n i. ltb (suc i) n) 17 16 refl m (omega arith) k h
 
 -- what a set asks for and does not have
 pub missing-bits : (had m k : ℕ) → m ≤ 16 → k < 16 →
@@ -73,35 +65,17 @@ pub store-lists : (listed : List ℕ) (at own s : ℕ) → at < length listed �
     (part k : ℕ) → k < 16 →
     bitOf (getD (set listed at (bitOr (getD listed at 0) own)) part 0) k ≡ (bitOf (getD listed part 0) k || (eqb at part && eqb s (suc k)))
 store-lists listed at own s inside told part k l =
-    ⊎-elim
-    (λ (e : part ≡ at).
-    ap (λ (m : ℕ). bitOf m k) (ap (λ (m : ℕ). getD (set listed at word) m 0) e ∙ getD-set-same listed at word 0 inside)
-    ∙ bit-or (getD listed at 0) own k
-    ∙ ap₂ _||_ (ap (λ (m : ℕ). bitOf (getD listed m 0) k) (sym e))
-    (told k l ∙ ap (λ (t : Bool). t && eqb s (suc k)) (sym (eq-eqb at part (sym e)))))
-    (λ (d : part ≡ at → ⊥).
-    ap (λ (m : ℕ). bitOf m k) (getD-set-other listed at part word 0 d)
-    ∙ sym
-    (ap (λ (t : Bool). bitOf (getD listed part 0) k || (t && eqb s (suc k))) (ne-eqb at part (λ e. d (sym e)))
-    ∙ or-false (bitOf (getD listed part 0) k)))
-    (same-or-not part at)
+    store-or listed at own part k inside
+    ∙ ap₂ (λ (x y : Bool). bitOf (getD listed part 0) k || (x && y)) (eqb-sym part at) (told k l)
   where
-    word : ℕ
-    word = bitOr (getD listed at 0) own
+    eqb-sym : (x y : ℕ) → eqb x y ≡ eqb y x
+    eqb-sym x y = same-tests (eqb x y) (eqb y x) (λ e. eq-eqb y x (sym (eqb-true x y e))) (λ e. eq-eqb x y (sym (eqb-true y x e)))
 
 -- Empty sets list none,
 pub none-listed : (r : Round) (i : ℕ) (listed : List ℕ) → length listed ≡ 1041 → ((part : ℕ) → getD listed part 0 ≡ 0) → Listed r i 0 listed
 unfolding ownsWith anyBelow
 none-listed r i listed size empty =
     record { sized = size; told = λ part k l. ap (λ (n : ℕ). bitOf n k) (empty part) ∙ bit-zero k }
-
--- an array of 0 is empty sets
-pub empty-sets : (part : ℕ) → _≡_ {A = ℕ} (getD (replicate 1041 0) part 0) 0
-empty-sets part =
-    ⊎-elim
-    (λ (l : part < 1041). getD-replicate 1041 part 0 0 l)
-    (λ (l : 1041 ≤ part). List·getD-eq-default (replicate 1041 0) 0 {n = part} (let size = length-replicate {A = ℕ} 1041 0 in omega arith))
-    (below-or-not part 1041)
 
 -- the next constraint is entered if it is the bidder's, and else passed by
 module _ (r : Round) (i n : ℕ) (listed : List ℕ) (g : Listed r i n listed) where

@@ -2,7 +2,7 @@
 use mathlib.Core.Path.{_∙_}
 use native.Mathlib.Omega.{arith}
 use lib.ListN.{length-set}
-use Rattle.best_clash.proofs.TableLaws.{store-or}
+use Rattle.basis.proofs.BitLaws.{store-or}
 use borrow.Author.Needs.{needs}
 use Rattle.best_clash.proofs.mark.Statement.{statement}
 use Rattle.best_clash.proofs.mark.Tie as tie

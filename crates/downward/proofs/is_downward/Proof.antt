@@ -9,7 +9,8 @@ use Rattle.sheet.specs.Sheet.{bidderCount}
 use Rattle.sheet.specs.Round.{roundOf}
 use Rattle.sheet.proofs.AcceptedLaws.{accepted-sheet}
 use Rattle.sheet.proofs.RoundLaws.{round-proper}
-use Rattle.downward.proofs.ListedLaws.{empty-sets, sheet-part-below, first-sets, downward-listed}
+use Rattle.basis.proofs.RowLaws.{zeros}
+use Rattle.downward.proofs.ListedLaws.{sheet-part-below, first-sets, downward-listed}
 use Rattle.downward.proofs.is_downward.Statement.{statement}
 use Rattle.downward.proofs.is_downward.Tie as tie
 
@@ -26,7 +27,7 @@ cast-slots : tie.Need-cast-slots
 cast-slots c = (let few = accepted-sheet _ (c .before .before .before .pre) .counts .most-slots in omega arith)
 
 list-all-requires : tie.Need-list-all-requires
-list-all-requires c κs = (length-replicate {A = ℕ} 1041 0, empty-sets, c .before .before .before .before .pre)
+list-all-requires c κs = (length-replicate {A = ℕ} 1041 0, zeros 1041, c .before .before .before .before .pre)
 
 mul-listed : tie.Need-mul-listed
 mul-listed c = (let few = accepted-sheet _ (c .before .before .before .before .before .pre) .counts .most-bidders in omega arith)
