@@ -84,7 +84,7 @@ extern "C" {
 /* ---- Version ---- */
 
 /* The version of the library and of this file. CHANGELOG.md says what each one brought, and what a new number means. */
-#define PAS_VERSION "1.1.2"
+#define PAS_VERSION "1.1.3"
 #define PAS_VERSION_MAJOR 1
 #define PAS_VERSION_MINOR 1
 #define PAS_VERSION_PATCH 2
@@ -118,10 +118,10 @@ extern "C" {
  *
  *   call            measured    first call    figure below
  *   pas_check            136           136           1,024
- *   pas_play          14,712  about 17,900          28,672
- *   pas_downward       8,376  about 11,500          24,576
- *   pas_gain          14,808  about 18,000          40,960
- *   pas_best          12,848  about 12,900          20,480
+ *   pas_play          14,728  about 17,900          28,672
+ *   pas_downward       2,264  about  5,400          24,576
+ *   pas_gain          14,824  about 18,100          40,960
+ *   pas_best           6,992  about  7,200          20,480
  *
  * These are measured and not proved: nothing in the toolchain bounds a stack. examples/c/stack measures them, on the
  * largest sheets, on refused ones and on random ones, and fails where a call takes more than its figure. The table is

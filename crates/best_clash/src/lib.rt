@@ -1,5 +1,5 @@
 // What each choice of the best-page search shuts, by seat: a table made of the constraints of a round of up to 8 bidders and 8 slots.
-ghost use mathlib.Core.Bool.{not, _&&_, _||_};
+ghost use mathlib.Core.Bool.{_&&_, _||_};
 ghost use mathlib.Core.Path.{_≡_};
 ghost use Prim.Native.Nat.{ℕ, _+_, _-_, _*_, _%_, _^_, _<_, _≤_};
 ghost use lib.Dec.{eqb, ltb};

@@ -2,13 +2,13 @@
 // order that has it. Both go over what is free, by rank and slot, in words.
 ghost use mathlib.Core.Path.{_≡_};
 ghost use Prim.Native.Nat.{ℕ, suc, _+_, _-_, _*_, _^_, _<_, _≤_};
-ghost use lib.ListN.{length, getD};
+ghost use lib.ListN.{length, getD, drop};
 ghost use mathlib.Core.List.{_++_};
-ghost use lib.ListN.{drop};
 ghost use Rattle.basis.specs.Rows.{row};
 ghost use Rattle.sheet.specs.Refusal.{Accepted};
 ghost use Rattle.sheet.specs.Round.{roundOf};
 ghost use Rattle.sheet.specs.Sheet.{bidderCount, slotCount};
+ghost use Rattle.choice.specs.EngineRanking.{InOrder};
 ghost use Rattle.auction.specs.Allowed.{total};
 ghost use Rattle.auction.specs.Page.{at};
 ghost use Rattle.best_page.specs.Best.{Best};
@@ -41,8 +41,7 @@ pub struct Chosen {
 
 // Each bidder's rank, by its number.
 fn ranks_of(ranked: &[u8], bidders: usize) -> [u8; 16]
-    requires { ⌜ (bidders ≤ 8) × (bidders ≤ length (now ranked)) ⌝ }
-    requires { ⌜ ((i : ℕ) → i < bidders → (0 < getD (now ranked) i 0) × (getD (now ranked) i 0 ≤ bidders)) × ((i j : ℕ) → i < bidders → j < bidders → getD (now ranked) i 0 ≡ getD (now ranked) j 0 → i ≡ j) × ((b : ℕ) → 0 < b → b ≤ bidders → (i : ℕ) × (i < bidders) × (getD (now ranked) i 0 ≡ b)) ⌝ }
+    requires { ⌜ (bidders ≤ 8) × ((bid : ℕ → ℕ) × InOrder bid bidders (now ranked)) ⌝ }
     ensures { λ r. ⌜ RanksOf bidders (now (ranked .entry)) r × ((b : ℕ) → getD r b 0 < 8) ⌝ }
 {
     let mut ranks = [0u8; 16];

@@ -16,7 +16,6 @@ use Rattle.sheet.proofs.AcceptedLaws.{accepted-sheet}
 use Rattle.sheet.proofs.RoundLaws.{round-proper}
 use Rattle.choice.specs.EngineBids.{bidIn}
 use Rattle.choice.specs.EngineRanking.{InOrder}
-use Rattle.choice.proofs.RankingLaws.{ranked-once}
 use Rattle.auction.specs.Allowed.{total}
 use Rattle.auction.specs.Page.{emptyPage}
 use Rattle.best_page.specs.Best.{Best}
@@ -121,8 +120,7 @@ ranks-of-requires c κs =
     let s = start .args .sheet .now in
     let few = start .pre .1 in
     let o = order-of (c .before .before .before .before .before .before .before .before .args .sheet .now) _ _ (c .before .before .before .accepted-bids .ensures) (c .before .ranking-of .ensures) in
-    let size = o .size in
-    ((few, omega arith), (o .some, (λ i j l m e. ranked-once _ _ _ o i j l m e), o .everybody))
+    (few, (bidIn (roundOf s .bids), o))
 
 slice-aggregate-gains-of : tie.Need-slice-aggregate-gains-of
 slice-aggregate-gains-of c = search needs

@@ -8,6 +8,8 @@ use lib.ListN.{length, getD, set, replicate, length-set, length-replicate}
 use lib.Seq.{getD-set-same, getD-set-other}
 use Rattle.basis.proofs.NumberLaws.{same-or-not}
 use Rattle.basis.proofs.RowLaws.{zeros}
+use Rattle.choice.specs.EngineRanking.{InOrder}
+use Rattle.choice.proofs.RankingLaws.{ranked-once}
 use Rattle.best_clash.specs.EngineClash.{RanksOf}
 use Rattle.best_search.proofs.ranks_of.Statement.{statement}
 use Rattle.best_search.proofs.ranks_of.Tie as tie
@@ -19,12 +21,6 @@ record Passed (ranked ranks : List ℕ) (bidders rank : ℕ) : Type 0 where
   small : (b : ℕ) → getD ranks b 0 < 8
   told : (i : ℕ) → i < rank → getD ranks (getD ranked i 0) 0 ≡ i
 
--- what is required of the list: bidders 1 to n, each once
-record Ranked (ranked : List ℕ) (bidders : ℕ) : Type 0 where
-  named : (i : ℕ) → i < bidders → (0 < getD ranked i 0) × (getD ranked i 0 ≤ bidders)
-  once : (i j : ℕ) → i < bidders → j < bidders → getD ranked i 0 ≡ getD ranked j 0 → i ≡ j
-  everybody : (b : ℕ) → 0 < b → b ≤ bidders → (i : ℕ) × (i < bidders) × (getD ranked i 0 ≡ b)
-
 none-passed : (ranked : List ℕ) (bidders : ℕ) → Passed ranked (replicate 16 0) bidders 0
 none-passed ranked bidders =
     record {
@@ -34,11 +30,11 @@ none-passed ranked bidders =
       told = λ i l. absurd (omega arith);
     }
 
-one-passed : (ranked ranks : List ℕ) (bidders rank : ℕ) → Ranked ranked bidders → Passed ranked ranks bidders rank → rank < bidders → bidders ≤ 8 →
+one-passed : (bid : ℕ → ℕ) (ranked ranks : List ℕ) (bidders rank : ℕ) → InOrder bid bidders ranked → Passed ranked ranks bidders rank → rank < bidders → bidders ≤ 8 →
     (b next : ℕ) → b ≡ getD ranked rank 0 → next ≡ suc rank → Passed ranked (set ranks b rank) bidders next
-one-passed ranked ranks bidders rank list h l few b next e n =
+one-passed bid ranked ranks bidders rank list h l few b next e n =
     let size = h .size in
-    let low = list .named rank l .1 in
+    let low = list .some rank l .1 in
     record {
       size = length-set ranks b rank ∙ size;
       within = omega arith;
@@ -54,14 +50,14 @@ one-passed ranked ranks bidders rank list h l few b next e n =
           (λ (q : i ≡ rank).
           ap (λ (y : ℕ). getD (set ranks b rank) y 0) (ap (λ (y : ℕ). getD ranked y 0) q ∙ sym e) ∙ getD-set-same ranks b rank 0 (omega arith) ∙ sym q)
           (λ (d : i ≡ rank → ⊥).
-          getD-set-other ranks b (getD ranked i 0) rank 0 (λ z. d (list .once i rank (omega arith) l (z ∙ e))) ∙ h .told i (omega arith))
+          getD-set-other ranks b (getD ranked i 0) rank 0 (λ z. d (ranked-once bid bidders ranked list i rank (omega arith) l (z ∙ e))) ∙ h .told i (omega arith))
           (same-or-not i rank);
     }
 
-all-passed : (ranked ranks : List ℕ) (bidders rank : ℕ) → Ranked ranked bidders → Passed ranked ranks bidders rank → bidders ≤ rank → RanksOf bidders ranked ranks
-all-passed ranked ranks bidders rank list h past =
+all-passed : (bid : ℕ → ℕ) (ranked ranks : List ℕ) (bidders rank : ℕ) → InOrder bid bidders ranked → Passed ranked ranks bidders rank → bidders ≤ rank → RanksOf bidders ranked ranks
+all-passed bid ranked ranks bidders rank list h past =
     record {
-      named = list .named;
+      named = list .some;
       back = λ i l. h .told i (omega arith);
       low = λ b s m. (let w = list .everybody b s m in subst (λ (x : ℕ). x < bidders) (sym (rank-is b s m)) (w .1));
       there = λ b s m. (let w = list .everybody b s m in ap (λ (x : ℕ). getD ranked x 0) (rank-is b s m) ∙ w .2);
@@ -91,7 +87,8 @@ cast-ranked-at c = omega arith
 ranked-at-requires : tie.Need-ranked-at-requires Inv-loop μ-loop
 ranked-at-requires c κs =
     let p = c .before .before .before .before .before .pre in
-    let room = p .0 .1 in
+    let size = p .1 .1 .size in
+    let few = p .0 in
     let h = c .before .if1 .taken in
     omega arith
 
@@ -101,15 +98,15 @@ cast-ranks c = omega arith
 array-write-ranks : tie.Need-array-write-ranks Inv-loop μ-loop
 array-write-ranks c =
     let p = c .before .before .before .before .before .before .before .pre in
-    let few = p .0 .0 in
-    let low = p .1 .0 _ (c .before .before .before .if1 .taken) .1 in
+    let few = p .0 in
+    let low = p .1 .1 .some _ (c .before .before .before .if1 .taken) .1 in
     let e = c .before .ranked-at .ensures in
     omega arith
 
 next-rank-requires : tie.Need-next-rank-requires Inv-loop μ-loop
 next-rank-requires c κs =
     let p = c .before .before .before .before .before .before .before .pre in
-    let few = p .0 .0 in
+    let few = p .0 in
     let h = c .before .before .before .if1 .taken in
     omega arith
 
@@ -122,14 +119,14 @@ loop-less c =
 loop-again : tie.Need-loop-again Inv-loop μ-loop
 loop-again c =
     let p = c .before .before .before .before .before .before .before .before .pre in
-    one-passed _ _ _ _ (record { named = p .1 .0; once = p .1 .1; everybody = p .1 .2 }) (c .before .before .before .before .before .before .loop .inv) (c .before .before .before .before .if1 .taken) (p .0 .0) _ _
+    one-passed (p .1 .0) _ _ _ _ (p .1 .1) (c .before .before .before .before .before .before .loop .inv) (c .before .before .before .before .if1 .taken) (p .0) _ _
     (c .before .before .ranked-at .ensures) (c .next-rank .ensures)
 
 returns : tie.Need-returns Inv-loop μ-loop
 returns c =
     let p = c .before .before .before .before .pre in
     let v = c .before .before .loop .inv in
-    (all-passed _ _ _ _ (record { named = p .1 .0; once = p .1 .1; everybody = p .1 .2 }) v (c .if1 .left), v .small)
+    (all-passed (p .1 .0) _ _ _ _ (p .1 .1) v (c .if1 .left), v .small)
 
 pub ranks-of-spec : {M : Type 1} → statement M
 ranks-of-spec =
