@@ -49,6 +49,12 @@ SHEETS = {
     "H": sheet([30, 32, 36, 40], [10000, 4500, 2025], above(IN_ORDER, 3)),
     "H4": sheet([30, 32, 36, 40], [10000, 4500, 2025, 911], above(IN_ORDER, 4)),
     "own": sheet([2, 1], [1, 1], [(1, 0, 2, 2)]),
+    # The best page that took longest of all that were searched for (docs/PERFORMANCE.md).
+    "slowest": sheet(
+        [30000, 2, 3, 4, 5, 6, 5000, 10000000],
+        [1000000, 999999, 999998, 999997, 999996, 999995, 999994, 900000],
+        [(7, 0, 1, 7), (7, 0, 8, 7)] + [(1, own, 8, others) for own in range(1, 7) for others in range(1, 7) if own != others],
+    ),
 }
 
 # 64 bidders, 16 places and 1,024 conditions: the largest right sheet, of 4,425 bytes. Each bidder has 16 conditions: one of

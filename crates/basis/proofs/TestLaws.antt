@@ -39,10 +39,6 @@ pub and-parts : (a b : Bool) → (a && b) ≡ true → (a ≡ true) × (b ≡ tr
 and-parts true b e = (refl, e)
 and-parts false b e = absurd (false≢true e)
 
-pub and-fails : (a b : Bool) → (a && b) ≡ false → (a ≡ false) ⊎ (b ≡ false)
-and-fails true b e = inr e
-and-fails false b e = inl refl
-
 pub or-parts : (a b : Bool) → (a || b) ≡ true → (a ≡ true) ⊎ (b ≡ true)
 or-parts true b e = inl refl
 or-parts false b e = inr e

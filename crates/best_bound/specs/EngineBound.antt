@@ -1,6 +1,7 @@
 -- The engine's own: nothing here need be believed.
 -- What the slots left can add at most: the eligible ranks, in falling order of their bids, against the effects in falling order.
--- Slots are counted by index here: index j is slot j + 1. A rank is an index in the order in which bidders win.
+-- Slots are counted by index here: index j is slot j + 1. A rank is an index in the order in which bidders win;
+-- eligible is here who may still get one of those slots.
 use Prim.Native.Nat.{ℕ, zero, suc, _+_, _*_, _<_, _≤_}
 use mathlib.Core.Bool.{Bool, true, cond, _&&_}
 use mathlib.Core.List.{List}
@@ -15,7 +16,7 @@ unfoldable pub sumFrom : (bid effect f : ℕ → ℕ) → ℕ → ℕ → ℕ
 sumFrom bid effect f k zero = 0
 sumFrom bid effect f k (suc left) = sumFrom bid effect f k left + bid (f (k + left)) * effect (k + left)
 
--- the slot index that the next eligible rank gets, after the first i of them, from index k and below m
+-- the slot index that the next eligible rank gets, after the first i ranks, from index k and below m
 unfoldable pub slotAfter : (eligible : ℕ → Bool) (k m : ℕ) → ℕ → ℕ
 slotAfter eligible k m zero = k
 slotAfter eligible k m (suc i) =
@@ -31,7 +32,7 @@ addAfter eligible gain k m (suc i) =
 abbrev pub BidsFall : (rank bid : ℕ → ℕ) → ℕ → Type 0
 BidsFall rank bid n = (i j : ℕ) → i ≤ j → j < n → bid (rank j) ≤ bid (rank i)
 
--- effects do not rise from index k to below m
+-- effects do not rise below index m
 abbrev pub NoRise : (effect : ℕ → ℕ) → ℕ → Type 0
 NoRise effect m = (i j : ℕ) → i ≤ j → j < m → effect j ≤ effect i
 

@@ -66,11 +66,11 @@ pub fn most_left(gains: &[u64; 128], free: Seats, slot: Slot) -> u64
     requires { ⌜ (0 < slot .0) × (slot .0 ≤ 9) × ((x : ℕ) → getD (now gains) x 0 ≤ 1000000000000000) ⌝ }
     ensures { λ r. ⌜ r ≡ addAfter (somewhere (free .0)) (gainIn (now (gains .entry))) (slot .0 - 1) 16 8 ⌝ }
 {
-    let mut ranks = best_seats::anywhere(free);
+    let mut ranks = best_seats::somewhere(free);
     let mut at = slot;
     let mut sum: u64 = 0;
     while ranks.0 != 0 {
-        let seat = best_seats::seat_at(at, best_seats::first_of(ranks));
+        let seat = best_seats::seat_at(at, best_seats::first_rank(ranks));
         sum += gain_at(gains, seat);
         ranks = best_seats::after_first(ranks);
         at = best_seats::next_slot(at);

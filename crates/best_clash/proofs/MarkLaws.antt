@@ -30,7 +30,7 @@ same-at b k j l e f = and-holds (eq-eqb b j e) (eq-eqb k l f)
 at-same : (b k j l : ℕ) → sameAt b k j l ≡ true → (b ≡ j) × (k ≡ l)
 at-same b k j l e = let both = and-parts (eqb b j) (eqb k l) e in (eqb-true b j (both .0), eqb-true k l (both .1))
 
--- an entry of the table, by its ranges
+-- the same bidder twice
 pub entry-twice : (b k : ℕ) → 0 < b → b ≤ 8 → 0 < k → k ≤ 8 → Entry b k b k
 entry-twice b k b-some b-most k-some k-most =
     record {

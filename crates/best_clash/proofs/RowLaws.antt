@@ -23,12 +23,10 @@ row-bits : (bidders : ℕ) → bidders < 9 → (i : ℕ) → i < 64 → bitOf (r
 unfolding allBelow bitOf
 row-bits = tried (λ n i. bitOf (rowOf n) i) (λ n i. ltb i n) 9 64 refl
 
--- there is a one to take off, and the row is of at most 8
-pub row-low : (bidders : ℕ) → bidders < 9 → (1 ≤ 1 * 2 ^ bidders % 2 ^ 64) × (rowOf bidders < 2 ^ 8)
+-- the row is of at most 8
+row-low : (bidders : ℕ) → bidders < 9 → rowOf bidders < 2 ^ 8
 unfolding allBelow
-row-low bidders few =
-    let both = and-parts _ _ (all-at (λ n. leb 1 (1 * 2 ^ n % 2 ^ 64) && ltb (rowOf n) (2 ^ 8)) 9 refl bidders few) in
-    (leb-true 1 (1 * 2 ^ bidders % 2 ^ 64) (both .0), ltb-true (rowOf bidders) (2 ^ 8) (both .1))
+row-low bidders few = ltb-true (rowOf bidders) (2 ^ 8) (all-at (λ n. ltb (rowOf n) (2 ^ 8)) 9 refl bidders few)
 
 -- the seats of the first k slots
 pub record SeatsTo (bidders all k : ℕ) : Type 0 where
@@ -75,7 +73,7 @@ module _ (bidders all k : ℕ) (few : bidders ≤ 8) (k-low : k < 8) (v : SeatsT
             (lt-of-lt-of-le (v .low) (pow-mono (omega arith)))
             (lt-of-le-of-lt (mod-le (rowOf bidders * 2 ^ (8 * k)) (2 ^ 64))
             (subst (λ (n : ℕ). rowOf bidders * 2 ^ (8 * k) < 2 ^ n) (let e : 8 + 8 * k ≡ 8 * suc k = omega arith in e)
-            (shl-lt 8 (8 * k) (row-low bidders (omega arith) .1))));
+            (shl-lt 8 (8 * k) (row-low bidders (omega arith)))));
         told = λ l i l-low i-low.
             bit-or all (rowOf bidders * 2 ^ (8 * k) % 2 ^ 64) (8 * l + i)
             ∙ ap₂ _||_ (v .told l i l-low i-low)

@@ -45,7 +45,7 @@ pub record RanksOf (n : ℕ) (ranked ranks : List ℕ) : Type 0 where
   pub low : (b : ℕ) → 0 < b → b ≤ n → getD ranks b 0 < n
   pub there : (b : ℕ) → 0 < b → b ≤ n → getD ranked (getD ranks b 0) 0 ≡ b
 
--- what the words by seat tell of a later slot: the rank that stands is shut, and whose constraints, or the other's, the two would break
+-- what the words by seat tell of a later slot: rank j is shut there once rank i stands at the slot with index k, since it is the same rank or since a constraint marks the two
 abbrev pub ShutOf : Round → (ranked shut : List ℕ) → Type 0
 ShutOf r ranked shut =
     (k l i j : ℕ) → k < l → l < 8 → i < r .bidders → j < r .bidders →

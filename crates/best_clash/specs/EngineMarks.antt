@@ -14,7 +14,7 @@ use Rattle.sheet.specs.declared.Constraint.{Constraint}
 use Rattle.sheet.specs.declared.Round.{Round}
 use Rattle.sheet.specs.Round.{constraintAt}
 
--- bidders and slots that a table has
+-- two bidders of at most 8, each at a slot of at most 8
 pub record Entry (b k j l : ℕ) : Type 0 where
   pub some-b : 0 < b
   pub most-b : b ≤ 8
@@ -51,7 +51,7 @@ pairBreaks (OwnSlot s) o b k j l = among o (s .0) b k j l
 pairBreaks (OtherSlot i m) o b k j l = anywhere o (i .0) (m .0) b k j l
 pairBreaks (Pair s i m) o b k j l = eitherWay o (s .0) (i .0) (m .0) b k j l
 
--- the constraint marks the entry: as above, but an own-slot constraint marks its owner at that slot alone, and no pair
+-- the constraint marks the two: as above, but an own-slot constraint marks its owner at that slot alone, and no pair
 unfoldable pub marks : Kind → ℕ → ℕ → ℕ → ℕ → ℕ → Bool
 marks (OwnSlot s) o b k j l = bothAre o (s .0) o (s .0) b k j l
 marks (OtherSlot i m) o b k j l = anywhere o (i .0) (m .0) b k j l
@@ -65,12 +65,13 @@ someMarks r n b k j l = anyBelow (λ a. marks (constraintAt r a .kind) (constrai
 abbrev pub seatOf : (ranks : List ℕ) → (b k : ℕ) → ℕ
 seatOf ranks b k = 8 * (k - 1) + getD ranks b 0
 
--- a constraint of a round of at most 8 bidders and 8 slots
+-- the parts of a constraint of a round of at most 8 bidders and 8 slots
 abbrev pub SmallKind : Kind → Type 0
 SmallKind (OwnSlot s) = (0 < s .0) × (s .0 ≤ 8)
 SmallKind (OtherSlot i m) = (i .0 ≤ 8) × (0 < m .0) × (m .0 ≤ 8)
 SmallKind (Pair s i m) = (0 < s .0) × (s .0 ≤ 8) × (i .0 ≤ 8) × (0 < m .0) × (m .0 ≤ 8)
 
+-- and the constraint
 pub record Small (q : Constraint) : Type 0 where
   pub owner-low : q .owner .0 ≤ 8
   pub parts : SmallKind (q .kind)

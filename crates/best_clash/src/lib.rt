@@ -110,7 +110,7 @@ pub fn fill_table(table: &mut [u64; 73], ranks: &[u8; 16], sheet: &[u8])
     }
 }
 
-// All that a seat shuts once it is taken: what its line tells, what its rank's line tells, and the rank's own other seats. The slot's own byte comes
+// All that a seat shuts once it is taken: what its line tells, what its rank's line tells, and all the rank's own seats. The slot's own byte comes
 // first and those of the slots above are gone, as in what is free when the slot is the next.
 fn shut_at(table: &[u64; 73], slot: Slot, rank: Rank) -> Seats
     requires { ⌜ (0 < slot .0) × (slot .0 ≤ 8) × (rank .0 < 8) ⌝ }
@@ -119,10 +119,11 @@ fn shut_at(table: &[u64; 73], slot: Slot, rank: Rank) -> Seats
     let line = once_at(best_seats::seat_at(slot, rank));
     let anywhere = once_anywhere(rank);
     let own = best_seats::everywhere(rank);
-    let above = 8 * (slot.0 - 1);
-    let all = table[line.0 as usize] | table[anywhere.0 as usize] | own.0;
-    let rest = all >> above;
-    Seats(rest)
+    let told = best_seats::either(
+        Seats(table[line.0 as usize]),
+        Seats(table[anywhere.0 as usize]),
+    );
+    best_seats::from_slot(best_seats::either(told, own), slot)
 }
 
 // The same for every seat.
@@ -157,14 +158,14 @@ fn all_seats(bidders: usize, slots: usize) -> Seats
     requires { ⌜ (bidders ≤ 8) × (slots ≤ 8) ⌝ }
     ensures { λ r. ⌜ (r .0 < 2 ^ (8 * slots)) × ((l i : ℕ) → l < 8 → i < 8 → bitOf (r .0) (8 * l + i) ≡ (ltb l slots && ltb i bidders)) ⌝ }
 {
-    let row = (1u64 << bidders) - 1;
-    let mut all: u64 = 0;
+    let ranks = best_seats::first_ranks(bidders);
+    let mut all = Seats(0);
     let mut slot = Slot(1);
     while slot.0 as usize <= slots {
-        all = all | (row << (8 * (slot.0 - 1)));
+        all = best_seats::either(all, best_seats::at_slot(ranks, slot));
         slot = best_seats::next_slot(slot);
     }
-    Seats(all)
+    all
 }
 
 // What is free on an empty page.

@@ -1,9 +1,8 @@
 -- The engine's own: nothing here need be believed.
--- A node of the search: a page whose first k slots are settled, and the pages that it can become.
+-- A node of the search, a page whose first k slots are settled; the tables of a round; and what a choice for the next slot leads to.
 use Prim.Native.Nat.{ℕ, suc, _+_, _*_, _^_, _<_, _≤_}
-use mathlib.Core.Bool.{Bool, true, false, not, _&&_}
+use mathlib.Core.Bool.{false, not, _&&_}
 use mathlib.Core.List.{List}
-use mathlib.Core.Logic.{_⊎_}
 use mathlib.Core.Path.{_≡_}
 use lib.ListN.{getD}
 use Rattle.basis.specs.Bits.{bitOf}
@@ -11,14 +10,12 @@ use Rattle.sheet.specs.declared.Page.{Page}
 use Rattle.sheet.specs.declared.Round.{Round}
 use Rattle.sheet.specs.Proper.{ProperRound}
 use Rattle.sheet.specs.Round.{bidOf, effectOf}
-use Rattle.auction.specs.Allowed.{PageOf, Allowed, totalUpTo, total}
+use Rattle.auction.specs.Allowed.{PageOf, totalUpTo}
 use Rattle.auction.specs.Broken.{breaks}
 use Rattle.auction.specs.Page.{at}
-use Rattle.best_page.specs.Best.{Precedes}
-use Rattle.best_page.specs.EngineSearch.{Agrees}
 use Rattle.best_seats.specs.EngineSeats.{somewhere}
 use Rattle.best_bound.specs.EngineBound.{addAfter, gainIn}
-use Rattle.best_clash.specs.EngineClash.{FreeFor, RanksOf, ShutOf}
+use Rattle.best_clash.specs.EngineClash.{ShutOf}
 use Rattle.best_node.specs.declared.Ahead.{Ahead}
 
 -- the list names the bidders 1 to n, each once, in falling order of their bids

@@ -1,5 +1,5 @@
--- The engine's own: nothing here need be believed.
--- What a search through a set of pages has found, when it looks for totals of at least `need`: nothing, where no page of the set has so
+-- The laws' own: nothing here need be believed.
+-- What trying the pages of a set has found, when totals of at least `need` are looked for: nothing, where no page of the set has so
 -- large a total; or the best of them, and then one more is needed from there on.
 use Prim.Native.Nat.{ℕ, suc, _<_, _≤_}
 use mathlib.Core.Logic.{_⊎_}

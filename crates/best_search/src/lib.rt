@@ -22,7 +22,7 @@ use sheet::Page;
 use sheet::Slot;
 
 // What the second search gives: whether there is a page with the total, and the first of them.
-pub struct Found {
+pub struct FirstPage {
     pub found: bool,
     pub page: Page,
 }
@@ -54,7 +54,7 @@ fn ranks_of(ranked: &[u8], bidders: usize) -> [u8; 16]
     ranks
 }
 
-// The larger of the total that is known and of the totals that the settled slots, those before `slot`, can lead to. The highest bids are tried first, so
+// The largest of the total that is known and of the totals that the settled slots, those before `slot`, can lead to. The highest bids are tried first, so
 // that the first page is the greedy one, and what cannot lead to a larger total is left out. Where nothing is free, nobody can join the page.
 fn raise(shut: &[u64; 64], gains: &[u64; 128], slot: Slot, free: Seats, had: u64, known: u64) -> u64
     requires { ⌜ (0 < slot .0) × (slot .0 ≤ 9) × (free .0 < 2 ^ (8 * (9 - slot .0))) × (had ≤ (slot .0 - 1) * 1000000000000000) ⌝ }
@@ -71,7 +71,7 @@ fn raise(shut: &[u64; 64], gains: &[u64; 128], slot: Slot, free: Seats, had: u64
     let mut highest = known;
     let mut left = best_seats::here(free);
     while left.0 != 0 {
-        let rank = best_seats::first_of(left);
+        let rank = best_seats::first_rank(left);
         let ahead = best_node::look_ahead(shut, gains, slot, free, had, rank);
         if highest < ahead.most {
             highest = raise(shut, gains, next, ahead.free, ahead.had, highest);
@@ -97,13 +97,13 @@ fn search(
     free: Seats,
     had: u64,
     total: u64,
-) -> Found
+) -> FirstPage
     requires { ⌜ (0 < slot .0) × (slot .0 ≤ 9) × (free .0 < 2 ^ (8 * (9 - slot .0))) × (had ≤ (slot .0 - 1) * 1000000000000000) ⌝ }
     requires { ⌜ ((x : ℕ) → getD (now gains) x 0 ≤ 1000000000000000) × (bidders ≤ 8) × ((b : ℕ) → getD (now ranks) b 0 < 8) ⌝ }
     ensures { λ r. ⌜ Sought (now (shut .entry)) (now (gains .entry)) (now (ranks .entry)) bidders (slot .0) page (free .0) had total (r .found) (r .page) ⌝ }
 {
     if free.0 == 0 {
-        return Found {
+        return FirstPage {
             found: had == total,
             page,
         };
@@ -150,7 +150,7 @@ fn search(
         }
         bidder = Bidder(bidder.0 + 1);
     }
-    Found { found: false, page }
+    FirstPage { found: false, page }
 }
 
 // The best page of a small round. Bids and effects are read and the constraints gone through once, and no round is made of them.

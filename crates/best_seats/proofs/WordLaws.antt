@@ -1,15 +1,16 @@
 -- The words of one rank and of all bytes together: each rank and each bit is tried; and the or of a word's eight bytes has a bit where one of them
 -- has it, since each half's or tells it for the slots of that half. Assumes nothing.
-use Prim.Native.Nat.{ℕ, _+_, _*_, _/_, _%_, _^_, _<_}
+use Prim.Native.Nat.{ℕ, _+_, _*_, _/_, _%_, _^_, _<_, _≤_}
+use borrow.Author.Tests.{leb-true}
 use mathlib.Core.Bool.{Bool, _||_}
 use mathlib.Core.Path.{_≡_, refl, sym, _∙_, ap}
 use native.Mathlib.Omega.{arith}
 use lib.Bits.{bitOr}
-use lib.Dec.{eqb}
+use lib.Dec.{eqb, leb}
 use Rattle.basis.specs.Bits.{bitOf}
 use Rattle.basis.specs.Tests.{anyBelow, allBelow}
 use Rattle.basis.proofs.BitLaws.{bit-or, bit-shr, bit-kept}
-use Rattle.basis.proofs.TestLaws.{any-pairs, tried}
+use Rattle.basis.proofs.TestLaws.{all-at, any-pairs, tried}
 use Rattle.best_seats.specs.EngineSeats.{somewhere}
 
 -- every eighth bit: the number is 0x0101010101010101
@@ -43,3 +44,8 @@ bytes-or free i l =
     ∙ sym (bytes-halved (halved (halved free 4) 2) 1 i)
     ∙ sym (bytes-halved (halved free 4) 2 i)
     ∙ sym (bytes-halved free 4 i)
+
+-- There is a one to take off where the first ranks are made.
+pub one-left : (count : ℕ) → count < 9 → 1 ≤ 1 * 2 ^ count % 2 ^ 64
+unfolding allBelow
+one-left count few = leb-true 1 (1 * 2 ^ count % 2 ^ 64) (all-at (λ n. leb 1 (1 * 2 ^ n % 2 ^ 64)) 9 refl count few)

@@ -1,8 +1,9 @@
 // Sets in one word, for the best-page search: of ranks, and of seats, a rank at a slot. A rank is a bidder's index in the order in which bidders
-// win, and neither a bidder nor a slot; each of the four is a type of its own. A round has at most 8 bidders and 8 slots here.
+// win, and neither a bidder nor a slot. Rank, seat and the two sets are a type each. A round has at most 8 bidders and 8 slots here.
 ghost use mathlib.Core.Bool.{not, _&&_};
 ghost use mathlib.Core.Path.{_≡_};
 ghost use Prim.Native.Nat.{ℕ, suc, _+_, _-_, _*_, _/_, _%_, _^_, _<_, _≤_};
+ghost use lib.Bits.{bitOr};
 ghost use lib.Dec.{eqb};
 ghost use Rattle.basis.specs.Bits.{bitOf};
 ghost use Rattle.best_seats.specs.EngineSeats.{somewhere, First};
@@ -44,6 +45,37 @@ pub fn everywhere(rank: Rank) -> Seats
     Seats(0x0101_0101_0101_0101u64 << rank.0)
 }
 
+// The first ranks, so many.
+pub fn first_ranks(count: usize) -> Ranks
+    requires { ⌜ count ≤ 8 ⌝ }
+    ensures { λ r. ⌜ r .0 ≡ 1 * 2 ^ count % 2 ^ 64 - 1 ⌝ }
+{
+    Ranks((1u64 << count) - 1)
+}
+
+// Some ranks at one slot.
+pub fn at_slot(ranks: Ranks, slot: Slot) -> Seats
+    requires { ⌜ (0 < slot .0) × (slot .0 ≤ 8) ⌝ }
+    ensures { λ r. ⌜ r .0 ≡ ranks .0 * 2 ^ (8 * (slot .0 - 1)) % 2 ^ 64 ⌝ }
+{
+    Seats(ranks.0 << (8 * (slot.0 - 1)))
+}
+
+// Some seats and more.
+pub fn either(some: Seats, more: Seats) -> Seats
+    ensures { λ r. ⌜ r .0 ≡ bitOr (some .0) (more .0) ⌝ }
+{
+    Seats(some.0 | more.0)
+}
+
+// The seats from a slot on, that slot's byte first.
+pub fn from_slot(seats: Seats, slot: Slot) -> Seats
+    requires { ⌜ (0 < slot .0) × (slot .0 ≤ 8) ⌝ }
+    ensures { λ r. ⌜ r .0 ≡ seats .0 / 2 ^ (8 * (slot .0 - 1)) ⌝ }
+{
+    Seats(seats.0 >> (8 * (slot.0 - 1)))
+}
+
 // What is free and not shut.
 pub fn without(free: Seats, shut: Seats) -> Seats
     ensures { λ r. ⌜ ((i : ℕ) → bitOf (r .0) i ≡ (bitOf (free .0) i && not (bitOf (shut .0) i))) × ((w : ℕ) → free .0 < 2 ^ w → r .0 < 2 ^ w) ⌝ }
@@ -66,7 +98,7 @@ pub fn here(free: Seats) -> Ranks
 }
 
 // Who may stand somewhere.
-pub fn anywhere(free: Seats) -> Ranks
+pub fn somewhere(free: Seats) -> Ranks
     ensures { λ r. ⌜ (r .0 < 256) × ((i : ℕ) → i < 8 → bitOf (r .0) i ≡ somewhere (free .0) i) ⌝ }
 {
     let halves = free.0 | (free.0 >> 32u32);
@@ -83,7 +115,7 @@ pub fn is_free(free: Seats, rank: Rank) -> bool
 }
 
 // The first of some ranks.
-pub fn first_of(ranks: Ranks) -> Rank
+pub fn first_rank(ranks: Ranks) -> Rank
     requires { ⌜ (ranks .0 ≡ 0 → ⊥) × (ranks .0 < 256) ⌝ }
     ensures { λ r. ⌜ First (ranks .0) (r .0) ⌝ }
 {

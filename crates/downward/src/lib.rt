@@ -116,14 +116,14 @@ fn any_missing(listed: &[u16], slots: usize) -> bool
     requires { ⌜ (0 < slots) × (slots ≤ 16) ⌝ }
     ensures { λ r. ⌜ r ≡ someMissing slots (now (listed .entry)) (length (now (listed .entry))) ⌝ }
 {
-    let mut missing: u16 = 0;
+    let mut missing = OwnSlots(0);
     let mut at: usize = 0;
     while at < listed.len() {
         let more = missing_from(OwnSlots(listed[at]), slots);
-        missing = missing | more.0;
+        missing = OwnSlots(missing.0 | more.0);
         at += 1;
     }
-    missing != 0
+    missing.0 != 0
 }
 
 // Whether a bidder's list is downward monotonic. Other parts go up to bidder n at slot 16.

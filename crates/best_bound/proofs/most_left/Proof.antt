@@ -120,14 +120,14 @@ abbrev μ-loop : tie.MeasureT-loop
 given : (c : tie.Start Inv-loop μ-loop) → Given (c .args .gains .now) (c .args .slot .0)
 given c = record { some = c .pre .0; low = c .pre .1; each = c .pre .2 }
 
-anywhere-requires : tie.Need-anywhere-requires Inv-loop μ-loop
-anywhere-requires c κs = tt
+somewhere-requires : tie.Need-somewhere-requires Inv-loop μ-loop
+somewhere-requires c κs = tt
 
 loop-holds : tie.Need-loop-holds Inv-loop μ-loop
 unfolding slotAfter addAfter
 loop-holds c =
     let g = given (c .before) in
-    let few = c .anywhere .ensures .0 in
+    let few = c .somewhere .ensures .0 in
     record {
       passed = 0;
       rest = rest-start _ _ (omega arith);
@@ -138,18 +138,18 @@ loop-holds c =
       within = omega arith;
     }
 
-first-of-requires : tie.Need-first-of-requires Inv-loop μ-loop
-first-of-requires c κs = (λ z. absurd (let some = c .if1 .taken in omega arith), c .before .before .loop .inv .rest .few)
+first-rank-requires : tie.Need-first-rank-requires Inv-loop μ-loop
+first-rank-requires c κs = (λ z. absurd (let some = c .if1 .taken in omega arith), c .before .before .loop .inv .rest .few)
 
 seat-at-requires : tie.Need-seat-at-requires Inv-loop μ-loop
 seat-at-requires c κs =
-    let s = slot-low _ _ _ _ _ _ _ (given (c .before .before .before .before .before)) (c .before .before .before .loop .inv) (c .first-of .ensures) in
-    (s .0, s .1, c .first-of .ensures .low)
+    let s = slot-low _ _ _ _ _ _ _ (given (c .before .before .before .before .before)) (c .before .before .before .loop .inv) (c .first-rank .ensures) in
+    (s .0, s .1, c .first-rank .ensures .low)
 
 gain-at-requires : tie.Need-gain-at-requires Inv-loop μ-loop
 gain-at-requires c κs =
-    let s = slot-low _ _ _ _ _ _ _ (given (c .before .before .before .before .before .before)) (c .before .before .before .before .loop .inv) (c .before .first-of .ensures) in
-    let low = c .before .first-of .ensures .low in
+    let s = slot-low _ _ _ _ _ _ _ (given (c .before .before .before .before .before .before)) (c .before .before .before .before .loop .inv) (c .before .first-rank .ensures) in
+    let low = c .before .first-rank .ensures .low in
     let e = c .seat-at .ensures in
     omega arith
 
@@ -158,7 +158,7 @@ gain-now : (c : tie.After-gain-at Inv-loop μ-loop) →
     c .gain-at .result
     ≡ getD
     (c .before .before .before .before .before .before .before .args .gains .now)
-    (8 * (c .before .before .before .before .before .loop .at .0 - 1) + c .before .before .first-of .result .0)
+    (8 * (c .before .before .before .before .before .loop .at .0 - 1) + c .before .before .first-rank .result .0)
     0
 gain-now c = c .gain-at .ensures ∙ ap (λ (x : ℕ). getD (c .before .before .before .before .before .before .before .args .gains .now) x 0) (c .before .seat-at .ensures)
 
@@ -170,14 +170,14 @@ add-sum c =
     (sum-fits _ _ _ _ _ _ _
     (given (c .before .before .before .before .before .before .before))
     (c .before .before .before .before .before .loop .inv)
-    (c .before .before .first-of .ensures))
+    (c .before .before .first-rank .ensures))
 
 after-first-requires : tie.Need-after-first-requires Inv-loop μ-loop
 after-first-requires c κs = (λ z. absurd (let some = c .before .before .before .if1 .taken in omega arith), c .before .before .before .before .before .loop .inv .rest .few)
 
 next-slot-requires : tie.Need-next-slot-requires Inv-loop μ-loop
 next-slot-requires c κs =
-    let s = slot-low _ _ _ _ _ _ _ (given (c .before .before .before .before .before .before .before .before)) (c .before .before .before .before .before .before .loop .inv) (c .before .before .before .first-of .ensures) in
+    let s = slot-low _ _ _ _ _ _ _ (given (c .before .before .before .before .before .before .before .before)) (c .before .before .before .before .before .before .loop .inv) (c .before .before .before .first-rank .ensures) in
     omega arith
 
 loop-less : tie.Need-loop-less Inv-loop μ-loop
@@ -186,7 +186,7 @@ loop-less c = c .before .after-first .ensures .0
 loop-again : tie.Need-loop-again Inv-loop μ-loop
 loop-again c =
     let v = c .before .before .before .before .before .before .before .loop .inv in
-    let f = c .before .before .before .before .first-of .ensures in
+    let f = c .before .before .before .before .first-rank .ensures in
     let less = c .before .after-first .ensures in
     one-more _ _ _ _ _ _ _
     (given (c .before .before .before .before .before .before .before .before .before))
@@ -202,7 +202,7 @@ loop-again c =
 returns : tie.Need-returns Inv-loop μ-loop
 returns c =
     all-gone _ _ _ _ _ _ (c .before .before .loop .inv) (c .if1 .left)
-    ∙ added-alike _ _ _ _ _ 8 (c .before .before .before .anywhere .ensures .1)
+    ∙ added-alike _ _ _ _ _ 8 (c .before .before .before .somewhere .ensures .1)
 
 pub most-left-spec : {M : Type 1} → statement M
 most-left-spec =
@@ -210,9 +210,9 @@ most-left-spec =
     (tie.spec
     Inv-loop
     μ-loop
-    anywhere-requires
+    somewhere-requires
     loop-holds
-    first-of-requires
+    first-rank-requires
     seat-at-requires
     gain-at-requires
     add-sum

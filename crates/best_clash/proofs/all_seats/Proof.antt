@@ -1,8 +1,9 @@
 -- `best_clash::all_seats` meets its contract: each turn adds the seats of one slot. Assumes nothing.
-use Prim.Native.Nat.{ℕ, suc, _-_, _<_, _≤_}
-use mathlib.Core.Path.{_≡_, subst}
+use Prim.Native.Nat.{ℕ, suc, _*_, _-_, _%_, _^_, _<_, _≤_}
+use mathlib.Core.Path.{_≡_, sym, _∙_, ap, subst}
 use native.Mathlib.Omega.{arith}
-use Rattle.best_clash.proofs.RowLaws.{row-low, SeatsTo, no-seats, seats-more}
+use lib.Bits.{bitOr}
+use Rattle.best_clash.proofs.RowLaws.{SeatsTo, no-seats, seats-more}
 use borrow.Author.Needs.{needs}
 use Rattle.best_clash.proofs.all_seats.Statement.{statement}
 use Rattle.best_clash.proofs.all_seats.Tie as tie
@@ -14,34 +15,29 @@ record Going (bidders slots all slot : ℕ) : Type 0 where
   had : SeatsTo bidders all (slot - 1)
 
 abbrev Inv-loop : tie.InvT-loop
-Inv-loop bidders slots row all₀ slot₀ all slot = Going bidders slots all (slot .0)
+Inv-loop bidders slots ranks all₀ slot₀ all slot = Going bidders slots (all .0) (slot .0)
 
 abbrev μ-loop : tie.MeasureT-loop
-μ-loop bidders slots row all₀ slot₀ all slot = suc slots - slot .0
+μ-loop bidders slots ranks all₀ slot₀ all slot = suc slots - slot .0
 
-shl-row : tie.Need-shl-row Inv-loop μ-loop
-shl-row c = search needs
-
-sub-row : tie.Need-sub-row Inv-loop μ-loop
-sub-row c = row-low (c .args .bidders) (let few = c .pre .0 in omega arith) .0
+first-ranks-requires : tie.Need-first-ranks-requires Inv-loop μ-loop
+first-ranks-requires c κs = c .pre .0
 
 loop-holds : tie.Need-loop-holds Inv-loop μ-loop
-loop-holds c = record { some = omega arith; most = omega arith; had = no-seats (c .args .bidders) }
+loop-holds c = record { some = omega arith; most = omega arith; had = no-seats (c .before .args .bidders) }
 
 cast-if1 : tie.Need-cast-if1 Inv-loop μ-loop
 cast-if1 c = omega arith
 
-sub-all : tie.Need-sub-all Inv-loop μ-loop
-sub-all c = omega arith
+at-slot-requires : tie.Need-at-slot-requires Inv-loop μ-loop
+at-slot-requires c κs =
+    let v = c .before .before .loop .inv in
+    let short = c .before .before .before .before .pre .1 in
+    let h = c .if1 .taken in
+    (v .some, omega arith)
 
-mul-all : tie.Need-mul-all Inv-loop μ-loop
-mul-all c = omega arith
-
-cast-all : tie.Need-cast-all Inv-loop μ-loop
-cast-all c = omega arith
-
-shl-all : tie.Need-shl-all Inv-loop μ-loop
-shl-all c = omega arith
+either-requires : tie.Need-either-requires Inv-loop μ-loop
+either-requires c κs = search needs
 
 next-slot-requires : tie.Need-next-slot-requires Inv-loop μ-loop
 next-slot-requires c κs = omega arith
@@ -51,24 +47,29 @@ loop-less c = omega arith
 
 loop-again : tie.Need-loop-again Inv-loop μ-loop
 loop-again c =
-    let at = c .before .before .before .before in
-    let few = at .before .pre .0 in
+    let at = c .before .before .before .before .before in
+    let few = at .before .before .pre .0 in
     let v = at .loop .inv in
     let some = v .some in
     let slot = at .loop .slot .0 in
+    let bidders = at .before .before .args .bidders in
     let next : suc (slot - 1) ≡ c .next-slot .result .0 - 1 = (let e = c .next-slot .ensures in omega arith) in
+    let more = c .before .either .ensures
+    ∙ ap (bitOr (at .loop .all .0)) (c .before .before .at-slot .ensures ∙ ap (λ (n : ℕ). n * 2 ^ (8 * (slot - 1)) % 2 ^ 64) (at .before .first-ranks .ensures)) in
     record {
       some = (let e = c .next-slot .ensures in omega arith);
-      most = (let e = c .next-slot .ensures in omega arith);
-      had = subst (SeatsTo (at .before .args .bidders) _) next (seats-more (at .before .args .bidders) (at .loop .all) (slot - 1) few (omega arith) (v .had));
+      most = (let e = c .next-slot .ensures in let h = c .before .before .before .if1 .taken in omega arith);
+      had =
+          subst (SeatsTo bidders _) next
+          (subst (λ (n : ℕ). SeatsTo bidders n (suc (slot - 1))) (sym more) (seats-more bidders (at .loop .all .0) (slot - 1) few (let short = at .before .before .pre .1 in let h = c .before .before .before .if1 .taken in omega arith) (v .had)));
     }
 
 returns : tie.Need-returns Inv-loop μ-loop
 returns c =
     let at = c .before .before in
     let v = at .loop .inv in
-    let all : at .loop .slot .0 - 1 ≡ at .before .args .slots = (let most = v .most in omega arith) in
-    let had = subst (SeatsTo (at .before .args .bidders) (at .loop .all)) all (v .had) in
+    let all : at .loop .slot .0 - 1 ≡ at .before .before .args .slots = (let most = v .most in let some = v .some in let h = c .if1 .left in omega arith) in
+    let had = subst (SeatsTo (at .before .before .args .bidders) (at .loop .all .0)) all (v .had) in
     (had .low, had .told)
 
 pub all-seats-spec : {M : Type 1} → statement M
@@ -77,14 +78,11 @@ all-seats-spec =
     (tie.spec
     Inv-loop
     μ-loop
-    shl-row
-    sub-row
+    first-ranks-requires
     loop-holds
     cast-if1
-    sub-all
-    mul-all
-    cast-all
-    shl-all
+    at-slot-requires
+    either-requires
     next-slot-requires
     loop-less
     loop-again

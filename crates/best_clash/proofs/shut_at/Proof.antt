@@ -1,5 +1,5 @@
 -- `best_clash::shut_at` meets its contract: an or of three words, shifted down to the slot's own byte. Assumes nothing.
-use Prim.Native.Nat.{ℕ, _+_, _*_, _-_}
+use Prim.Native.Nat.{ℕ, _+_, _*_, _-_, _/_, _^_}
 use mathlib.Core.Bool.{_||_}
 use mathlib.Core.Path.{_∙_, ap, ap₂}
 use native.Mathlib.Omega.{arith}
@@ -24,48 +24,46 @@ once-anywhere-requires c κs = search needs
 everywhere-requires : tie.Need-everywhere-requires
 everywhere-requires c κs = search needs
 
-sub-above : tie.Need-sub-above
-sub-above c = search needs
+cast-t9 : tie.Need-cast-t9
+cast-t9 c = search needs
 
-mul-above : tie.Need-mul-above
-mul-above c = search needs
+mul-t10 : tie.Need-mul-t10
+mul-t10 c = search needs
 
-cast-all : tie.Need-cast-all
-cast-all c = search needs
+element-copy-out-t13 : tie.Need-element-copy-out-t13
+element-copy-out-t13 c = search needs
 
-mul-all : tie.Need-mul-all
-mul-all c = search needs
+cast-t15 : tie.Need-cast-t15
+cast-t15 c = search needs
 
-element-copy-out-all : tie.Need-element-copy-out-all
-element-copy-out-all c = search needs
+mul-t16 : tie.Need-mul-t16
+mul-t16 c = search needs
 
-cast-all-2 : tie.Need-cast-all-2
-cast-all-2 c = search needs
+element-copy-out-t19 : tie.Need-element-copy-out-t19
+element-copy-out-t19 c = search needs
 
-mul-all-2 : tie.Need-mul-all-2
-mul-all-2 c = search needs
+either-requires : tie.Need-either-requires
+either-requires c κs = search needs
 
-element-copy-out-all-2 : tie.Need-element-copy-out-all-2
-element-copy-out-all-2 c = search needs
+either-requires-2 : tie.Need-either-requires-2
+either-requires-2 c κs = search needs
 
-cast-rest : tie.Need-cast-rest
-cast-rest c = search needs
-
-shr-rest : tie.Need-shr-rest
-shr-rest c = search needs
+from-slot-requires : tie.Need-from-slot-requires
+from-slot-requires c κs = search needs
 
 returns : tie.Need-returns
 returns c =
-    let called = c .before .before .before .before .before .before in
+    let called = c .before .before .before .before .before .before .before in
     let a = called .before .before .before .before .args in
-    let p = called .before .before .before .before .pre in
     let table = a .table .now in
     let x = called .before .before .once-at .result .0 in
     let y = called .before .once-anywhere .result .0 in
     let own = called .everywhere .result .0 in
     let down = 8 * (a .slot .0 - 1) in
+    let all = c .before .either2 .ensures ∙ ap (λ (n : ℕ). bitOr n own) (c .before .before .either .ensures) in
     λ z inside.
-    bit-shr (bitOr (bitOr (getD table x 0) (getD table y 0)) own) down z
+    ap (λ (n : ℕ). bitOf n z) (c .from-slot .ensures ∙ ap (λ (n : ℕ). n / 2 ^ down) all)
+    ∙ bit-shr (bitOr (bitOr (getD table x 0) (getD table y 0)) own) down z
     ∙ bit-or (bitOr (getD table x 0) (getD table y 0)) own (down + z)
     ∙ ap₂ _||_
     (bit-or (getD table x 0) (getD table y 0) (down + z)
@@ -73,7 +71,7 @@ returns c =
     (called .before .before .once-at .ensures ∙ called .before .before .before .seat-at .ensures)
     (called .before .once-anywhere .ensures))
     (called .everywhere .ensures (down + z) inside
-    ∙ ap (λ (n : ℕ). eqb n (a .rank .0)) (omega arith))
+    ∙ ap (λ (n : ℕ). eqb n (a .rank .0)) (let p = called .before .before .before .before .pre in omega arith))
 
 pub shut-at-spec : {M : Type 1} → statement M
 shut-at-spec =
@@ -83,14 +81,13 @@ shut-at-spec =
     once-at-requires
     once-anywhere-requires
     everywhere-requires
-    sub-above
-    mul-above
-    cast-all
-    mul-all
-    element-copy-out-all
-    cast-all-2
-    mul-all-2
-    element-copy-out-all-2
-    cast-rest
-    shr-rest
+    cast-t9
+    mul-t10
+    element-copy-out-t13
+    cast-t15
+    mul-t16
+    element-copy-out-t19
+    either-requires
+    either-requires-2
+    from-slot-requires
     returns)

@@ -32,7 +32,7 @@ use Rattle.best_search.proofs.+raise.Lts-raise as raise-lts
 use Rattle.best_node.proofs.look_ahead.Reads as look-ahead-reads
 use Rattle.best_node.proofs.pass_over.Reads as pass-over-reads
 use Rattle.best_seats.proofs.after_first.Reads as after-first-reads
-use Rattle.best_seats.proofs.first_of.Reads as first-of-reads
+use Rattle.best_seats.proofs.first_rank.Reads as first-rank-reads
 use Rattle.best_seats.proofs.here.Reads as here-reads
 use Rattle.best_seats.proofs.next_slot.Reads as next-slot-reads
 use Rattle.best_search.proofs.+raise.{statement}
@@ -101,8 +101,8 @@ raise-returns : (t : ℕ) → raise-lts.Need-returns (
   next-slot-reads.Learnt,
   here-reads.Asked,
   here-reads.Learnt,
-  first-of-reads.Asked,
-  first-of-reads.Learnt,
+  first-rank-reads.Asked,
+  first-rank-reads.Learnt,
   look-ahead-reads.Asked,
   look-ahead-reads.Learnt,
   raise-below t,
@@ -124,8 +124,8 @@ raise-returns-2 : (t : ℕ) → raise-lts.Need-returns-2 (
   next-slot-reads.Learnt,
   here-reads.Asked,
   here-reads.Learnt,
-  first-of-reads.Asked,
-  first-of-reads.Learnt,
+  first-rank-reads.Asked,
+  first-rank-reads.Learnt,
   look-ahead-reads.Asked,
   look-ahead-reads.Learnt,
   raise-below t,
@@ -147,8 +147,8 @@ raise-next-slot-requires : (t : ℕ) → raise-lts.Need-next-slot-requires (
   next-slot-reads.Learnt,
   here-reads.Asked,
   here-reads.Learnt,
-  first-of-reads.Asked,
-  first-of-reads.Learnt,
+  first-rank-reads.Asked,
+  first-rank-reads.Learnt,
   look-ahead-reads.Asked,
   look-ahead-reads.Learnt,
   raise-below t,
@@ -169,8 +169,8 @@ raise-here-requires : (t : ℕ) → raise-lts.Need-here-requires (
   next-slot-reads.Learnt,
   here-reads.Asked,
   here-reads.Learnt,
-  first-of-reads.Asked,
-  first-of-reads.Learnt,
+  first-rank-reads.Asked,
+  first-rank-reads.Learnt,
   look-ahead-reads.Asked,
   look-ahead-reads.Learnt,
   raise-below t,
@@ -188,8 +188,8 @@ raise-loop-holds : (t : ℕ) → raise-lts.Need-loop-holds (
   next-slot-reads.Learnt,
   here-reads.Asked,
   here-reads.Learnt,
-  first-of-reads.Asked,
-  first-of-reads.Learnt,
+  first-rank-reads.Asked,
+  first-rank-reads.Learnt,
   look-ahead-reads.Asked,
   look-ahead-reads.Learnt,
   raise-below t,
@@ -205,13 +205,13 @@ raise-loop-holds t c =
     let q = start .pre .1 in
     record { start = 0; rest = rest-start (a .free .0) (c .here .result .0) (c .here .ensures); so-far = λ r ranked p k e v w f. upto-none r ranked p k (a .known) }
 
-raise-first-of-requires : (t : ℕ) → raise-lts.Need-first-of-requires (
+raise-first-rank-requires : (t : ℕ) → raise-lts.Need-first-rank-requires (
   next-slot-reads.Asked,
   next-slot-reads.Learnt,
   here-reads.Asked,
   here-reads.Learnt,
-  first-of-reads.Asked,
-  first-of-reads.Learnt,
+  first-rank-reads.Asked,
+  first-rank-reads.Learnt,
   look-ahead-reads.Asked,
   look-ahead-reads.Learnt,
   raise-below t,
@@ -221,7 +221,7 @@ raise-first-of-requires : (t : ℕ) → raise-lts.Need-first-of-requires (
   pass-over-reads.Asked,
   pass-over-reads.Learnt,
 ) (raise-at t) raise′.Post raise-Inv-loop raise-μ-loop
-raise-first-of-requires t c κs =
+raise-first-rank-requires t c κs =
     (c .if3 .taken, c .before .before .loop .inv .rest .few)
 
 raise-look-ahead-requires : (t : ℕ) → raise-lts.Need-look-ahead-requires (
@@ -229,8 +229,8 @@ raise-look-ahead-requires : (t : ℕ) → raise-lts.Need-look-ahead-requires (
   next-slot-reads.Learnt,
   here-reads.Asked,
   here-reads.Learnt,
-  first-of-reads.Asked,
-  first-of-reads.Learnt,
+  first-rank-reads.Asked,
+  first-rank-reads.Learnt,
   look-ahead-reads.Asked,
   look-ahead-reads.Learnt,
   raise-below t,
@@ -245,15 +245,15 @@ raise-look-ahead-requires t c κs =
     let a = start .args in
     let q = start .pre .1 in
     let low = slot-most (a .slot .0) (a .free .0) (q .0 .1) (q .0 .2) (c .before .before .before .before .before .before .if1 .left) in
-    ((q .0 .0, low, c .first-of .ensures .low, q .0 .3), q .1)
+    ((q .0 .0, low, c .first-rank .ensures .low, q .0 .3), q .1)
 
 raise-raise-requires : (t : ℕ) → raise-lts.Need-raise-requires (
   next-slot-reads.Asked,
   next-slot-reads.Learnt,
   here-reads.Asked,
   here-reads.Learnt,
-  first-of-reads.Asked,
-  first-of-reads.Learnt,
+  first-rank-reads.Asked,
+  first-rank-reads.Learnt,
   look-ahead-reads.Asked,
   look-ahead-reads.Learnt,
   raise-below t,
@@ -274,7 +274,7 @@ raise-raise-requires t c κs =
     let is-t = start .pre .0 in
     let e = leads .had-is in
     let had = q .0 .3 in
-    let one = gain-low (a .gains .now) (q .1) (c .before .before .before .first-of .result .0) (a .slot .0 - 1) in (
+    let one = gain-low (a .gains .now) (q .1) (c .before .before .before .first-rank .result .0) (a .slot .0 - 1) in (
       omega arith,
       (
         (
@@ -292,8 +292,8 @@ raise-after-first-requires : (t : ℕ) → raise-lts.Need-after-first-requires (
   next-slot-reads.Learnt,
   here-reads.Asked,
   here-reads.Learnt,
-  first-of-reads.Asked,
-  first-of-reads.Learnt,
+  first-rank-reads.Asked,
+  first-rank-reads.Learnt,
   look-ahead-reads.Asked,
   look-ahead-reads.Learnt,
   raise-below t,
@@ -311,8 +311,8 @@ raise-loop-less : (t : ℕ) → raise-lts.Need-loop-less (
   next-slot-reads.Learnt,
   here-reads.Asked,
   here-reads.Learnt,
-  first-of-reads.Asked,
-  first-of-reads.Learnt,
+  first-rank-reads.Asked,
+  first-rank-reads.Learnt,
   look-ahead-reads.Asked,
   look-ahead-reads.Learnt,
   raise-below t,
@@ -330,8 +330,8 @@ raise-loop-again : (t : ℕ) → raise-lts.Need-loop-again (
   next-slot-reads.Learnt,
   here-reads.Asked,
   here-reads.Learnt,
-  first-of-reads.Asked,
-  first-of-reads.Learnt,
+  first-rank-reads.Asked,
+  first-rank-reads.Learnt,
   look-ahead-reads.Asked,
   look-ahead-reads.Learnt,
   raise-below t,
@@ -346,8 +346,8 @@ raise-loop-again t c =
     let a = start .args in
     let some = c .before .before .before .before .before .before .before .before .before .before .if1 .left in
     let v = c .before .before .before .before .before .before .before .loop .inv in
-    let t′ = c .before .before .before .before .first-of .result .0 in
-    let first = c .before .before .before .before .first-of .ensures in
+    let t′ = c .before .before .before .before .first-rank .result .0 in
+    let first = c .before .before .before .before .first-rank .ensures in
     let next = c .before .before .before .look-ahead .result in
     let leads = c .before .before .before .look-ahead .ensures in
     let told = c .after-first .ensures .1 t′ first in
@@ -366,8 +366,8 @@ raise-pass-over-requires : (t : ℕ) → raise-lts.Need-pass-over-requires (
   next-slot-reads.Learnt,
   here-reads.Asked,
   here-reads.Learnt,
-  first-of-reads.Asked,
-  first-of-reads.Learnt,
+  first-rank-reads.Asked,
+  first-rank-reads.Learnt,
   look-ahead-reads.Asked,
   look-ahead-reads.Learnt,
   raise-below t,
@@ -389,8 +389,8 @@ raise-raise-requires-2 : (t : ℕ) → raise-lts.Need-raise-requires-2 (
   next-slot-reads.Learnt,
   here-reads.Asked,
   here-reads.Learnt,
-  first-of-reads.Asked,
-  first-of-reads.Learnt,
+  first-rank-reads.Asked,
+  first-rank-reads.Learnt,
   look-ahead-reads.Asked,
   look-ahead-reads.Learnt,
   raise-below t,
@@ -428,8 +428,8 @@ raise-returns-3 : (t : ℕ) → raise-lts.Need-returns-3 (
   next-slot-reads.Learnt,
   here-reads.Asked,
   here-reads.Learnt,
-  first-of-reads.Asked,
-  first-of-reads.Learnt,
+  first-rank-reads.Asked,
+  first-rank-reads.Learnt,
   look-ahead-reads.Asked,
   look-ahead-reads.Learnt,
   raise-below t,
@@ -458,8 +458,8 @@ raise-returns-4 : (t : ℕ) → raise-lts.Need-returns-4 (
   next-slot-reads.Learnt,
   here-reads.Asked,
   here-reads.Learnt,
-  first-of-reads.Asked,
-  first-of-reads.Learnt,
+  first-rank-reads.Asked,
+  first-rank-reads.Learnt,
   look-ahead-reads.Asked,
   look-ahead-reads.Learnt,
   raise-below t,
@@ -491,8 +491,8 @@ pub +raise-spec : {M : Type 1} → statement M
   next-slot-reads.Learnt,
   here-reads.Asked,
   here-reads.Learnt,
-  first-of-reads.Asked,
-  first-of-reads.Learnt,
+  first-rank-reads.Asked,
+  first-rank-reads.Learnt,
   look-ahead-reads.Asked,
   look-ahead-reads.Learnt,
   raise-below t,
@@ -511,7 +511,7 @@ pub +raise-spec : {M : Type 1} → statement M
     (raise-next-slot-requires t)
     (raise-here-requires t)
     (raise-loop-holds t)
-    (raise-first-of-requires t)
+    (raise-first-rank-requires t)
     (raise-look-ahead-requires t)
     (raise-raise-requires t)
     (raise-after-first-requires t)

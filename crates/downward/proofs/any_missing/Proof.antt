@@ -38,7 +38,7 @@ one-more m listed missing n more v inside low told =
     }
 
 abbrev Inv-loop : tie.InvT-loop
-Inv-loop listed slots missing₀ at₀ missing at = Going slots listed missing at
+Inv-loop listed slots missing₀ at₀ missing at = Going slots listed (missing .0) at
 
 abbrev μ-loop : tie.MeasureT-loop
 μ-loop listed slots missing₀ at₀ missing at = length listed - at
@@ -63,21 +63,21 @@ loop-less c = omega arith
 
 loop-again : tie.Need-loop-again Inv-loop μ-loop
 loop-again c =
-    let at-loop = c .before .before .before .before in
+    let at-loop = c .before .before .before .before .before in
     let given = at-loop .before .before .args in
     rw (add-one (at-loop .loop .at))
-    (one-more (given .slots) (given .listed .now) (at-loop .loop .missing) (at-loop .loop .at) (c .before .missing-from .result .0)
-    (at-loop .loop .inv) (c .before .before .before .loop-test .taken) (omega (arith, c .struct-known .given)) (c .before .missing-from .ensures))
+    (one-more (given .slots) (given .listed .now) (at-loop .loop .missing .0) (at-loop .loop .at) (c .before .before .missing-from .result .0)
+    (at-loop .loop .inv) (c .before .before .before .before .loop-test .taken) (omega (arith, c .struct-known2 .given)) (c .before .before .missing-from .ensures))
 
 returns : tie.Need-returns Inv-loop μ-loop
 returns c =
-    let v = c .before .loop .inv in
-    let given = c .before .before .before .args in
-    let missing = c .before .loop .missing in
+    let v = c .before .before .loop .inv in
+    let given = c .before .before .before .before .args in
+    let missing = c .before .before .loop .missing .0 in
     missing-some (given .slots) missing (length (given .listed .now)) (given .listed .now) (v .fits)
     (subst
     (λ (n : ℕ). (k : ℕ) → k < 16 → bitOf missing k ≡ anyBelow (λ part. missesNext (given .slots) (getD (given .listed .now) part 0) k) n)
-    (le-antisymm (v .some) (c .loop-test .left)) (v .told))
+    (le-antisymm (v .some) (c .before .loop-test .left)) (v .told))
 
 pub any-missing-spec : {M : Type 1} → statement M
 any-missing-spec =

@@ -1,8 +1,8 @@
--- `best_seats::first_of` meets its contract: the zeros below the lowest bit tell where it is. Assumes nothing.
+-- `best_seats::first_rank` meets its contract: the zeros below the lowest bit tell where it is. Assumes nothing.
 use native.Mathlib.Omega.{arith}
 use Rattle.best_seats.proofs.SeatLaws.{first-here}
-use Rattle.best_seats.proofs.first_of.Statement.{statement}
-use Rattle.best_seats.proofs.first_of.Tie as tie
+use Rattle.best_seats.proofs.first_rank.Statement.{statement}
+use Rattle.best_seats.proofs.first_rank.Tie as tie
 
 cast-t3 : tie.Need-cast-t3
 cast-t3 c = omega (arith, first-here (c .before .args .ranks .0) (c .before .pre .0) (c .before .pre .1) .low)
@@ -10,5 +10,5 @@ cast-t3 c = omega (arith, first-here (c .before .args .ranks .0) (c .before .pre
 returns : tie.Need-returns
 returns c = first-here (c .before .args .ranks .0) (c .before .pre .0) (c .before .pre .1)
 
-pub first-of-spec : {M : Type 1} → statement M
-first-of-spec = tie.close (tie.spec cast-t3 returns)
+pub first-rank-spec : {M : Type 1} → statement M
+first-rank-spec = tie.close (tie.spec cast-t3 returns)
