@@ -87,7 +87,7 @@ extern "C" {
 #define PAS_VERSION "1.1.3"
 #define PAS_VERSION_MAJOR 1
 #define PAS_VERSION_MINOR 1
-#define PAS_VERSION_PATCH 2
+#define PAS_VERSION_PATCH 3
 
 /* ---- Sizes ---- */
 
