@@ -257,7 +257,7 @@ uint32_t pas_gain(const uint8_t *played, size_t played_len, const uint8_t *truth
  * stay as they were.
  *
  * Time: most sheets of 8 bidders and 8 places take less than three plays of the largest sheet. The worst that was
- * found, of 201 bytes, takes 40 million instructions, the time of some 750 such plays, or about 3 milliseconds
+ * found, of 201 bytes, takes 40 million instructions, the time of some 800 such plays, or about 3 milliseconds
  * (docs/PERFORMANCE.md has it and how it was searched for); that none takes longer is not proved. Where strangers write
  * the sheets, reckon with it.
  *
