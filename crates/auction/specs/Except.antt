@@ -9,14 +9,16 @@ use Rattle.sheet.specs.Round.{bidOf, Has}
 pub record Except (i : ℕ) (r r′ : Round) : Type 0 where
   pub bidders : r .bidders ≡ r′ .bidders
   pub slots : r .slots ≡ r′ .slots
+  pub ticks : r .tick ≡ r′ .tick
   pub bids : (b : ℕ) → (b ≡ i → ⊥) → bidOf r b ≡ bidOf r′ b
   pub there : (q : Constraint) → (q .owner .0 ≡ i → ⊥) → Has r q → Has r′ q
   pub back : (q : Constraint) → (q .owner .0 ≡ i → ⊥) → Has r′ q → Has r q
 
--- Rounds with the same bidders, slots and bids, and for each owner the same set of constraints; order and repeats are free.
+-- Rounds with the same bidders, slots, tick and bids, and for each owner the same set of constraints; order and repeats are free.
 pub record SameSets (r r′ : Round) : Type 0 where
   pub bidders : r .bidders ≡ r′ .bidders
   pub slots : r .slots ≡ r′ .slots
+  pub ticks : r .tick ≡ r′ .tick
   pub bids : (b : ℕ) → bidOf r b ≡ bidOf r′ b
   pub there : (q : Constraint) → Has r q → Has r′ q
   pub back : (q : Constraint) → Has r′ q → Has r q

@@ -1,16 +1,24 @@
 -- The laws' own: proved from the definitions, and nothing here need be believed.
 -- The critical bid of a winner, the least that its eligible rivals leave it: the handier form of the price, over any test of who is
--- eligible and any bids. That it is the price of document 01, the smallest bid that still wins, is a theorem.
-use Prim.Native.Nat.{ℕ, zero, suc, max}
+-- eligible and any bids in ticks. That it is the price of documents 01 and 02, the smallest legal bid that still wins, is a theorem.
+use Prim.Native.Nat.{ℕ, zero, suc, _+_, _%_, _<_, _≤_, max}
 use mathlib.Core.Bool.{Bool, cond, not, _&&_}
+use mathlib.Core.Path.{_≡_}
 use lib.Dec.{eqb, ltb}
 
--- the least bid with which w ranks no lower than j: one more than j's where j has the lower number, and else as much
-unfoldable pub criticalAgainst : (ℕ → ℕ) → ℕ → ℕ → ℕ
-criticalAgainst bid w j = cond (ltb j w) (suc (bid j)) (bid j)
+-- bids that are multiples of a tick
+pub record InTicks (tick : ℕ) (bid : ℕ → ℕ) : Type 0 where
+  pub some-tick : 0 < tick
+  pub most-tick : tick ≤ 1_000_000_000
+  pub most-bid : (b : ℕ) → bid b ≤ 1_000_000_000
+  pub multiple : (b : ℕ) → bid b % tick ≡ 0
+
+-- the least bid with which w ranks no lower than j: one tick more than j's where j has the lower number, and else as much
+unfoldable pub criticalAgainst : ℕ → (ℕ → ℕ) → ℕ → ℕ → ℕ
+criticalAgainst tick bid w j = cond (ltb j w) (bid j + tick) (bid j)
 
 -- the least bid with which w ranks no lower than every eligible rival among bidders 1 to n
-unfoldable pub criticalBid : (ℕ → Bool) → (ℕ → ℕ) → ℕ → ℕ → ℕ
-criticalBid eligible bid w zero = 0
-criticalBid eligible bid w (suc i) =
-    max (criticalBid eligible bid w i) (cond (eligible (suc i) && not (eqb (suc i) w)) (criticalAgainst bid w (suc i)) 0)
+unfoldable pub criticalBid : ℕ → (ℕ → Bool) → (ℕ → ℕ) → ℕ → ℕ → ℕ
+criticalBid tick eligible bid w zero = 0
+criticalBid tick eligible bid w (suc i) =
+    max (criticalBid tick eligible bid w i) (cond (eligible (suc i) && not (eqb (suc i) w)) (criticalAgainst tick bid w (suc i)) 0)

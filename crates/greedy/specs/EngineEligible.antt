@@ -35,9 +35,9 @@ pub record SoFar (r : Round) (p : Page) (s barred held : List ℕ) (l : ℕ) : T
   pub known : Known r p barred held
 
 -- a slot's winner and price, from who may have it and the bids
-pub record Awarded (eligible : ℕ → Bool) (bid : ℕ → ℕ) (n won paid : ℕ) : Type 0 where
+pub record Awarded (tick : ℕ) (eligible : ℕ → Bool) (bid : ℕ → ℕ) (n won paid : ℕ) : Type 0 where
   pub won-by : won ≡ winner eligible bid n
-  pub paid-as : paid ≡ criticalBid eligible bid won n
+  pub paid-as : paid ≡ criticalBid tick eligible bid won n
 
 -- the marks before and after w, or nobody, gets slot k
 pub record Settled (r : Round) (w k : ℕ) (barred held barred′ held′ : List ℕ) : Type 0 where
@@ -47,7 +47,7 @@ pub record Settled (r : Round) (w k : ℕ) (barred held barred′ held′ : List
       × ((y : ℕ) → isMarked barred′ y ≡ (isMarked barred y || someOwner r (key w k) (λ z. eqb z y) (r .used)))
 
 -- what the page is filled from is the round's: its constraints are those of the lent sheet, whose links are lent too
-pub record Lent (r : Round) (s : List ℕ) (start : ℕ) (last links bids : List ℕ) (bidders slots : ℕ) : Type 0 where
+pub record Lent (r : Round) (s : List ℕ) (start : ℕ) (last links bids : List ℕ) (bidders slots tick : ℕ) : Type 0 where
   pub proper : ProperRound r
   pub kept : Kept s start last links
   pub constraints-are : r .constraints ≡ roundOf s .constraints
@@ -55,3 +55,4 @@ pub record Lent (r : Round) (s : List ℕ) (start : ℕ) (last links bids : List
   pub bids-are : bids ≡ r .bids
   pub bidders-are : bidders ≡ r .bidders
   pub slots-are : slots ≡ r .slots
+  pub tick-is : tick ≡ r .tick

@@ -19,6 +19,7 @@ ghost use Rattle.greedy_links.specs.EngineLinks.{Kept};
 ghost use Rattle.greedy.specs.EngineOutcome.{outcomeOf};
 ghost use Rattle.greedy.specs.EngineEligible.{SoFar, Awarded, Settled, Lent};
 ghost use Rattle.choice.specs.EngineRanking.{InOrder, NextAt};
+ghost use Rattle.choice.specs.Critical.{InTicks};
 ghost use Rattle.choice.specs.EngineBids.{bidIn};
 use auction::Eligibility;
 use choice::Placing;
@@ -131,12 +132,13 @@ fn award_slot(
     start: usize,
     bids: &[u32],
     bidders: usize,
+    tick: u32,
     slot: Slot,
 ) -> Placing
     requires { ⌜ (length (now barred) ≡ 1089) × (length (now held) ≡ 1089) × Kept (now sheet) start (now last) (now links) ⌝ }
     requires { ⌜ (bidders ≤ 64) × (bidders ≤ length (now bids)) × ((0 < slot .0) × (slot .0 ≤ 16)) ⌝ }
-    requires { ⌜ InOrder (bidIn (now bids)) bidders (now ranked) × ((b : ℕ) → bidIn (now bids) b ≤ 1000000000) ⌝ }
-    ensures { λ r. ⌜ ((q : Round) (p : Page) → SoFar q p (now (sheet .entry)) (now (barred .entry)) (now (held .entry)) (slot .0) → Awarded (eligible q p (slot .0)) (bidIn (now (bids .entry))) bidders (r .winner .0) (r .critical)) ⌝ }
+    requires { ⌜ InOrder (bidIn (now bids)) bidders (now ranked) × InTicks tick (bidIn (now bids)) ⌝ }
+    ensures { λ r. ⌜ ((q : Round) (p : Page) → SoFar q p (now (sheet .entry)) (now (barred .entry)) (now (held .entry)) (slot .0) → Awarded tick (eligible q p (slot .0)) (bidIn (now (bids .entry))) bidders (r .winner .0) (r .critical)) ⌝ }
 {
     let first = next_eligible(
         ranked,
@@ -165,7 +167,7 @@ fn award_slot(
             first + 1,
         );
     }
-    choice::placing_at(ranked, bids, bidders, first, second)
+    choice::placing_at(ranked, bids, bidders, tick, first, second)
 }
 
 // The marks once a slot is settled: as they were where nobody won it.
@@ -206,7 +208,7 @@ fn price_index(slot: Slot) -> usize
     slot.0 as usize - 1
 }
 
-// The page of the greedy rule with the price of each slot, from a round's linked constraints and its bids.
+// The page of the greedy rule with the price of each slot, from a round's linked constraints, its bids and its tick.
 pub fn fill(
     last: &[u16],
     links: &[u16],
@@ -215,9 +217,10 @@ pub fn fill(
     bids: &[u32],
     bidders: usize,
     slots: usize,
+    tick: u32,
 ) -> Outcome
-    requires { ⌜ ((q : Round) × Lent q (now sheet) start (now last) (now links) (now bids) bidders slots) ⌝ }
-    ensures { λ r. ⌜ ((q : Round) → Lent q (now (sheet .entry)) start (now (last .entry)) (now (links .entry)) (now (bids .entry)) bidders slots → r ≡ outcomeOf q) ⌝ }
+    requires { ⌜ ((q : Round) × Lent q (now sheet) start (now last) (now links) (now bids) bidders slots tick) ⌝ }
+    ensures { λ r. ⌜ ((q : Round) → Lent q (now (sheet .entry)) start (now (last .entry)) (now (links .entry)) (now (bids .entry)) bidders slots tick → r ≡ outcomeOf q) ⌝ }
 {
     let ranked = choice::ranking_of(bids, bidders);
     let mut barred = [0u8; greedy_links::KEYS];
@@ -236,6 +239,7 @@ pub fn fill(
             start,
             bids,
             bidders,
+            tick,
             slot,
         );
         let winner = awarded.winner;
@@ -268,5 +272,6 @@ pub fn played(sheet: &[u8]) -> Outcome
     let start = sheet_read::constraints_start(sheet);
     let bidders = sheet[5] as usize;
     let slots = sheet[6] as usize;
-    fill(&last, &links, sheet, start, &bids, bidders, slots)
+    let tick = sheet::tick_of(sheet);
+    fill(&last, &links, sheet, start, &bids, bidders, slots, tick)
 }

@@ -5,16 +5,18 @@ use mathlib.Core.List.{List}
 use mathlib.Core.Path.{_≡_}
 use lib.Signed.{_≤ℤ_}
 use Rattle.sheet.specs.declared.Constraint.{Constraint}
-use Rattle.sheet.specs.Sheet.{bidderCount, slotCount, effectField, bidField}
+use Rattle.sheet.specs.Sheet.{bidderCount, slotCount, tickField, effectField, bidField}
 use Rattle.sheet.specs.Refusal.{Accepted}
 use Rattle.sheet.specs.Round.{SheetHas}
 use Rattle.downward.specs.Call.{testedOf}
 use Rattle.gain.specs.Call.{gainedOf}
 
--- "Two sheets differ only in one bidder's list when n, m, effects, bids and, for each other owner, the set of conditions are equal."
+-- "Two sheets differ only in one bidder's list when n, m, effects, bids and, for each other owner, the set of conditions are equal." And "both
+-- sheets have the same tick": a version 1 sheet has tick 1, so the other may then be of version 2 with tick 1.
 pub record DifferOnlyInList (i : ℕ) (s t : List ℕ) : Type 0 where
   pub same-n : bidderCount s ≡ bidderCount t
   pub same-m : slotCount s ≡ slotCount t
+  pub same-tick : tickField s ≡ tickField t
   pub same-effects : (k : ℕ) → 0 < k → k ≤ slotCount s → effectField s k ≡ effectField t k
   pub same-bids : (b : ℕ) → 0 < b → b ≤ bidderCount s → bidField s b ≡ bidField t b
   pub there : (q : Constraint) → (q .owner .0 ≡ i → ⊥) → SheetHas s q → SheetHas t q

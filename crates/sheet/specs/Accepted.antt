@@ -1,9 +1,10 @@
 -- The laws' own: proved from the definitions, and nothing here need be believed.
 -- All that is true of an accepted sheet, rule by rule. That an accepted sheet has these facts, and that a sheet with them is accepted,
 -- are laws (proofs/AcceptedLaws.antt): a new rule is a new field here.
-use Prim.Native.Nat.{ℕ, _<_, _≤_}
+use Prim.Native.Nat.{ℕ, _%_, _<_, _≤_}
 use mathlib.Core.Bool.{true}
 use mathlib.Core.List.{List}
+use mathlib.Core.Logic.{_⊎_}
 use mathlib.Core.Path.{_≡_}
 use lib.ListN.{length}
 use Rattle.sheet.specs.Sheet.{
@@ -11,6 +12,8 @@ use Rattle.sheet.specs.Sheet.{
   bidderCount,
   slotCount,
   constraintCount,
+  tickField,
+  effectsStart,
   sheetLength,
   effectField,
   bidField,
@@ -21,19 +24,21 @@ use Rattle.sheet.specs.Sheet.{
 }
 use Rattle.sheet.specs.Refusal.{marked, effectBefore}
 
--- 1 to 3: the header's length, the mark and the version
+-- 1 to 3, and 1 again: the header's length, the mark and the version
 pub record Form (s : List ℕ) : Type 0 where
-  pub header : 9 ≤ length s
+  pub header : effectsStart s ≤ length s
   pub mark : marked s ≡ true
-  pub first : version s ≡ 1
+  pub known : (version s ≡ 1) ⊎ (version s ≡ 2)
 
--- 4 to 7: the counts and the length
+-- 4 to 6, 26 and 7: the counts, the tick and the length
 pub record Counts (s : List ℕ) : Type 0 where
   pub some-bidders : 0 < bidderCount s
   pub most-bidders : bidderCount s ≤ 64
   pub some-slots : 0 < slotCount s
   pub most-slots : slotCount s ≤ 16
   pub most-constraints : constraintCount s ≤ 1024
+  pub some-tick : 0 < tickField s
+  pub most-tick : tickField s ≤ 1_000_000_000
   pub whole : length s ≡ sheetLength s
 
 -- 8: the effect of slot k is 1 to 1,000,000, and not larger than the one before
@@ -42,9 +47,10 @@ pub record EffectAccepted (s : List ℕ) (k : ℕ) : Type 0 where
   pub most : effectField s k ≤ 1_000_000
   pub no-rise : effectField s k ≤ effectBefore s k
 
--- 9: the bid of bidder i is at most 1,000,000,000
+-- 9 and 27: the bid of bidder i is at most 1,000,000,000, and a multiple of the tick
 pub record BidAccepted (s : List ℕ) (i : ℕ) : Type 0 where
   pub most : bidField s i ≤ 1_000_000_000
+  pub multiple : bidField s i % tickField s ≡ 0
 
 -- 10 to 13: owner and other in range and different, both slots in range, other and other's slot there together, and not all of
 -- own slot, other and other's slot 0

@@ -25,8 +25,21 @@ unfoldable pub quads : List Condition → List ℕ
 quads [] = []
 quads (q ∷ qs) = q .owner ∷ q .own ∷ q .other ∷ q .others ∷ quads qs
 
--- the sheet of these bids, effects and conditions
-unfoldable pub sheetOf : (bids effects : List ℕ) → List Condition → List ℕ
+-- the counts, and the bytes after the header
+unfoldable pub countBytes : (bids effects : List ℕ) → List Condition → List ℕ
+countBytes bids effects qs = length bids ∷ length effects ∷ length qs % 256 ∷ length qs / 256 ∷ []
+
+unfoldable pub bodyBytes : (bids effects : List ℕ) → List Condition → List ℕ
 unfolding words quads bytes32
-sheetOf bids effects qs =
-    0x50 ∷ 0x41 ∷ 0x53 ∷ 1 ∷ 0 ∷ length bids ∷ length effects ∷ length qs % 256 ∷ length qs / 256 ∷ (words effects ++ (words bids ++ quads qs))
+bodyBytes bids effects qs = words effects ++ (words bids ++ quads qs)
+
+-- the sheet of these bids, effects and conditions, in version 1
+unfoldable pub sheetOf : (bids effects : List ℕ) → List Condition → List ℕ
+unfolding countBytes bodyBytes
+sheetOf bids effects qs = 0x50 ∷ 0x41 ∷ 0x53 ∷ 1 ∷ 0 ∷ (countBytes bids effects qs ++ bodyBytes bids effects qs)
+
+-- and in version 2, with a tick
+unfoldable pub sheetInTicks : (tick : ℕ) (bids effects : List ℕ) → List Condition → List ℕ
+unfolding countBytes bodyBytes bytes32
+sheetInTicks tick bids effects qs =
+    0x50 ∷ 0x41 ∷ 0x53 ∷ 2 ∷ 0 ∷ (countBytes bids effects qs ++ (bytes32 tick ++ bodyBytes bids effects qs))

@@ -1,6 +1,6 @@
 -- The laws' own: proved from the definitions, and nothing here need be believed.
 -- What an accepted round is known to satisfy, for every crate above to cite.
-use Prim.Native.Nat.{ℕ, suc, _<_, _≤_}
+use Prim.Native.Nat.{ℕ, suc, _%_, _<_, _≤_}
 use mathlib.Core.Path.{_≡_}
 use lib.ListN.{length}
 use Rattle.sheet.specs.declared.Kind.{Kind}
@@ -28,10 +28,13 @@ pub record ProperRound (r : Round) : Type 0 where
   pub some-slots : 0 < r .slots
   pub most-slots : r .slots ≤ 16
   pub most-used : r .used ≤ 1024
+  pub some-tick : 0 < r .tick
+  pub most-tick : r .tick ≤ 1_000_000_000
   pub sized-effects : length (r .effects) ≡ 16
   pub sized-bids : length (r .bids) ≡ 64
   pub sized-constraints : length (r .constraints) ≡ 1024
   pub most-bid : (b : ℕ) → bidOf r b ≤ 1_000_000_000
+  pub in-ticks : (b : ℕ) → bidOf r b % r .tick ≡ 0
   pub most-effect : (k : ℕ) → effectOf r k ≤ 1_000_000
   pub no-rise : (k : ℕ) → 0 < k → effectOf r (suc k) ≤ effectOf r k
   pub proper : (q : Constraint) → Has r q → Proper q

@@ -1,5 +1,5 @@
--- "Numbers of a refused call, in checking order", 1 to 13, with 0 for an accepted sheet.
-use Prim.Native.Nat.{ℕ, zero, suc}
+-- "Numbers of a refused call, in checking order", 1 to 13 with 26 and 27 among them, and 0 for an accepted sheet.
+use Prim.Native.Nat.{ℕ, zero, suc, _%_}
 use mathlib.Core.Bool.{Bool, not, _&&_, _||_}
 use mathlib.Core.List.{List}
 use mathlib.Core.Path.{_≡_}
@@ -12,6 +12,7 @@ use Rattle.sheet.specs.Sheet.{
   bidderCount,
   slotCount,
   constraintCount,
+  tickField,
   sheetLength,
   effectField,
   bidField,
@@ -25,20 +26,24 @@ use Rattle.sheet.specs.Sheet.{
 abbrev pub marked : List ℕ → Bool
 marked s = eqb (byteAt s 0) 0x50 && (eqb (byteAt s 1) 0x41 && eqb (byteAt s 2) 0x53)
 
--- 1. The sheet has fewer than 9 bytes.  2. The mark is not P A S.  3. The version is not 1.
+-- 1. The sheet has fewer than 9 bytes.  2. The mark is not P A S.  3. The version is neither 1 nor 2.
+-- 1 again. The sheet is of version 2 and has fewer than 13 bytes.
 unfoldable pub formRefusal : List ℕ → ℕ
 formRefusal s =
     1 when ltb (length s) 9 otherwise
     2 when not (marked s) otherwise
-    3 when not (eqb (version s) 1) otherwise
+    3 when not (eqb (version s) 1 || eqb (version s) 2) otherwise
+    1 when eqb (version s) 2 && ltb (length s) 13 otherwise
     0
 
--- 4. n is 0 or above 64.  5. m is 0 or above 16.  6. c is above 1,024.  7. The length is not 9 + 4 × (m + n + c).
+-- 4. n is 0 or above 64.  5. m is 0 or above 16.  6. c is above 1,024.  26. The tick is 0 or above 1,000,000,000.
+-- 7. The length is not 9 + 4 × (m + n + c), and 4 more in version 2.
 unfoldable pub countsRefusal : List ℕ → ℕ
 countsRefusal s =
     4 when eqb (bidderCount s) 0 || ltb 64 (bidderCount s) otherwise
     5 when eqb (slotCount s) 0 || ltb 16 (slotCount s) otherwise
     6 when ltb 1024 (constraintCount s) otherwise
+    26 when eqb (tickField s) 0 || ltb 1_000_000_000 (tickField s) otherwise
     7 when not (eqb (length s) (sheetLength s)) otherwise
     0
 
@@ -57,6 +62,14 @@ effectRefusal s k =
 -- 9. A bid is above 1,000,000,000.
 unfoldable pub bidRefusal : List ℕ → ℕ → ℕ
 bidRefusal s i = 9 when ltb 1_000_000_000 (bidField s i) otherwise 0
+
+-- 27. A bid is no multiple of the tick.
+unfoldable pub tickRefusal : List ℕ → ℕ → ℕ
+tickRefusal s i = 27 when not (eqb (bidField s i % tickField s) 0) otherwise 0
+
+-- so a bid x that a sheet with the tick t would accept: it breaks neither 9 nor 27
+unfoldable pub legalBid : ℕ → ℕ → Bool
+legalBid t x = not (ltb 1_000_000_000 x) && eqb (x % t) 0
 
 -- a constraint's numbers are in range: owner 1 to n, the other bidder at most n, both slots at most m
 unfoldable pub inRange : (n m owner own other others : ℕ) → Bool
@@ -79,14 +92,16 @@ unfoldable pub constraintRefusal : List ℕ → ℕ → ℕ
 constraintRefusal s k =
     fieldsRefusal (bidderCount s) (slotCount s) (ownerField s k) (ownSlotField s k) (otherField s k) (otherSlotField s k)
 
--- The first number that applies: effects of slots 1 to m, bids of bidders 1 to n. "Conditions are taken in sheet order, each through 10 to 13."
+-- The first number that applies: effects of slots 1 to m; bids of bidders 1 to n, all of them for 9 and then all for 27. "Conditions are taken in
+-- sheet order, each through 10 to 13."
 unfoldable pub refusalOf : List ℕ → ℕ
 refusalOf s =
     orElse (formRefusal s)
     (orElse (countsRefusal s)
     (orElse (firstOver (λ k. effectRefusal s (suc k)) (slotCount s))
     (orElse (firstOver (λ i. bidRefusal s (suc i)) (bidderCount s))
-    (firstOver (constraintRefusal s) (constraintCount s)))))
+    (orElse (firstOver (λ i. tickRefusal s (suc i)) (bidderCount s))
+    (firstOver (constraintRefusal s) (constraintCount s))))))
 
 -- "A sheet is accepted when the check gives it no number."
 abbrev pub Accepted : List ℕ → Type 0

@@ -8,6 +8,7 @@ use Rattle.sheet.specs.Sheet.{
   bidderCount,
   slotCount,
   constraintCount,
+  tickField,
   effectField,
   bidField,
   ownerField,
@@ -44,13 +45,14 @@ constraintField s k =
 abbrev pub blank : Constraint
 blank = record { owner = bidder 0; kind = OwnSlot (slot 0) }
 
--- n, m, c, the effects, the bids and the constraints in sheet order, with 0 and blank ones after them
+-- n, m, c, the tick, the effects, the bids and the constraints in sheet order, with 0 and blank ones after them
 unfoldable pub roundOf : List ℕ → Round
 roundOf s =
     record {
       bidders = bidderCount s;
       slots = slotCount s;
       used = constraintCount s;
+      tick = tickField s;
       effects = padded (λ k. effectField s (suc k)) (slotCount s) 16 0;
       bids = padded (λ i. bidField s (suc i)) (bidderCount s) 64 0;
       constraints = padded (constraintField s) (constraintCount s) 1024 blank;

@@ -1,7 +1,9 @@
--- The bid sheet of document 01: which bytes hold which field.
+-- The bid sheet of document 01, and its version 2 of document 02: which bytes hold which field.
 -- Everything that depends on where a field stands goes through the three starts below.
 use Prim.Native.Nat.{ℕ, zero, suc, _+_, _*_}
+use mathlib.Core.Bool.{cond}
 use mathlib.Core.List.{List}
+use lib.Dec.{eqb}
 use Rattle.basis.specs.Bytes.{byteAt, word16At, word32At}
 
 -- 2 bytes: version
@@ -20,9 +22,13 @@ slotCount s = byteAt s 6
 abbrev pub constraintCount : List ℕ → ℕ
 constraintCount s = word16At s 7
 
+-- "Sheet version 2 has a 4-byte tick after the condition count"; "version 1 means tick 1"
+unfoldable pub tickField : List ℕ → ℕ
+tickField s = cond (eqb (version s) 2) (word32At s 9) 1
+
 -- the header's length: where the effects start
-abbrev pub effectsStart : List ℕ → ℕ
-effectsStart s = 9
+unfoldable pub effectsStart : List ℕ → ℕ
+effectsStart s = cond (eqb (version s) 2) 13 9
 
 -- the bids start after m effects of 4 bytes
 abbrev pub bidsStart : List ℕ → ℕ
@@ -32,7 +38,7 @@ bidsStart s = effectsStart s + 4 * slotCount s
 abbrev pub constraintsStart : List ℕ → ℕ
 constraintsStart s = bidsStart s + 4 * bidderCount s
 
--- "Length is exactly 9 + 4 × (m + n + c)."
+-- "Length is exactly 9 + 4 × (m + n + c)." In version 2 "every length grows by 4".
 abbrev pub sheetLength : List ℕ → ℕ
 sheetLength s = effectsStart s + 4 * (slotCount s + bidderCount s + constraintCount s)
 

@@ -1,4 +1,12 @@
-// The bid sheet of document 01: the types of a round. What its bytes say, which sheets are accepted and what that means are in specs/.
+// The bid sheet of document 01, and its version 2 of document 02: the types of a round, and what of a sheet its version decides. What its bytes say,
+// which sheets are accepted and what that means are in specs/.
+ghost use mathlib.Core.Path.{_≡_};
+ghost use Prim.Native.Nat.{_≤_};
+ghost use lib.ListN.{length};
+ghost use Rattle.sheet.specs.Sheet.{effectsStart, tickField};
+use basis::word16;
+use basis::word32;
+
 // "n, bidders, 1 to 64"
 pub const MAX_BIDDERS: usize = 64;
 // "m, places, 1 to 16"
@@ -29,11 +37,13 @@ pub struct Constraint {
     pub kind: Kind,
 }
 
-// A round in memory: the sheet's numbers, and its constraints in sheet order. `used` counts them; the rest are blank.
+// A round in memory: the sheet's numbers, and its constraints in sheet order. `used` counts them; the rest are blank. Every bid is a multiple of
+// the tick.
 pub struct Round {
     pub bidders: usize,
     pub slots: usize,
     pub used: usize,
+    pub tick: u32,
     pub effects: [u32; 16],
     pub bids: [u32; 64],
     pub constraints: [Constraint; 1024],
@@ -42,4 +52,26 @@ pub struct Round {
 // The page: for each slot its bidder, or nobody.
 pub struct Page {
     pub bidders: [Bidder; 16],
+}
+
+// Where the effects start: after a header of 9 bytes, and in version 2 of 13.
+pub fn effects_start(sheet: &[u8]) -> usize
+    requires { ⌜ 9 ≤ length (now sheet) ⌝ }
+    ensures { λ r. ⌜ r ≡ effectsStart (now (sheet .entry)) ⌝ }
+{
+    if word16(sheet, 3) == 2 {
+        return 13;
+    }
+    9
+}
+
+// The tick: 4 bytes after the counts in version 2, and 1 in version 1.
+pub fn tick_of(sheet: &[u8]) -> u32
+    requires { ⌜ (9 ≤ length (now sheet)) × (effectsStart (now sheet) ≤ length (now sheet)) ⌝ }
+    ensures { λ r. ⌜ r ≡ tickField (now (sheet .entry)) ⌝ }
+{
+    if word16(sheet, 3) == 2 {
+        return word32(sheet, 9);
+    }
+    1
 }

@@ -5,7 +5,7 @@ use basis::word16;
 
 mod refusals;
 
-// The number of the first rule that the sheet breaks, 1 to 13, or 0 for an accepted sheet.
+// The number of the first rule that the sheet breaks, 1 to 13, 26 or 27, or 0 for an accepted sheet.
 pub fn check(sheet: &[u8]) -> u32
     ensures { λ r. ⌜ r ≡ refusalOf (now (sheet .entry)) ⌝ }
 {
@@ -13,21 +13,27 @@ pub fn check(sheet: &[u8]) -> u32
     if form != 0 {
         return form;
     }
-    let counts = refusals::counts_refusal(sheet);
+    let start = sheet::effects_start(sheet);
+    let tick = sheet::tick_of(sheet);
+    let counts = refusals::counts_refusal(sheet, start, tick);
     if counts != 0 {
         return counts;
     }
     let bidders = sheet[5];
     let slots = sheet[6];
     let constraints = word16(sheet, 7) as usize;
-    let effects = refusals::effects_refusal(sheet, slots as usize);
+    let effects = refusals::effects_refusal(sheet, start, slots as usize);
     if effects != 0 {
         return effects;
     }
-    let bids_start = 9 + 4 * (slots as usize);
+    let bids_start = start + 4 * (slots as usize);
     let bids = refusals::bids_refusal(sheet, bids_start, bidders as usize);
     if bids != 0 {
         return bids;
+    }
+    let ticks = refusals::ticks_refusal(sheet, bids_start, bidders as usize, tick);
+    if ticks != 0 {
+        return ticks;
     }
     let constraints_start = bids_start + 4 * (bidders as usize);
     // The slice is made anew for the call: one lent on as it came is first copied in one piece, where the caller wrote its two halves,

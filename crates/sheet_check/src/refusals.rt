@@ -1,13 +1,13 @@
-// The refusals 1 to 13, each part over the fields that it reads.
+// The refusals 1 to 13, 26 and 27, each part over the fields that it reads.
 ghost use mathlib.Core.Path.{_≡_};
-ghost use mathlib.Core.Bool.{false, _||_};
-ghost use Prim.Native.Nat.{suc, _+_, _*_, _/_, _%_, _≤_};
+ghost use mathlib.Core.Bool.{false, not, _||_};
+ghost use Prim.Native.Nat.{suc, _+_, _*_, _/_, _%_, _<_, _≤_};
 ghost use lib.Dec.{eqb, ltb};
 ghost use lib.ListN.{length};
 ghost use Rattle.basis.specs.First.{firstOver};
 ghost use Rattle.basis.specs.Tests.{anyBelow};
-ghost use Rattle.sheet.specs.Sheet.{bidderCount, slotCount, effectsStart, bidsStart, constraintsStart, effectField, bidField};
-ghost use Rattle.sheet.specs.Refusal.{formRefusal, countsRefusal, effectBefore, effectRefusal, bidRefusal, constraintRefusal, inRange, fieldsRefusal};
+ghost use Rattle.sheet.specs.Sheet.{bidderCount, slotCount, tickField, effectsStart, bidsStart, constraintsStart, effectField, bidField};
+ghost use Rattle.sheet.specs.Refusal.{formRefusal, countsRefusal, effectBefore, effectRefusal, bidRefusal, tickRefusal, constraintRefusal, inRange, fieldsRefusal};
 use basis::wide;
 use basis::word16;
 use basis::word32;
@@ -19,8 +19,10 @@ use sheet::MAX_SLOTS;
 const MAX_EFFECT: u32 = 1000000;
 // "0 to 1,000,000,000"
 const MAX_BID: u32 = 1000000000;
+// "26 for a tick of 0 or above 1,000,000,000"
+const MAX_TICK: u32 = 1000000000;
 
-// 1 to 3: the header's length, the mark and the version.
+// 1 to 3, and 1 again: the header's length, the mark and the version.
 pub fn form_refusal(sheet: &[u8]) -> u32
     ensures { λ r. ⌜ r ≡ formRefusal (now (sheet .entry)) ⌝ }
 {
@@ -37,15 +39,21 @@ pub fn form_refusal(sheet: &[u8]) -> u32
         return 2;
     }
     let version = word16(sheet, 3);
-    if version != 1 {
+    if version == 1 {
+        return 0;
+    }
+    if version != 2 {
         return 3;
+    }
+    if sheet.len() < 13 {
+        return 1;
     }
     0
 }
 
-// 4 to 7: the counts and the length.
-pub fn counts_refusal(sheet: &[u8]) -> u32
-    requires { ⌜ 9 ≤ length (now sheet) ⌝ }
+// 4 to 6, 26 and 7: the counts, the tick and the length.
+pub fn counts_refusal(sheet: &[u8], start: usize, tick: u32) -> u32
+    requires { ⌜ (9 ≤ length (now sheet)) × (start ≡ effectsStart (now sheet)) × (tick ≡ tickField (now sheet)) ⌝ }
     ensures { λ r. ⌜ r ≡ countsRefusal (now (sheet .entry)) ⌝ }
 {
     let bidders = wide(sheet[5]) as usize;
@@ -66,7 +74,13 @@ pub fn counts_refusal(sheet: &[u8]) -> u32
     if MAX_CONSTRAINTS < constraints {
         return 6;
     }
-    if sheet.len() != 9 + 4 * (slots + bidders + constraints) {
+    if tick == 0 {
+        return 26;
+    }
+    if MAX_TICK < tick {
+        return 26;
+    }
+    if sheet.len() != start + 4 * (slots + bidders + constraints) {
         return 7;
     }
     0
@@ -74,15 +88,15 @@ pub fn counts_refusal(sheet: &[u8]) -> u32
 
 // Whether any effect is 0 or above the one before it, the first against the largest that any may have. No fault ends the pass, so that
 // the machine tests several effects at once.
-fn any_effect_faulty(sheet: &[u8], slots: usize) -> bool
-    requires { ⌜ effectsStart (now sheet) + 4 * slots ≤ length (now sheet) ⌝ }
+fn any_effect_faulty(sheet: &[u8], start: usize, slots: usize) -> bool
+    requires { ⌜ (start ≡ effectsStart (now sheet)) × (start + 4 * slots ≤ length (now sheet)) ⌝ }
     ensures { λ r. ⌜ r ≡ anyBelow (λ k. eqb (effectField (now (sheet .entry)) (suc k)) 0 || ltb (effectBefore (now (sheet .entry)) (suc k)) (effectField (now (sheet .entry)) (suc k))) slots ⌝ }
 {
     let mut before = MAX_EFFECT;
     let mut found = false;
     let mut k = 0;
     while k < slots {
-        let effect = word32(sheet, 9 + 4 * k);
+        let effect = word32(sheet, start + 4 * k);
         found = found | ((effect == 0) | (before < effect));
         before = effect;
         k += 1;
@@ -91,11 +105,11 @@ fn any_effect_faulty(sheet: &[u8], slots: usize) -> bool
 }
 
 // 8: the effects.
-pub fn effects_refusal(sheet: &[u8], slots: usize) -> u32
-    requires { ⌜ effectsStart (now sheet) + 4 * slots ≤ length (now sheet) ⌝ }
+pub fn effects_refusal(sheet: &[u8], start: usize, slots: usize) -> u32
+    requires { ⌜ (start ≡ effectsStart (now sheet)) × (start + 4 * slots ≤ length (now sheet)) ⌝ }
     ensures { λ r. ⌜ r ≡ firstOver (λ k. effectRefusal (now (sheet .entry)) (suc k)) slots ⌝ }
 {
-    if any_effect_faulty(sheet, slots) {
+    if any_effect_faulty(sheet, start, slots) {
         return 8;
     }
     0
@@ -123,6 +137,35 @@ pub fn bids_refusal(sheet: &[u8], start: usize, bidders: usize) -> u32
 {
     if any_bid_high(sheet, start, bidders) {
         return 9;
+    }
+    0
+}
+
+// Whether any bid is no multiple of the tick, once more in a pass that no bid ends.
+fn any_bid_off_tick(sheet: &[u8], start: usize, bidders: usize, tick: u32) -> bool
+    requires { ⌜ (start ≡ bidsStart (now sheet)) × (start + 4 * bidders ≤ length (now sheet)) × (tick ≡ tickField (now sheet)) × (0 < tick) ⌝ }
+    ensures { λ r. ⌜ r ≡ anyBelow (λ i. not (eqb (bidField (now (sheet .entry)) (suc i) % tickField (now (sheet .entry))) 0)) bidders ⌝ }
+{
+    let mut found = false;
+    let mut i = 0;
+    while i < bidders {
+        let bid = word32(sheet, start + 4 * i);
+        found = found | (bid % tick != 0);
+        i += 1;
+    }
+    found
+}
+
+// 27: the bids again, which no division is spent on where the tick is 1.
+pub fn ticks_refusal(sheet: &[u8], start: usize, bidders: usize, tick: u32) -> u32
+    requires { ⌜ (start ≡ bidsStart (now sheet)) × (start + 4 * bidders ≤ length (now sheet)) × (tick ≡ tickField (now sheet)) × (0 < tick) ⌝ }
+    ensures { λ r. ⌜ r ≡ firstOver (λ i. tickRefusal (now (sheet .entry)) (suc i)) bidders ⌝ }
+{
+    if tick == 1 {
+        return 0;
+    }
+    if any_bid_off_tick(sheet, start, bidders, tick) {
+        return 27;
     }
     0
 }

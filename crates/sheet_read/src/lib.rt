@@ -13,6 +13,8 @@ use sheet::Constraint;
 use sheet::Kind;
 use sheet::Round;
 use sheet::Slot;
+use sheet::effects_start;
+use sheet::tick_of;
 
 // What a constraint's three bytes after its owner forbid. A narrower kind takes the pair's place, and no test returns early: the machine
 // then selects the bytes, and has no branch on a kind that it cannot foretell.
@@ -30,14 +32,15 @@ fn kind_of(own: u8, other: u8, others: u8) -> Kind
 }
 
 // The effects, with 0 after them.
-fn read_effects(sheet: &[u8], slots: usize) -> [u32; 16]
-    requires { ⌜ (slots ≤ 16) × (effectsStart (now sheet) + 4 * slots ≤ length (now sheet)) ⌝ }
+fn read_effects(sheet: &[u8], start: usize, slots: usize) -> [u32; 16]
+    requires { ⌜ (slots ≤ 16) × (start + 4 * slots ≤ length (now sheet)) ⌝ }
+    requires { ⌜ start ≡ effectsStart (now sheet) ⌝ }
     ensures { λ r. ⌜ r ≡ padded (λ k. effectField (now (sheet .entry)) (suc k)) slots 16 0 ⌝ }
 {
     let mut effects = [0u32; 16];
     let mut k = 0;
     while k < slots {
-        effects[k] = word32(sheet, 9 + 4 * k);
+        effects[k] = word32(sheet, start + 4 * k);
         k += 1;
     }
     effects
@@ -76,7 +79,7 @@ pub fn effect_at(sheet: &[u8], slot: Slot) -> u32
     ensures { λ r. ⌜ r ≡ effectField (now (sheet .entry)) (slot .0) ⌝ }
 {
     let index = slot.0 as usize - 1;
-    word32(sheet, 9 + 4 * index)
+    word32(sheet, effects_start(sheet) + 4 * index)
 }
 
 // Where the constraints of an accepted sheet start.
@@ -84,7 +87,7 @@ pub fn constraints_start(sheet: &[u8]) -> usize
     requires { ⌜ Accepted (now sheet) ⌝ }
     ensures { λ r. ⌜ r ≡ constraintsStart (now (sheet .entry)) ⌝ }
 {
-    9 + 4 * (sheet[6] as usize) + 4 * (sheet[5] as usize)
+    effects_start(sheet) + 4 * (sheet[6] as usize) + 4 * (sheet[5] as usize)
 }
 
 // How many constraints an accepted sheet has.
@@ -117,7 +120,7 @@ pub fn accepted_effects(sheet: &[u8]) -> [u32; 16]
     requires { ⌜ Accepted (now sheet) ⌝ }
     ensures { λ r. ⌜ r ≡ roundOf (now (sheet .entry)) .effects ⌝ }
 {
-    read_effects(sheet, sheet[6] as usize)
+    read_effects(sheet, effects_start(sheet), sheet[6] as usize)
 }
 
 // The bids of an accepted sheet's round.
@@ -126,7 +129,7 @@ pub fn accepted_bids(sheet: &[u8]) -> [u32; 64]
     ensures { λ r. ⌜ r ≡ roundOf (now (sheet .entry)) .bids ⌝ }
 {
     let slots = sheet[6] as usize;
-    read_bids(sheet, 9 + 4 * slots, sheet[5] as usize)
+    read_bids(sheet, effects_start(sheet) + 4 * slots, sheet[5] as usize)
 }
 
 // The round of an accepted sheet, for a call that has checked it. The array of blank constraints is filled where it stands, a constraint
@@ -138,14 +141,17 @@ pub fn accepted_round(sheet: &[u8]) -> Round
     let bidders = sheet[5] as usize;
     let slots = sheet[6] as usize;
     let used = word16(sheet, 7) as usize;
-    let bids_start = 9 + 4 * slots;
+    let start = effects_start(sheet);
+    let bids_start = start + 4 * slots;
     let constraints_start = bids_start + 4 * bidders;
-    let effects = read_effects(sheet, slots);
+    let tick = tick_of(sheet);
+    let effects = read_effects(sheet, start, slots);
     let bids = read_bids(sheet, bids_start, bidders);
     let mut round = Round {
         bidders,
         slots,
         used,
+        tick,
         effects,
         bids,
         constraints: [blank_constraint(); 1024],
