@@ -35,6 +35,39 @@ pub fn has_price(result: &[u8], start: u32, slots: u32) -> bool {
     false
 }
 
+// Whether a bidder with a higher number than the one given bids so much.
+fn is_bid_after(sheet: &[u8], bidder: u32, bid: u32) -> bool {
+    let mut left = parts::bidders(sheet);
+    while bidder < left {
+        left -= 1;
+        if parts::word(sheet, parts::bid_at(sheet, left)) == bid {
+            return true;
+        }
+    }
+    false
+}
+
+// Whether the price is a rival's bid and a tick. A rival with a higher number than the winner's leaves it its own bid for a price, so that
+// any other price above 0 comes from one with a lower number.
+fn has_tick_in_price(sheet: &[u8], result: &[u8], start: u32, slot: u32) -> bool {
+    let bidder = parts::byte(result, bidder_at(start, slot, true));
+    let price = parts::word(result, price_at(start, slot));
+    0 < price && !is_bid_after(sheet, bidder, price)
+}
+
+// Whether a price is a rival's bid and a tick above 1.
+pub fn has_tick_price(sheet: &[u8], result: &[u8], start: u32, slots: u32) -> bool {
+    let tick = parts::tick(sheet);
+    let mut left = slots;
+    while 0 < left {
+        left -= 1;
+        if 1 < tick && has_tick_in_price(sheet, result, start, left) {
+            return true;
+        }
+    }
+    false
+}
+
 fn product(bid: u32, effect: u32) -> u64 {
     (bid as u64) * (effect as u64)
 }
@@ -45,7 +78,7 @@ fn worth_at(sheet: &[u8], bidder: u32, slot: u32) -> u64 {
         return 0;
     }
     let bid = parts::word(sheet, parts::bid_at(sheet, bidder - 1));
-    product(bid, parts::word(sheet, parts::effect_at(slot)))
+    product(bid, parts::word(sheet, parts::effect_at(sheet, slot)))
 }
 
 // "A page's total is the sum of bid x effect over filled places."

@@ -40,7 +40,7 @@ const MAX_EFFECT: u32 = 1000000;
 const MAX_BID: u32 = 1000000000;
 
 // "a tick of 0 or above 1,000,000,000" is turned away.
-const MAX_TICK: u32 = 1000000000;
+pub const MAX_TICK: u32 = 1000000000;
 
 // "n, bidders, 1 to 64"
 fn bidder_count(state: &mut u64, shape: u32) -> u32 {

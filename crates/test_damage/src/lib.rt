@@ -8,9 +8,6 @@ use test_chance::number;
 use test_chance::parts;
 use test_chance::rounds;
 
-// "a tick of 0 or above 1,000,000,000" is turned away.
-const MAX_TICK: u32 = 1000000000;
-
 // Another byte than the one that stands there.
 fn change_byte(state: &mut u64, buf: &mut [u8], at: usize) {
     let other = parts::byte(buf, at) + 1 + number::up_to(state, 254);
@@ -77,8 +74,8 @@ fn wrong_tick(state: &mut u64) -> u32 {
     let drawn = number::up_to(state, 3);
     match drawn {
         0 | 1 => 0,
-        2 => MAX_TICK + 1,
-        _ => number::between(state, MAX_TICK + 1, 4294967295),
+        2 => rounds::MAX_TICK + 1,
+        _ => number::between(state, rounds::MAX_TICK + 1, 4294967295),
     }
 }
 
@@ -110,7 +107,7 @@ fn fewer(length: usize, by: usize) -> usize {
 }
 
 fn is_tick(tick: u32) -> bool {
-    0 < tick && tick <= MAX_TICK
+    0 < tick && tick <= rounds::MAX_TICK
 }
 
 // The same bytes in the other version: a tick is then the first effect, and a first effect the tick. One byte fewer where that is no tick.
