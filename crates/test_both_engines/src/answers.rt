@@ -48,10 +48,11 @@ fn note_page(tally: &mut [u64], sheet: &[u8], result: &[u8], start: u32) {
     let slots = slots_of(sheet);
     let empty = pages::has_empty_slot(result, start, slots);
     let price = pages::has_price(result, start, slots);
-    let tick = pages::has_tick_price(sheet, result, start, slots);
+    let raised = pages::has_raised_price(sheet, result, start, slots);
     test_tally::add_if(tally, empty, counts::EMPTY_SLOTS);
     test_tally::add_if(tally, price, counts::PRICES);
-    test_tally::add_if(tally, tick, counts::TICK_PRICES);
+    let stepped = 1 < parts::tick(sheet);
+    test_tally::add_if(tally, raised && stepped, counts::STEPPED_PRICES);
 }
 
 // Where a result is lent, of how many bytes, and how many the call writes.

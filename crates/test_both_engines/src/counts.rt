@@ -27,7 +27,7 @@ pub const EMPTY_SLOTS: u32 = 142;
 
 pub const PRICES: u32 = 143;
 
-pub const TICK_PRICES: u32 = 144;
+pub const STEPPED_PRICES: u32 = 144;
 
 pub const YES: u32 = 145;
 

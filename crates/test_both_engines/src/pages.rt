@@ -47,21 +47,19 @@ fn is_bid_after(sheet: &[u8], bidder: u32, bid: u32) -> bool {
     false
 }
 
-// Whether the price is a rival's bid and a tick. A rival with a higher number than the winner's leaves it its own bid for a price, so that
-// any other price above 0 comes from one with a lower number.
-fn has_tick_in_price(sheet: &[u8], result: &[u8], start: u32, slot: u32) -> bool {
+// Whether the price is a rival's bid and a tick. A rival with a higher number than the winner's asks for no more than its own bid, so that
+// any other price above 0 is asked for by one with a lower number.
+fn is_raised(sheet: &[u8], result: &[u8], start: u32, slot: u32) -> bool {
     let bidder = parts::byte(result, bidder_at(start, slot, true));
     let price = parts::word(result, price_at(start, slot));
     0 < price && !is_bid_after(sheet, bidder, price)
 }
 
-// Whether a price is a rival's bid and a tick above 1.
-pub fn has_tick_price(sheet: &[u8], result: &[u8], start: u32, slots: u32) -> bool {
-    let tick = parts::tick(sheet);
+pub fn has_raised_price(sheet: &[u8], result: &[u8], start: u32, slots: u32) -> bool {
     let mut left = slots;
     while 0 < left {
         left -= 1;
-        if 1 < tick && has_tick_in_price(sheet, result, start, left) {
+        if is_raised(sheet, result, start, left) {
             return true;
         }
     }

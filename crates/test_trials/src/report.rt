@@ -109,7 +109,7 @@ fn versions(tally: &[u64]) {
     test_tally::count_line(
         tally,
         b"pages with a price that is a rival's bid and a tick above 1",
-        counts::TICK_PRICES,
+        counts::STEPPED_PRICES,
     );
     test_tally::count_line(
         tally,
