@@ -116,8 +116,8 @@ pub fn set_version(buf: &mut [u8], version: u32, tick: u32) {
     }
 }
 
-// Where 4 bytes stand, of those fours after the header, counted from 0: after the counts, and in version 2 after the tick.
-pub fn word_at(buf: &[u8], index: usize) -> usize
+// Where a field of 4 bytes stands, counted from 0: after the counts, and in version 2 after the tick too.
+fn word_at(buf: &[u8], index: usize) -> usize
     requires { ⌜ index < 8589934592 ⌝ }
     ensures { λ r. ⌜ r ≤ 13 + 4 * index ⌝ }
 {
@@ -182,7 +182,7 @@ pub fn copy(from: &[u8], to: &mut [u8], count: usize) {
     }
 }
 
-// Another sheet's fours after the header, each where the version of this one has it.
+// Another sheet's fields of 4 bytes after the header, each where the version of this one has it.
 fn copy_words(from: &[u8], to: &mut [u8], count: u32) {
     let mut left = count;
     while 0 < left {

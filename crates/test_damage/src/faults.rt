@@ -34,6 +34,7 @@ pub const HALF_AN_OTHER: u32 = 15;
 
 pub const FORBIDS_NOTHING: u32 = 16;
 
+// How many there are.
 pub const FAULTS: u32 = 16;
 
 // The number of a call that is refused for the fault, 0 for no fault.

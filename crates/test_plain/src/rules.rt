@@ -125,7 +125,7 @@ fn has_bad_bid(sheet: &[u8]) -> bool {
     false
 }
 
-// "Every bid is a multiple of the tick."
+// "Every bid is a multiple of the tick." A tick of 0 is turned away before.
 fn is_off_tick(bid: u32, tick: u32) -> bool {
     if tick == 0 {
         return true;

@@ -74,8 +74,9 @@ fn note(tally: &mut [u64], sheet: &[u8], holds: bool, largest: u32, eight: u32, 
 fn check(tally: &mut [u64], kind: Kind, sheet: &[u8]) {
     answers::check(tally, sheet, faults::number(kind.fault));
     let right = kind.fault == 0;
-    let two = parts::version(sheet) == parts::TICK_VERSION;
-    test_tally::add_if(tally, right && two, counts::VERSION_TWO);
+    let two = right && parts::version(sheet) == parts::TICK_VERSION;
+    test_tally::add_if(tally, two, counts::VERSION_TWO);
+    test_tally::add_if(tally, two && is_largest(sheet), counts::LONGEST);
     note(
         tally,
         sheet,
