@@ -1,10 +1,12 @@
--- Two numbers compared, by cases. Assumes nothing.
-use Prim.Native.Nat.{ℕ, _<_, _≤_}
+-- Two numbers compared, by cases; multiples of one number. Assumes nothing.
+use Prim.Native.Nat.{ℕ, suc, _+_, _*_, _/_, _%_, _<_, _≤_}
 use borrow.Author.Tests.{ltb-true, ltb-false}
 use mathlib.Core.Bool.{true, false}
 use mathlib.Core.Logic.{_⊎_, inl, inr, ⊎-elim}
-use mathlib.Core.Path.{_≡_}
+use mathlib.Core.Path.{_≡_, _∙_}
 use native.Mathlib.Decide.{ℕ-discrete}
+use native.Mathlib.Nat.{div-add-mod, mul-le-mul-left, mul-suc, add-mod-right}
+use native.Mathlib.Omega.{arith}
 use lib.Dec.{ltb}
 use Rattle.basis.proofs.TestLaws.{holds-or-fails}
 
@@ -20,3 +22,22 @@ same-or-not a b = decided (ℕ-discrete a b)
 pub below-or-not : (a b : ℕ) → (a < b) ⊎ (b ≤ a)
 below-or-not a b =
     ⊎-elim (λ (t : ltb a b ≡ true). inl (ltb-true a b t)) (λ (t : ltb a b ≡ false). inr (ltb-false a b t)) (holds-or-fails (ltb a b))
+
+-- of two multiples of t, the larger is larger by t at least
+pub multiple-above : (t a b : ℕ) → a % t ≡ 0 → b % t ≡ 0 → a < b → a + t ≤ b
+multiple-above t a b p q l =
+    let a-is : t * (a / t) + a % t ≡ a = div-add-mod a t in
+    let b-is : t * (b / t) + b % t ≡ b = div-add-mod b t in
+    ⊎-elim
+    (λ (h : a / t < b / t).
+    let more : t * suc (a / t) ≤ t * (b / t) = mul-le-mul-left t h in
+    let sum = mul-suc t (a / t) in
+    omega arith)
+    (λ (h : b / t ≤ a / t).
+    let more : t * (b / t) ≤ t * (a / t) = mul-le-mul-left t h in
+    absurd (omega arith))
+    (below-or-not (a / t) (b / t))
+
+-- and t more than a multiple of t is one
+pub multiple-next : (t a : ℕ) → a % t ≡ 0 → (a + t) % t ≡ 0
+multiple-next t a p = add-mod-right a t ∙ p

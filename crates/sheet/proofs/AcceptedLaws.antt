@@ -1,11 +1,11 @@
 -- What acceptance means: an accepted sheet has every fact of specs/Accepted.antt, and a sheet with these facts is accepted. Rule by rule,
 -- a test that fails says its fact, and a fact makes its test fail. Assumes nothing.
-use Prim.Native.Nat.{ℕ, zero, suc, _<_, _≤_}
+use Prim.Native.Nat.{ℕ, zero, suc, _%_, _<_, _≤_}
 use borrow.Author.Tests.{eqb-true, eqb-false, ltb-false, eq-eqb, ne-eqb, le-ltb, not-true, not-false}
 use mathlib.Core.Bool.{Bool, true, false, not, _&&_, _||_, and-false, false≢true}
 use mathlib.Core.List.{List}
-use mathlib.Core.Logic.{⊎-elim}
-use mathlib.Core.Path.{_≡_, refl, sym, _∙_, ap₂}
+use mathlib.Core.Logic.{_⊎_, inl, inr, ⊎-elim}
+use mathlib.Core.Path.{_≡_, refl, sym, _∙_, ap, ap₂}
 use native.Mathlib.Nat.{not-suc-le-zero}
 use native.Mathlib.Omega.{arith}
 use lib.Dec.{eqb, ltb}
@@ -13,12 +13,14 @@ use lib.ListN.{length}
 use Rattle.basis.specs.First.{_when_otherwise_, firstOver}
 use Rattle.basis.proofs.FirstLaws.{orElse-none, orElse-right, when-none, first-none, first-all-none}
 use Rattle.basis.proofs.NumberLaws.{same-or-not}
-use Rattle.basis.proofs.TestLaws.{or-none}
+use Rattle.basis.proofs.TestLaws.{or-none, or-parts, or-left, or-right, and-holds, and-parts}
 use Rattle.sheet.specs.Sheet.{
   version,
   bidderCount,
   slotCount,
   constraintCount,
+  tickField,
+  effectsStart,
   sheetLength,
   effectField,
   bidField,
@@ -34,32 +36,71 @@ use Rattle.sheet.specs.Refusal.{
   effectBefore,
   effectRefusal,
   bidRefusal,
+  tickRefusal,
+  legalBid,
   inRange,
   fieldsRefusal,
   constraintRefusal,
   refusalOf,
   Accepted,
 }
+use Rattle.sheet.proofs.HeaderLaws.{start-two, start-other}
 use Rattle.sheet.specs.Accepted.{Form, Counts, EffectAccepted, BidAccepted, ConstraintAccepted, AcceptedSheet}
 
--- 1 to 3
+-- 1 to 3, and 1 again
+known-version : (s : List ℕ) → (eqb (version s) 1 || eqb (version s) 2) ≡ true → (version s ≡ 1) ⊎ (version s ≡ 2)
+known-version s e =
+    ⊎-elim
+    (λ (t : eqb (version s) 1 ≡ true). inl (eqb-true (version s) 1 t))
+    (λ (t : eqb (version s) 2 ≡ true). inr (eqb-true (version s) 2 t))
+    (or-parts (eqb (version s) 1) (eqb (version s) 2) e)
+
+version-known : (s : List ℕ) → (version s ≡ 1) ⊎ (version s ≡ 2) → (eqb (version s) 1 || eqb (version s) 2) ≡ true
+version-known s known =
+    ⊎-elim
+    (λ (e : version s ≡ 1). or-left (eqb (version s) 2) (eq-eqb (version s) 1 e))
+    (λ (e : version s ≡ 2). or-right (eqb (version s) 1) (eq-eqb (version s) 2 e))
+    known
+
+start-within : (s : List ℕ) → 9 ≤ length s → (eqb (version s) 2 && ltb (length s) 13) ≡ false → effectsStart s ≤ length s
+start-within s nine e =
+    ⊎-elim
+    (λ (v : version s ≡ 2).
+    let start = start-two s v in
+    let enough : 13 ≤ length s = ltb-false (length s) 13 (sym (ap (λ (t : Bool). t && ltb (length s) 13) (eq-eqb (version s) 2 v)) ∙ e) in
+    omega arith)
+    (λ (h : version s ≡ 2 → ⊥). let start = start-other s h in omega arith)
+    (same-or-not (version s) 2)
+
+within-start : (s : List ℕ) → effectsStart s ≤ length s → (eqb (version s) 2 && ltb (length s) 13) ≡ false
+within-start s enough =
+    ⊎-elim
+    (λ (v : version s ≡ 2).
+    let start = start-two s v in
+    ap (λ (t : Bool). eqb (version s) 2 && t) (le-ltb (length s) 13 (omega arith)) ∙ and-false (eqb (version s) 2))
+    (λ (h : version s ≡ 2 → ⊥). ap (λ (t : Bool). t && ltb (length s) 13) (ne-eqb (version s) 2 h))
+    (same-or-not (version s) 2)
+
 pub form-accepted : (s : List ℕ) → formRefusal s ≡ 0 → Form s
 unfolding formRefusal
 form-accepted s e =
     let one = when-none 0 (ltb (length s) 9) _ e in
     let two = when-none 1 (not (marked s)) _ (one .1) in
-    let three = when-none 2 (not (eqb (version s) 1)) 0 (two .1) in
+    let three = when-none 2 (not (eqb (version s) 1 || eqb (version s) 2)) _ (two .1) in
+    let again = when-none 0 (eqb (version s) 2 && ltb (length s) 13) 0 (three .1) in
     record {
       header = ltb-false (length s) 9 (one .0);
+      whole-header = start-within s (ltb-false (length s) 9 (one .0)) (again .0);
       mark = not-false (marked s) (two .0);
-      first = eqb-true (version s) 1 (not-false (eqb (version s) 1) (three .0));
+      known = known-version s (not-false (eqb (version s) 1 || eqb (version s) 2) (three .0));
     }
 
 form-back : (s : List ℕ) → Form s → formRefusal s ≡ 0
 unfolding formRefusal
-form-back s f = simp (le-ltb (length s) 9 (f .header), f .mark, eq-eqb (version s) 1 (f .first))
+form-back s f =
+    simp (le-ltb (length s) 9 (f .header), f .mark, version-known s (f .known), within-start s (f .whole-header))
 
--- 4 to 7
+-- 4 to 6, 26 and 7
 positive : (x : ℕ) → eqb x 0 ≡ false → 0 < x
 positive x e = let h = eqb-false x 0 e in omega arith
 
@@ -74,13 +115,17 @@ counts-accepted s e =
     let five = when-none 4 (eqb (slotCount s) 0 || ltb 16 (slotCount s)) _ (four .1) in
     let m = or-none (eqb (slotCount s) 0) _ (five .0) in
     let six = when-none 5 (ltb 1024 (constraintCount s)) _ (five .1) in
-    let seven = when-none 6 (not (eqb (length s) (sheetLength s))) 0 (six .1) in
+    let twenty-six = when-none 25 (eqb (tickField s) 0 || ltb 1_000_000_000 (tickField s)) _ (six .1) in
+    let t = or-none (eqb (tickField s) 0) _ (twenty-six .0) in
+    let seven = when-none 6 (not (eqb (length s) (sheetLength s))) 0 (twenty-six .1) in
     record {
       some-bidders = positive (bidderCount s) (n .0);
       most-bidders = ltb-false 64 (bidderCount s) (n .1);
       some-slots = positive (slotCount s) (m .0);
       most-slots = ltb-false 16 (slotCount s) (m .1);
       most-constraints = ltb-false 1024 (constraintCount s) (six .0);
+      some-tick = positive (tickField s) (t .0);
+      most-tick = ltb-false 1_000_000_000 (tickField s) (t .1);
       whole = eqb-true (length s) (sheetLength s) (not-false (eqb (length s) (sheetLength s)) (seven .0));
     }
 
@@ -93,6 +138,8 @@ counts-back s c =
       not-zero (slotCount s) (c .some-slots),
       le-ltb 16 (slotCount s) (c .most-slots),
       le-ltb 1024 (constraintCount s) (c .most-constraints),
+      not-zero (tickField s) (c .some-tick),
+      le-ltb 1_000_000_000 (tickField s) (c .most-tick),
       eq-eqb (length s) (sheetLength s) (c .whole),
     )
 
@@ -118,14 +165,35 @@ effect-back s k f =
       le-ltb (effectBefore s k) (effectField s k) (f .no-rise),
     )
 
--- 9
-bid-of : (s : List ℕ) (i : ℕ) → bidRefusal s i ≡ 0 → BidAccepted s i
-unfolding bidRefusal
-bid-of s i e = record { most = ltb-false 1_000_000_000 (bidField s i) (when-none 8 (ltb 1_000_000_000 (bidField s i)) 0 e .0) }
+-- 9 and 27
+bid-of : (s : List ℕ) (i : ℕ) → bidRefusal s i ≡ 0 → tickRefusal s i ≡ 0 → BidAccepted s i
+unfolding bidRefusal tickRefusal
+bid-of s i e e′ =
+    record {
+      most = ltb-false 1_000_000_000 (bidField s i) (when-none 8 (ltb 1_000_000_000 (bidField s i)) 0 e .0);
+      multiple =
+          eqb-true (bidField s i % tickField s) 0
+          (not-false (eqb (bidField s i % tickField s) 0) (when-none 26 (not (eqb (bidField s i % tickField s) 0)) 0 e′ .0));
+    }
 
 bid-back : (s : List ℕ) (i : ℕ) → BidAccepted s i → bidRefusal s i ≡ 0
 unfolding bidRefusal
 bid-back s i f = simp (le-ltb 1_000_000_000 (bidField s i) (f .most))
+
+tick-back : (s : List ℕ) (i : ℕ) → BidAccepted s i → tickRefusal s i ≡ 0
+unfolding tickRefusal
+tick-back s i f = simp (eq-eqb (bidField s i % tickField s) 0 (f .multiple))
+
+-- a legal bid is at most 1,000,000,000 and a multiple of the tick, and such a bid is legal
+pub legal-parts : (t x : ℕ) → legalBid t x ≡ true → (x ≤ 1_000_000_000) × (x % t ≡ 0)
+unfolding legalBid
+legal-parts t x e =
+    let both = and-parts (not (ltb 1_000_000_000 x)) (eqb (x % t) 0) e in
+    (ltb-false 1_000_000_000 x (not-true (ltb 1_000_000_000 x) (both .0)), eqb-true (x % t) 0 (both .1))
+
+pub parts-legal : (t x : ℕ) → x ≤ 1_000_000_000 → x % t ≡ 0 → legalBid t x ≡ true
+unfolding legalBid
+parts-legal t x low e = and-holds (ap not (le-ltb 1_000_000_000 x low)) (eq-eqb (x % t) 0 e)
 
 -- 10 to 13
 same-test : (a b : Bool) → (a && not b || not a && b) ≡ false → a ≡ b
@@ -232,12 +300,17 @@ accepted-sheet s e =
     let b = orElse-none (countsRefusal s) _ (a .1) in
     let c = orElse-none (firstOver (λ k. effectRefusal s (suc k)) (slotCount s)) _ (b .1) in
     let d = orElse-none (firstOver (λ i. bidRefusal s (suc i)) (bidderCount s)) _ (c .1) in
+    let t = orElse-none (firstOver (λ i. tickRefusal s (suc i)) (bidderCount s)) _ (d .1) in
     record {
       form = form-accepted s (a .0);
       counts = counts-accepted s (b .0);
       effects = from-one (EffectAccepted s) (slotCount s) (λ k l. effect-of s (suc k) (first-none (λ k. effectRefusal s (suc k)) (slotCount s) (c .0) k l));
-      bids = from-one (BidAccepted s) (bidderCount s) (λ i l. bid-of s (suc i) (first-none (λ i. bidRefusal s (suc i)) (bidderCount s) (d .0) i l));
-      constraints = λ k l. constraint-of s k (first-none (constraintRefusal s) (constraintCount s) (d .1) k l);
+      bids = from-one (BidAccepted s) (bidderCount s) 
+          (λ i l.
+          bid-of s (suc i)
+          (first-none (λ i. bidRefusal s (suc i)) (bidderCount s) (d .0) i l)
+          (first-none (λ i. tickRefusal s (suc i)) (bidderCount s) (t .0) i l));
+      constraints = λ k l. constraint-of s k (first-none (constraintRefusal s) (constraintCount s) (t .1) k l);
     }
 
 -- and a sheet with the facts is accepted.
@@ -250,4 +323,6 @@ sheet-accepted s f =
     (first-all-none (λ k. effectRefusal s (suc k)) (slotCount s) (λ k l. effect-back s (suc k) (f .effects (suc k) (omega arith) l)))
     ∙ orElse-right (firstOver (λ i. bidRefusal s (suc i)) (bidderCount s)) _
     (first-all-none (λ i. bidRefusal s (suc i)) (bidderCount s) (λ i l. bid-back s (suc i) (f .bids (suc i) (omega arith) l)))
+    ∙ orElse-right (firstOver (λ i. tickRefusal s (suc i)) (bidderCount s)) _
+    (first-all-none (λ i. tickRefusal s (suc i)) (bidderCount s) (λ i l. tick-back s (suc i) (f .bids (suc i) (omega arith) l)))
     ∙ first-all-none (constraintRefusal s) (constraintCount s) (λ k l. constraint-back s k (f .constraints k l))

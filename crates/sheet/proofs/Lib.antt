@@ -1,3 +1,4 @@
 -- What acceptance means, both ways, and what an accepted sheet's round has.
+pub mod HeaderLaws
 pub mod AcceptedLaws
 pub mod RoundLaws

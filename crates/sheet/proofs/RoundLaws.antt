@@ -1,9 +1,9 @@
 -- An accepted sheet's round has all that the laws ask of a round. Assumes nothing.
-use Prim.Native.Nat.{ℕ, zero, suc, _<_, _≤_}
+use Prim.Native.Nat.{ℕ, zero, suc, _%_, _<_, _≤_}
 use mathlib.Core.List.{List}
 use mathlib.Core.Logic.{_⊎_, ⊎-elim}
-use mathlib.Core.Path.{_≡_, refl, sym, _∙_, subst}
-use native.Mathlib.Nat.{not-suc-le-zero}
+use mathlib.Core.Path.{_≡_, refl, sym, _∙_, ap, subst}
+use native.Mathlib.Nat.{not-suc-le-zero, zero-mod}
 use native.Mathlib.Omega.{arith}
 use Rattle.basis.proofs.RowLaws.{length-padded, getD-padded, getD-padded-after}
 use Rattle.sheet.specs.declared.Constraint.{Constraint}
@@ -11,6 +11,7 @@ use Rattle.sheet.specs.Sheet.{
   bidderCount,
   slotCount,
   constraintCount,
+  tickField,
   effectField,
   bidField,
   ownerField,
@@ -47,7 +48,7 @@ proper-kind n m owner (suc own) (suc other) others x y a = (
   (let h = a .most-own in omega arith),
 )
 
--- the round's counts are the sheet's
+-- the round's counts and its tick are the sheet's
 pub round-bidders : (s : List ℕ) → roundOf s .bidders ≡ bidderCount s
 unfolding roundOf
 round-bidders s = refl
@@ -55,6 +56,10 @@ round-bidders s = refl
 pub round-slots : (s : List ℕ) → roundOf s .slots ≡ slotCount s
 unfolding roundOf
 round-slots s = refl
+
+pub round-tick : (s : List ℕ) → roundOf s .tick ≡ tickField s
+unfolding roundOf
+round-tick s = refl
 
 module _ (s : List ℕ) (ok : Accepted s) where
   facts : AcceptedSheet s
@@ -93,6 +98,16 @@ module _ (s : List ℕ) (ok : Accepted s) where
       ⊎-elim
       (λ (l : bidderCount s < suc i). let e = no-bid-after (suc i) l in omega arith)
       (λ (l : suc i ≤ bidderCount s). let e = round-bid (suc i) l in let h = facts .bids (suc i) (omega arith) l .most in omega arith)
+      (below-or-not (bidderCount s) (suc i))
+
+  bid-in-ticks : (b : ℕ) → bidOf (roundOf s) b % tickField s ≡ 0
+  unfolding bidOf
+  bid-in-ticks zero = zero-mod (tickField s)
+  bid-in-ticks (suc i) =
+      ⊎-elim
+      (λ (l : bidderCount s < suc i). ap (λ (x : ℕ). x % tickField s) (no-bid-after (suc i) l) ∙ zero-mod (tickField s))
+      (λ (l : suc i ≤ bidderCount s).
+      ap (λ (x : ℕ). x % tickField s) (round-bid (suc i) l) ∙ facts .bids (suc i) (omega arith) l .multiple)
       (below-or-not (bidderCount s) (suc i))
 
   low-effect : (k : ℕ) → effectOf (roundOf s) k ≤ 1_000_000
@@ -137,10 +152,13 @@ module _ (s : List ℕ) (ok : Accepted s) where
         some-slots = facts .counts .some-slots;
         most-slots = facts .counts .most-slots;
         most-used = facts .counts .most-constraints;
+        some-tick = facts .counts .some-tick;
+        most-tick = facts .counts .most-tick;
         sized-effects = length-padded (λ k. effectField s (suc k)) (slotCount s) 16 0 (facts .counts .most-slots);
         sized-bids = length-padded (λ i. bidField s (suc i)) (bidderCount s) 64 0 (facts .counts .most-bidders);
         sized-constraints = length-padded (constraintField s) (constraintCount s) 1024 blank (facts .counts .most-constraints);
         most-bid = low-bid;
+        in-ticks = bid-in-ticks;
         most-effect = low-effect;
         no-rise = effects-fall;
         proper = λ q h. subst Proper (sym (round-constraint (h .0) (h .1)) ∙ h .2) (field-proper (h .0) (h .1));

@@ -1,7 +1,7 @@
 -- Which number the faults of the effects and of the bids give: the rule's own where any field is at fault. Assumes nothing.
-use Prim.Native.Nat.{ℕ, zero, suc, _≤_}
+use Prim.Native.Nat.{ℕ, zero, suc, _%_, _≤_}
 use borrow.Author.Tests.{lt-ltb, ltb-true, ltb-false}
-use mathlib.Core.Bool.{Bool, true, false, _||_}
+use mathlib.Core.Bool.{Bool, true, false, not, _||_}
 use mathlib.Core.List.{List}
 use mathlib.Core.Logic.{⊎-elim}
 use mathlib.Core.Path.{_≡_, refl, sym, _∙_, ap}
@@ -11,8 +11,8 @@ use Rattle.basis.specs.First.{_when_otherwise_, firstOver}
 use Rattle.basis.specs.Tests.{anyBelow}
 use Rattle.basis.proofs.FirstLaws.{first-of-tests}
 use Rattle.basis.proofs.TestLaws.{holds-or-fails, or-none}
-use Rattle.sheet.specs.Sheet.{effectField, bidField}
-use Rattle.sheet.specs.Refusal.{effectBefore, effectRefusal, bidRefusal}
+use Rattle.sheet.specs.Sheet.{tickField, effectField, bidField}
+use Rattle.sheet.specs.Refusal.{effectBefore, effectRefusal, bidRefusal, tickRefusal}
 
 -- what the passes test of the effect of slot k + 1 and of the bid of bidder i + 1
 abbrev pub effectFaulty : List ℕ → ℕ → Bool
@@ -20,6 +20,9 @@ effectFaulty s k = eqb (effectField s (suc k)) 0 || ltb (effectBefore s (suc k))
 
 abbrev pub bidHigh : List ℕ → ℕ → Bool
 bidHigh s i = ltb 1_000_000_000 (bidField s (suc i))
+
+abbrev pub bidOff : List ℕ → ℕ → Bool
+bidOff s i = not (eqb (bidField s (suc i) % tickField s) 0)
 
 module _ (s : List ℕ) where
   -- the rule's whole test of an effect
@@ -57,7 +60,7 @@ module _ (s : List ℕ) where
           (λ (h : ltb 1_000_000 (effectField s (suc n)) ≡ false). simp h)
           (holds-or-fails (ltb 1_000_000 (effectField s (suc n))))
 
-  -- the number of the effects and that of the bids, by what a pass over them found
+  -- the number of the effects and those of the bids, by what a pass over them found
   pub effects-number : (n : ℕ) {found : Bool} → found ≡ anyBelow (effectFaulty s) n → (8 when found otherwise 0) ≡ firstOver (λ k. effectRefusal s (suc k)) n
   unfolding effectRefusal
   effects-number n e = ap (λ (x : Bool). 8 when x otherwise 0) (e ∙ sym (same-effects n)) ∙ sym (first-of-tests 8 effectRefused n)
@@ -65,3 +68,7 @@ module _ (s : List ℕ) where
   pub bids-number : (n : ℕ) {found : Bool} → found ≡ anyBelow (bidHigh s) n → (9 when found otherwise 0) ≡ firstOver (λ i. bidRefusal s (suc i)) n
   unfolding bidRefusal
   bids-number n e = ap (λ (x : Bool). 9 when x otherwise 0) e ∙ sym (first-of-tests 9 (bidHigh s) n)
+
+  pub ticks-number : (n : ℕ) {found : Bool} → found ≡ anyBelow (bidOff s) n → (27 when found otherwise 0) ≡ firstOver (λ i. tickRefusal s (suc i)) n
+  unfolding tickRefusal
+  ticks-number n e = ap (λ (x : Bool). 27 when x otherwise 0) e ∙ sym (first-of-tests 27 (bidOff s) n)

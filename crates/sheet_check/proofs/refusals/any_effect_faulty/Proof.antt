@@ -1,12 +1,13 @@
 -- `sheet_check::refusals::any_effect_faulty` meets its contract: what is found after a turn is what was found before it, or the turn's own
 -- effect held against the one before. Assumes nothing.
-use Prim.Native.Nat.{ℕ, suc, _-_, _≤_}
+use Prim.Native.Nat.{ℕ, suc, _+_, _*_, _-_, _≤_}
 use mathlib.Core.Bool.{Bool, _||_}
 use mathlib.Core.List.{List}
 use mathlib.Core.Path.{_≡_, refl, _∙_, ap, ap₂}
 use native.Mathlib.Numerals.{add-one}
 use native.Mathlib.Omega.{arith}
 use lib.Dec.{eqb, ltb}
+use Rattle.basis.specs.Bytes.{word32At}
 use Rattle.basis.specs.Tests.{anyBelow}
 use Rattle.sheet.specs.Sheet.{effectField}
 use Rattle.sheet.specs.Refusal.{effectBefore}
@@ -21,10 +22,10 @@ record Seen (s : List ℕ) (slots before : ℕ) (found : Bool) (k : ℕ) : Type 
   last : before ≡ effectBefore s (suc k)
 
 abbrev Inv-loop : tie.InvT-loop
-Inv-loop sheet slots before₀ found₀ k₀ before found k = Seen sheet slots before found k
+Inv-loop sheet start slots before₀ found₀ k₀ before found k = Seen sheet slots before found k
 
 abbrev μ-loop : tie.MeasureT-loop
-μ-loop sheet slots before₀ found₀ k₀ before found k = slots - k
+μ-loop sheet start slots before₀ found₀ k₀ before found k = slots - k
 
 loop-holds : tie.Need-loop-holds Inv-loop μ-loop
 unfolding anyBelow
@@ -49,8 +50,11 @@ loop-again : tie.Need-loop-again Inv-loop μ-loop
 unfolding anyBelow effectField
 loop-again c =
     let v = c .before .before .loop .inv in
-    let fault = ap₂ (λ (effect before : ℕ). eqb effect 0 || ltb before effect) (c .word32 .ensures) (v .last) in
-    record { room = omega arith; any = rw add-one (ap₂ _||_ (v .any) fault); last = rw add-one (omega arith) }
+    let enter = c .before .before .before .before in
+    let k = c .before .before .loop .k in
+    let effect = c .word32 .ensures ∙ ap (λ (start : ℕ). word32At (enter .args .sheet .now) (start + 4 * k)) (enter .pre .0) in
+    let fault = ap₂ (λ (effect before : ℕ). eqb effect 0 || ltb before effect) effect (v .last) in
+    record { room = omega arith; any = rw add-one (ap₂ _||_ (v .any) fault); last = rw add-one effect }
 
 returns : tie.Need-returns Inv-loop μ-loop
 returns c =

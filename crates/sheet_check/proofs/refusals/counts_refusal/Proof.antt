@@ -3,8 +3,9 @@
 use borrow.Author.Tests.{eq-eqb, ne-eqb, lt-ltb, le-ltb}
 use native.Mathlib.Omega.{arith}
 use lib.ListN.{length}
-use Rattle.sheet.specs.Sheet.{bidderCount, slotCount, constraintCount, sheetLength}
+use Rattle.sheet.specs.Sheet.{bidderCount, slotCount, constraintCount, tickField, sheetLength}
 use Rattle.sheet.specs.Refusal.{countsRefusal}
+use Rattle.sheet.proofs.HeaderLaws.{start-most}
 use borrow.Author.Needs.{needs}
 use Rattle.sheet_check.proofs.refusals.counts_refusal.Statement.{statement}
 use Rattle.sheet_check.proofs.refusals.counts_refusal.Tie as tie
@@ -53,25 +54,33 @@ returns-5 : tie.Need-returns-5
 unfolding countsRefusal
 returns-5 c = let s = c .before .before .before .before .before .before .before .before .before .before .before .args .sheet .now in simp (ne-eqb (bidderCount s) 0 (omega arith), le-ltb 64 (bidderCount s) (omega arith), ne-eqb (slotCount s) 0 (omega arith), le-ltb 16 (slotCount s) (omega arith), lt-ltb 1024 (constraintCount s) (omega arith))
 
-add-if6 : tie.Need-add-if6
-add-if6 c = search needs
-
-add-if6-2 : tie.Need-add-if6-2
-add-if6-2 c = search needs
-
-mul-if6 : tie.Need-mul-if6
-mul-if6 c = search needs
-
-add-if6-3 : tie.Need-add-if6-3
-add-if6-3 c = search needs
-
 returns-6 : tie.Need-returns-6
 unfolding countsRefusal
-returns-6 c = let s = c .before .before .before .before .before .before .before .before .before .before .before .before .args .sheet .now in simp (ne-eqb (bidderCount s) 0 (omega arith), le-ltb 64 (bidderCount s) (omega arith), ne-eqb (slotCount s) 0 (omega arith), le-ltb 16 (slotCount s) (omega arith), le-ltb 1024 (constraintCount s) (omega arith), ne-eqb (length s) (sheetLength s) (omega arith))
+returns-6 c = let s = c .before .before .before .before .before .before .before .before .before .before .before .before .args .sheet .now in simp (ne-eqb (bidderCount s) 0 (omega arith), le-ltb 64 (bidderCount s) (omega arith), ne-eqb (slotCount s) 0 (omega arith), le-ltb 16 (slotCount s) (omega arith), le-ltb 1024 (constraintCount s) (omega arith), eq-eqb (tickField s) 0 (omega arith))
 
 returns-7 : tie.Need-returns-7
 unfolding countsRefusal
-returns-7 c = let s = c .before .before .before .before .before .before .before .before .before .before .before .before .args .sheet .now in simp (ne-eqb (bidderCount s) 0 (omega arith), le-ltb 64 (bidderCount s) (omega arith), ne-eqb (slotCount s) 0 (omega arith), le-ltb 16 (slotCount s) (omega arith), le-ltb 1024 (constraintCount s) (omega arith), eq-eqb (length s) (sheetLength s) (omega arith))
+returns-7 c = let s = c .before .before .before .before .before .before .before .before .before .before .before .before .before .args .sheet .now in simp (ne-eqb (bidderCount s) 0 (omega arith), le-ltb 64 (bidderCount s) (omega arith), ne-eqb (slotCount s) 0 (omega arith), le-ltb 16 (slotCount s) (omega arith), le-ltb 1024 (constraintCount s) (omega arith), ne-eqb (tickField s) 0 (omega arith), lt-ltb 1_000_000_000 (tickField s) (omega arith))
+
+add-if8 : tie.Need-add-if8
+add-if8 c = search needs
+
+add-if8-2 : tie.Need-add-if8-2
+add-if8-2 c = search needs
+
+mul-if8 : tie.Need-mul-if8
+mul-if8 c = search needs
+
+add-if8-3 : tie.Need-add-if8-3
+add-if8-3 c = let most = start-most (c .before .before .before .before .before .before .before .before .before .before .before .before .before .args .sheet .now) in omega arith
+
+returns-8 : tie.Need-returns-8
+unfolding countsRefusal
+returns-8 c = let s = c .before .before .before .before .before .before .before .before .before .before .before .before .before .before .args .sheet .now in simp (ne-eqb (bidderCount s) 0 (omega arith), le-ltb 64 (bidderCount s) (omega arith), ne-eqb (slotCount s) 0 (omega arith), le-ltb 16 (slotCount s) (omega arith), le-ltb 1024 (constraintCount s) (omega arith), ne-eqb (tickField s) 0 (omega arith), le-ltb 1_000_000_000 (tickField s) (omega arith), ne-eqb (length s) (sheetLength s) (omega arith))
+
+returns-9 : tie.Need-returns-9
+unfolding countsRefusal
+returns-9 c = let s = c .before .before .before .before .before .before .before .before .before .before .before .before .before .before .args .sheet .now in simp (ne-eqb (bidderCount s) 0 (omega arith), le-ltb 64 (bidderCount s) (omega arith), ne-eqb (slotCount s) 0 (omega arith), le-ltb 16 (slotCount s) (omega arith), le-ltb 1024 (constraintCount s) (omega arith), ne-eqb (tickField s) 0 (omega arith), le-ltb 1_000_000_000 (tickField s) (omega arith), eq-eqb (length s) (sheetLength s) (omega arith))
 
 pub counts-refusal-spec : {M : Type 1} → statement M
 counts-refusal-spec =
@@ -90,9 +99,11 @@ counts-refusal-spec =
     returns-3
     returns-4
     returns-5
-    add-if6
-    add-if6-2
-    mul-if6
-    add-if6-3
     returns-6
-    returns-7)
+    returns-7
+    add-if8
+    add-if8-2
+    mul-if8
+    add-if8-3
+    returns-8
+    returns-9)

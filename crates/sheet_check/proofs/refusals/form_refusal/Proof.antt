@@ -40,11 +40,19 @@ word16-requires c κs = search needs
 
 returns-5 : tie.Need-returns-5
 unfolding formRefusal
-returns-5 c = let s = c .before .before .before .before .before .before .before .before .before .before .args .sheet .now in simp (le-ltb (length s) 9 (omega arith), eq-eqb (byteAt s 0) 80 (omega arith), eq-eqb (byteAt s 1) 65 (omega arith), eq-eqb (byteAt s 2) 83 (omega arith), ne-eqb (version s) 1 (omega arith))
+returns-5 c = let s = c .before .before .before .before .before .before .before .before .before .before .args .sheet .now in simp (le-ltb (length s) 9 (omega arith), eq-eqb (byteAt s 0) 80 (omega arith), eq-eqb (byteAt s 1) 65 (omega arith), eq-eqb (byteAt s 2) 83 (omega arith), eq-eqb (version s) 1 (omega arith), ne-eqb (version s) 2 (omega arith))
 
 returns-6 : tie.Need-returns-6
 unfolding formRefusal
-returns-6 c = let s = c .before .before .before .before .before .before .before .before .before .before .args .sheet .now in simp (le-ltb (length s) 9 (omega arith), eq-eqb (byteAt s 0) 80 (omega arith), eq-eqb (byteAt s 1) 65 (omega arith), eq-eqb (byteAt s 2) 83 (omega arith), eq-eqb (version s) 1 (omega arith))
+returns-6 c = let s = c .before .before .before .before .before .before .before .before .before .before .before .args .sheet .now in simp (le-ltb (length s) 9 (omega arith), eq-eqb (byteAt s 0) 80 (omega arith), eq-eqb (byteAt s 1) 65 (omega arith), eq-eqb (byteAt s 2) 83 (omega arith), ne-eqb (version s) 1 (omega arith), ne-eqb (version s) 2 (omega arith))
+
+returns-7 : tie.Need-returns-7
+unfolding formRefusal
+returns-7 c = let s = c .before .before .before .before .before .before .before .before .before .before .before .before .args .sheet .now in simp (le-ltb (length s) 9 (omega arith), eq-eqb (byteAt s 0) 80 (omega arith), eq-eqb (byteAt s 1) 65 (omega arith), eq-eqb (byteAt s 2) 83 (omega arith), ne-eqb (version s) 1 (omega arith), eq-eqb (version s) 2 (omega arith), lt-ltb (length s) 13 (omega arith))
+
+returns-8 : tie.Need-returns-8
+unfolding formRefusal
+returns-8 c = let s = c .before .before .before .before .before .before .before .before .before .before .before .before .args .sheet .now in simp (le-ltb (length s) 9 (omega arith), eq-eqb (byteAt s 0) 80 (omega arith), eq-eqb (byteAt s 1) 65 (omega arith), eq-eqb (byteAt s 2) 83 (omega arith), ne-eqb (version s) 1 (omega arith), eq-eqb (version s) 2 (omega arith), le-ltb (length s) 13 (omega arith))
 
 pub form-refusal-spec : {M : Type 1} → statement M
 form-refusal-spec =
@@ -59,4 +67,6 @@ form-refusal-spec =
     returns-4
     word16-requires
     returns-5
-    returns-6)
+    returns-6
+    returns-7
+    returns-8)
