@@ -56,13 +56,16 @@ fn version(number: u16) {
     show::verdict(buf, length);
 }
 
-// "3. The version is not 1."
+// "Refusal 3 is now for versions other than 1 and 2". One byte of 257, 258 and 512 alone is 1 or 2.
 fn versions() {
     version(0);
     version(1);
-    version(2);
+    version(3);
     version(256);
     version(257);
+    version(258);
+    version(512);
+    version(65535);
 }
 
 // A whole sheet of the counts.
