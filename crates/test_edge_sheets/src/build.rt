@@ -99,9 +99,10 @@ fn start(buf: &[u8], field: u32) -> usize
     (9 + 4 * field - 4) as usize
 }
 
-// What stands behind the version and the tick, right where the counts are, and the sheet's length. Each effect is 1,000, each constraint
-// (1,1,0,0).
+// All of a sheet but its version and tick, which stand there before: right where the counts are. Its length is the answer. Each effect is
+// 1,000, each constraint (1,1,0,0).
 fn fill(buf: &mut [u8], bidders: u8, slots: u8, constraints: u16, bid: u32) -> usize {
+    set_mark(buf);
     set_bidder_count(buf, bidders);
     set_slot_count(buf, slots);
     set_constraint_count(buf, constraints as u32);
@@ -116,14 +117,12 @@ fn fill(buf: &mut [u8], bidders: u8, slots: u8, constraints: u16, bid: u32) -> u
 
 // A sheet of version 1 that is right where its counts are, and its length. Each bid is 5.
 pub fn base(buf: &mut [u8], bidders: u8, slots: u8, constraints: u16) -> usize {
-    set_mark(buf);
     set_version(buf, 1);
     fill(buf, bidders, slots, constraints, 5)
 }
 
 // The same of version 2, right where its tick is too. Each bid is one tick.
 pub fn base_in_ticks(buf: &mut [u8], tick: u32, bidders: u8, slots: u8, constraints: u16) -> usize {
-    set_mark(buf);
     set_version(buf, 2);
     set_tick(buf, tick);
     fill(buf, bidders, slots, constraints, tick)
