@@ -68,7 +68,7 @@ fn versions() {
     version(65535);
 }
 
-// A whole sheet of the counts.
+// A whole sheet of the counts, in version 1 and in version 2.
 fn whole(bidders: u8, slots: u8, constraints: u16) {
     let mut space = [0u8; build::ROOM];
     let buf: &mut [u8] = &mut space;
@@ -77,6 +77,8 @@ fn whole(bidders: u8, slots: u8, constraints: u16) {
     line::byte(b", places ", slots);
     line::number(b", conditions ", constraints as u64);
     show::verdict(buf, length);
+    let longer = build::base_in_ticks(buf, 1, bidders, slots, constraints);
+    show::case(b"  in version 2 with tick 1", buf, longer);
 }
 
 // "4. n is 0 or above 64."

@@ -7,8 +7,7 @@ pub fn report() {
     counts_and_form();
     counts();
     counts_and_fields();
-    form_in_ticks();
-    counts_in_ticks();
+    header_in_ticks();
     fields_in_ticks();
     within_one_constraint();
     sheet_order();
@@ -68,38 +67,27 @@ fn counts_and_fields() {
     show::case(b"9 and 10, bid 2 too large and an owner 0", buf, 37);
 }
 
-// A right sheet of version 2 with the same counts and tick 5: 41 bytes.
-fn right_in_ticks(buf: &mut [u8]) {
+// A sheet of version 2 with the same counts and tick 5 has 41 bytes. Its second 1, for a header that is too short, stands between 3 and 4.
+fn header_in_ticks() {
+    let mut space = [0u8; build::ROOM];
+    let buf: &mut [u8] = &mut space;
     build::base_in_ticks(buf, 5, 2, 3, 2);
-}
-
-// The second 1, for a header of version 2 that is too short, stands between 3 and 4.
-fn form_in_ticks() {
-    let mut space = [0u8; build::ROOM];
-    let buf: &mut [u8] = &mut space;
-    right_in_ticks(buf);
-    build::set_bidder_count(buf, 0);
-    show::case(b"1 and 4, 12 bytes of version 2 and no bidder", buf, 12);
-    build::set_byte(buf, 0, b'Q');
-    show::case(b"1 and 2, 8 bytes of version 2 with a wrong mark", buf, 8);
-    show::case(b"2 and 1, 12 bytes of version 2 with a wrong mark", buf, 12);
-}
-
-fn counts_in_ticks() {
-    let mut space = [0u8; build::ROOM];
-    let buf: &mut [u8] = &mut space;
-    right_in_ticks(buf);
     build::set_tick(buf, 0);
     show::case(b"26 and 27, a tick of 0 and bids of 5", buf, 41);
     show::case(b"26 and 7, a tick of 0 and a byte too many", buf, 42);
     build::set_constraint_count(buf, 1025);
     show::case(b"6 and 26, 1025 conditions and a tick of 0", buf, 41);
+    build::set_bidder_count(buf, 0);
+    show::case(b"1 and 4, 12 bytes of version 2 and no bidder", buf, 12);
+    build::set_byte(buf, 0, b'Q');
+    show::case(b"2 and 1, 12 bytes of version 2 with a wrong mark", buf, 12);
+    show::case(b"1 and 2, 8 bytes of version 2 with a wrong mark", buf, 8);
 }
 
 fn fields_in_ticks() {
     let mut space = [0u8; build::ROOM];
     let buf: &mut [u8] = &mut space;
-    right_in_ticks(buf);
+    build::base_in_ticks(buf, 5, 2, 3, 2);
     build::set_bid(buf, 1, 6);
     build::set_constraint(buf, 1, [0, 1, 0, 0]);
     show::case(b"27 and 10, bid 1 off the tick and an owner 0", buf, 41);

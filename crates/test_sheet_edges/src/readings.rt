@@ -12,8 +12,6 @@ pub fn report() {
     refused();
     small();
     full();
-    small_in_ticks();
-    full_in_ticks();
 }
 
 // A round's counts and its tick.
@@ -157,14 +155,9 @@ fn small() {
     let length = build::base(buf, 5, 3, 0x0102);
     set_small(buf, 0x01020304, 0x04030201);
     reading(b"reading a small sheet", buf, length);
-}
-
-fn small_in_ticks() {
-    let mut space = [0u8; build::ROOM];
-    let buf: &mut [u8] = &mut space;
-    let length = build::base_in_ticks(buf, TICK, 5, 3, 0x0102);
+    let longer = build::base_in_ticks(buf, TICK, 5, 3, 0x0102);
     set_small(buf, 3 * TICK, 57 * TICK);
-    reading(b"reading a small sheet of version 2", buf, length);
+    reading(b"reading a small sheet of version 2", buf, longer);
 }
 
 // On a sheet of the largest counts: the last field of each kind.
@@ -180,12 +173,7 @@ fn full() {
     let length = build::base(buf, 64, 16, 1024);
     set_full(buf, 0x01020304);
     reading(b"reading a full sheet", buf, length);
-}
-
-fn full_in_ticks() {
-    let mut space = [0u8; build::ROOM];
-    let buf: &mut [u8] = &mut space;
-    let length = build::base_in_ticks(buf, TICK, 64, 16, 1024);
+    let longer = build::base_in_ticks(buf, TICK, 64, 16, 1024);
     set_full(buf, 57 * TICK);
-    reading(b"reading a full sheet of version 2", buf, length);
+    reading(b"reading a full sheet of version 2", buf, longer);
 }

@@ -1,4 +1,4 @@
-// Version 2: how long its header and its sheet are, rules 26 and 27, and what stands behind the tick.
+// Version 2: how long its header and its sheet are, and rules 26 and 27.
 use crate::show;
 use test_edge_sheets::build;
 use test_edge_sheets::line;
@@ -12,9 +12,6 @@ pub fn report() {
     bids(1);
     bids(64);
     high_bids();
-    counts();
-    behind_the_tick(1, 1, 1);
-    behind_the_tick(16, 64, 1024);
 }
 
 // The first `length` bytes of a sheet of 1 bidder and 1 slot with tick 1, which has 21, and the version written last. In version 1 the
@@ -94,43 +91,4 @@ fn high_bids() {
     bid(999999999, 64, 64, 1000000000);
     bid(1000000000, 64, 64, 999999999);
     bid(1000000000, 64, 64, 2000000000);
-}
-
-// A whole sheet of the counts with tick 1.
-fn whole(bidders: u8, slots: u8, constraints: u16) {
-    let mut space = [0u8; build::ROOM];
-    let buf: &mut [u8] = &mut space;
-    let length = build::base_in_ticks(buf, 1, bidders, slots, constraints);
-    line::byte(b"version 2, bidders ", bidders);
-    line::byte(b", places ", slots);
-    line::number(b", conditions ", constraints as u64);
-    show::verdict(buf, length);
-}
-
-// Rules 4 to 6 as in version 1.
-fn counts() {
-    whole(0, 1, 0);
-    whole(64, 1, 0);
-    whole(65, 1, 0);
-    whole(1, 0, 0);
-    whole(1, 16, 0);
-    whole(1, 17, 0);
-    whole(64, 16, 1024);
-    whole(64, 16, 1025);
-}
-
-// The largest sheet, of tick 1: a constraint, a bid and an effect made wrong in turn, each of which is tested before the one before it.
-fn behind_the_tick(slot: u8, bidder: u8, constraint: u16) {
-    let mut space = [0u8; build::ROOM];
-    let buf: &mut [u8] = &mut space;
-    build::base_in_ticks(buf, 1, 64, 16, 1024);
-    build::set_constraint(buf, constraint, [65, 1, 0, 0]);
-    line::number(b"version 2, condition ", constraint as u64);
-    show::case(b" of 1024 has owner 65", buf, 4429);
-    build::set_bid(buf, bidder, 1000000001);
-    line::byte(b"version 2, bid ", bidder);
-    show::case(b" of 64 is 1000000001", buf, 4429);
-    build::set_effect(buf, slot, 0);
-    line::byte(b"version 2, effect ", slot);
-    show::case(b" of 16 is 0", buf, 4429);
 }
