@@ -44,11 +44,15 @@ fn prepare(state: &mut u64, one: &mut [u8], two: &mut [u8], kept: &mut [u8]) {
     parts::copy(kept, two, RESULT);
 }
 
-fn note_page(tally: &mut [u64], result: &[u8], start: u32, slots: u32) {
+fn note_page(tally: &mut [u64], sheet: &[u8], result: &[u8], start: u32) {
+    let slots = slots_of(sheet);
     let empty = pages::has_empty_slot(result, start, slots);
     let price = pages::has_price(result, start, slots);
+    let raised = pages::has_raised_price(sheet, result, start, slots);
     test_tally::add_if(tally, empty, counts::EMPTY_SLOTS);
     test_tally::add_if(tally, price, counts::PRICES);
+    let stepped = 1 < parts::tick(sheet);
+    test_tally::add_if(tally, raised && stepped, counts::STEPPED_PRICES);
 }
 
 // Where a result is lent, of how many bytes, and how many the call writes.
@@ -80,7 +84,7 @@ fn play_by_library(
     let kept_rest = bytes::untouched(one, kept, start, written(number, bytes));
     counts::hold(tally, kept_rest, b"play, bytes that are not the result's");
     if number == 0 {
-        note_page(tally, one, start, slots_of(sheet));
+        note_page(tally, sheet, one, start);
     }
     number
 }

@@ -3,7 +3,7 @@ ghost use mathlib.Core.Path.{_≡_};
 ghost use Rattle.test_both_engines.specs.Counts.{placeOf, held};
 ghost use Rattle.test_tally.specs.Tally.{counted};
 
-// The calls, by their order in document 01, with a place for each number from 0 to 19.
+// The calls, by their order in document 01, with a place for each number from 0 to 27.
 pub const CHECK: u32 = 0;
 
 pub const PLAY: u32 = 1;
@@ -16,55 +16,74 @@ pub const BEST: u32 = 4;
 
 pub const CALLS: u32 = 5;
 
-pub const NUMBERS: u32 = 20;
+pub const NUMBERS: u32 = 28;
 
-// Further counts, after the calls' hundred.
-pub const ROUNDS: u32 = 100;
+// Further counts, after the calls' 140.
+pub const ROUNDS: u32 = 140;
 
-pub const DIFFERENCES: u32 = 101;
+pub const DIFFERENCES: u32 = 141;
 
-pub const EMPTY_SLOTS: u32 = 102;
+pub const EMPTY_SLOTS: u32 = 142;
 
-pub const PRICES: u32 = 103;
+pub const PRICES: u32 = 143;
 
-pub const YES: u32 = 104;
+pub const STEPPED_PRICES: u32 = 144;
 
-pub const NO: u32 = 105;
+pub const YES: u32 = 145;
 
-pub const GAINS_ABOVE: u32 = 106;
+pub const NO: u32 = 146;
 
-pub const GAINS_NOUGHT: u32 = 107;
+pub const GAINS_ABOVE: u32 = 147;
 
-pub const GAINS_BELOW: u32 = 108;
+pub const GAINS_NOUGHT: u32 = 148;
 
-pub const ABOVE_GREEDY: u32 = 109;
+pub const GAINS_BELOW: u32 = 149;
 
-pub const DAMAGED: u32 = 110;
+pub const ABOVE_GREEDY: u32 = 150;
 
-// At the largest sizes, by the sheet's own header: the sheets, and the pages and gains that both engines answered on them.
-pub const LARGEST: u32 = 111;
+pub const DAMAGED: u32 = 151;
 
-pub const LARGEST_PAGES: u32 = 112;
+// At the largest sizes, by the sheet's own header: the sheets, those of version 2, and the pages and gains that both engines answered on
+// them.
+pub const LARGEST: u32 = 152;
 
-pub const LARGEST_GAINS: u32 = 113;
+pub const LONGEST: u32 = 153;
+
+pub const LARGEST_PAGES: u32 = 154;
+
+pub const LARGEST_GAINS: u32 = 155;
 
 // The largest that the best page is sought on.
-pub const EIGHT: u32 = 114;
+pub const EIGHT: u32 = 156;
 
-pub const EIGHT_PAGES: u32 = 115;
+pub const EIGHT_PAGES: u32 = 157;
 
-pub const EIGHT_GAINS: u32 = 116;
+pub const EIGHT_GAINS: u32 = 158;
 
-pub const EIGHT_BEST: u32 = 117;
+pub const EIGHT_BEST: u32 = 159;
+
+// By the sheet's own header too: version 2, and of these the sheets with a tick above 1.
+pub const VERSION_TWO: u32 = 160;
+
+pub const STEPPED: u32 = 161;
+
+pub const STEPPED_PAGES: u32 = 162;
+
+pub const STEPPED_GAINS: u32 = 163;
+
+pub const STEPPED_BEST: u32 = 164;
+
+// Gains by a truth sheet of another tick.
+pub const OTHER_TICK_GAINS: u32 = 165;
 
 // By shape: rounds, pages that both engines played, and best pages that both found.
-pub const SHAPES: u32 = 120;
+pub const SHAPES: u32 = 180;
 
-pub const PLAYED: u32 = 140;
+pub const PLAYED: u32 = 200;
 
-pub const SEARCHED: u32 = 160;
+pub const SEARCHED: u32 = 220;
 
-pub const ROOM: usize = 180;
+pub const ROOM: usize = 240;
 
 // Where a count by shape stands.
 pub fn by_shape(first: u32, shape: u32) -> u32 {

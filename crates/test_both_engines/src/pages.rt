@@ -35,6 +35,37 @@ pub fn has_price(result: &[u8], start: u32, slots: u32) -> bool {
     false
 }
 
+// Whether a bidder with a higher number than the one given bids so much.
+fn is_bid_after(sheet: &[u8], bidder: u32, bid: u32) -> bool {
+    let mut left = parts::bidders(sheet);
+    while bidder < left {
+        left -= 1;
+        if parts::word(sheet, parts::bid_at(sheet, left)) == bid {
+            return true;
+        }
+    }
+    false
+}
+
+// Whether the price is a rival's bid and a tick. A rival with a higher number than the winner's asks for no more than its own bid, so that
+// any other price above 0 is asked for by one with a lower number.
+fn is_raised(sheet: &[u8], result: &[u8], start: u32, slot: u32) -> bool {
+    let bidder = parts::byte(result, bidder_at(start, slot, true));
+    let price = parts::word(result, price_at(start, slot));
+    0 < price && !is_bid_after(sheet, bidder, price)
+}
+
+pub fn has_raised_price(sheet: &[u8], result: &[u8], start: u32, slots: u32) -> bool {
+    let mut left = slots;
+    while 0 < left {
+        left -= 1;
+        if is_raised(sheet, result, start, left) {
+            return true;
+        }
+    }
+    false
+}
+
 fn product(bid: u32, effect: u32) -> u64 {
     (bid as u64) * (effect as u64)
 }
@@ -45,7 +76,7 @@ fn worth_at(sheet: &[u8], bidder: u32, slot: u32) -> u64 {
         return 0;
     }
     let bid = parts::word(sheet, parts::bid_at(sheet, bidder - 1));
-    product(bid, parts::word(sheet, parts::effect_at(slot)))
+    product(bid, parts::word(sheet, parts::effect_at(sheet, slot)))
 }
 
 // "A page's total is the sum of bid x effect over filled places."

@@ -1,5 +1,5 @@
 // Random sheets from a fixed seed, for programs that hold the library against another engine. They are made by document 01's table
-// alone: nothing here comes from the crates under test.
+// and document 02's version 2 alone: nothing here comes from the crates under test.
 pub mod lists;
 pub mod number;
 pub mod parts;

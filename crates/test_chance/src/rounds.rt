@@ -1,5 +1,5 @@
-// Right sheets, each of a shape that asks something else of an engine.
-ghost use Prim.Native.Nat.{_<_};
+// Right sheets of both versions, each of a shape that asks something else of an engine.
+ghost use Prim.Native.Nat.{_*_, _≤_, _<_};
 use crate::lists;
 use crate::number;
 use crate::parts;
@@ -39,6 +39,9 @@ const MAX_EFFECT: u32 = 1000000;
 // "bid of bidders 1 to n, 0 to 1,000,000,000"
 const MAX_BID: u32 = 1000000000;
 
+// "a tick of 0 or above 1,000,000,000" is turned away.
+pub const MAX_TICK: u32 = 1000000000;
+
 // "n, bidders, 1 to 64"
 fn bidder_count(state: &mut u64, shape: u32) -> u32 {
     match shape {
@@ -73,6 +76,54 @@ fn aim(state: &mut u64, shape: u32) -> u32 {
         LARGEST => 1024,
         _ => number::up_to(state, 12),
     }
+}
+
+// A version, and a tick that a sheet of it may have.
+pub struct Steps {
+    pub version: u32,
+    pub tick: u32,
+}
+
+// A tick above 1: small, large, any or the largest.
+fn tick_above_one(state: &mut u64) -> u32
+    ensures { λ r. ⌜ (1 < r) × (r ≤ 1000000000) ⌝ }
+{
+    let drawn = number::up_to(state, 5);
+    match drawn {
+        0 | 1 => 2 + number::up_to(state, 7),
+        2 | 3 => 10000 + number::up_to(state, 49990000),
+        4 => 2 + number::up_to(state, MAX_TICK - 2),
+        _ => MAX_TICK,
+    }
+}
+
+// Version 2 with a tick above 1.
+pub fn steps_above_one(state: &mut u64) -> Steps
+    ensures { λ r. ⌜ 0 < r .tick ⌝ }
+{
+    Steps {
+        version: parts::TICK_VERSION,
+        tick: tick_above_one(state),
+    }
+}
+
+// Version 1 once in two times; in version 2 a tick of 1 once in four.
+pub fn any_steps(state: &mut u64) -> Steps
+    ensures { λ r. ⌜ 0 < r .tick ⌝ }
+{
+    if number::once_in(state, 2) {
+        return Steps {
+            version: 1,
+            tick: 1,
+        };
+    }
+    if number::once_in(state, 4) {
+        return Steps {
+            version: parts::TICK_VERSION,
+            tick: 1,
+        };
+    }
+    steps_above_one(state)
 }
 
 // The largest effect, and the most by which the next one is lower.
@@ -122,14 +173,15 @@ fn set_effects(state: &mut u64, buf: &mut [u8], first: u32, fall: u32) {
         if slots < left {
             return;
         }
-        parts::set_word(buf, parts::effect_at(slots - left), effect);
+        let at = parts::effect_at(buf, slots - left);
+        parts::set_word(buf, at, effect);
         let by = number::up_to(state, fall);
         effect = lower(effect, by);
         left -= 1;
     }
 }
 
-// The largest bid of a sheet. Below 9 there are many ties.
+// The largest bid that a shape asks for, in ticks. Below 9 there are many ties.
 fn highest(state: &mut u64, shape: u32) -> u32 {
     match shape {
         SMALL | ZERO_BIDS => 8,
@@ -146,35 +198,48 @@ fn highest(state: &mut u64, shape: u32) -> u32 {
     }
 }
 
-// 0 as many times in eight as said, once in eight the largest, else any.
-fn bid(state: &mut u64, most: u32, zeros: u32) -> u32 {
+// So many ticks, or as many as the largest bid has where that is fewer.
+fn most_ticks(wanted: u32, tick: u32) -> u32
+    requires { ⌜ 0 < tick ⌝ }
+    ensures { λ r. ⌜ r * tick ≤ 1000000000 ⌝ }
+{
+    let legal = MAX_BID / tick;
+    if legal < wanted { legal } else { wanted }
+}
+
+// "Every bid is a multiple of the tick.": 0 as many times in eight as said, once in eight the largest, else any.
+fn bid(state: &mut u64, tick: u32, most: u32, zeros: u32) -> u32
+    requires { ⌜ most * tick ≤ 1000000000 ⌝ }
+{
     let drawn = number::up_to(state, 7);
     if drawn < zeros {
         return 0;
     }
     if drawn == 7 {
-        return most;
+        return most * tick;
     }
-    number::up_to(state, most)
+    number::up_to(state, most) * tick
 }
 
-fn set_bids(state: &mut u64, buf: &mut [u8], most: u32, zeros: u32) {
+fn set_bids(state: &mut u64, buf: &mut [u8], tick: u32, most: u32, zeros: u32)
+    requires { ⌜ most * tick ≤ 1000000000 ⌝ }
+{
     let mut left = parts::bidders(buf);
     while 0 < left {
         left -= 1;
-        let value = bid(state, most, zeros);
+        let value = bid(state, tick, most, zeros);
         let at = parts::bid_at(buf, left);
         parts::set_word(buf, at, value);
     }
 }
 
-// The mark, version 1, n, m and no constraint.
-fn set_header(buf: &mut [u8], bidders: u32, slots: u32) {
-    parts::set_word(buf, 0, 0x01534150);
-    parts::set_byte(buf, 4, 0);
+// The mark, n, m and no constraint, in a version.
+fn set_header(buf: &mut [u8], bidders: u32, slots: u32, version: u32, tick: u32) {
+    parts::set_word(buf, 0, 0x00534150);
     parts::set_byte(buf, parts::BIDDERS, bidders);
     parts::set_byte(buf, parts::SLOTS, slots);
     parts::set_half(buf, parts::CONSTRAINTS, 0);
+    parts::set_version(buf, version, tick);
 }
 
 // The lists that a shape asks for.
@@ -190,14 +255,20 @@ fn lists_of(state: &mut u64, shape: u32) -> u32 {
     }
 }
 
-fn set_amounts(state: &mut u64, shape: u32, buf: &mut [u8]) {
+fn set_effects_of(state: &mut u64, buf: &mut [u8]) {
     let effects = effects_of(state);
     let first = effects.first;
     let fall = effects.fall;
     set_effects(state, buf, first, fall);
-    let most = highest(state, shape);
+}
+
+// The bids that a shape asks for.
+fn set_bids_of(state: &mut u64, shape: u32, buf: &mut [u8], tick: u32)
+    requires { ⌜ 0 < tick ⌝ }
+{
+    let most = most_ticks(highest(state, shape), tick);
     let zeros = if shape == ZERO_BIDS { 5 } else { 1 };
-    set_bids(state, buf, most, zeros);
+    set_bids(state, buf, tick, most, zeros);
 }
 
 fn set_lists(state: &mut u64, shape: u32, buf: &mut [u8]) {
@@ -215,8 +286,25 @@ pub fn make(state: &mut u64, shape: u32, buf: &mut [u8]) -> usize
 {
     let bidders = bidder_count(state, shape);
     let slots = slot_count(state, shape);
-    set_header(buf, bidders, slots);
-    set_amounts(state, shape, buf);
+    let steps = any_steps(state);
+    let tick = steps.tick;
+    set_header(buf, bidders, slots, steps.version, tick);
+    set_effects_of(state, buf);
+    set_bids_of(state, shape, buf, tick);
     set_lists(state, shape, buf);
     parts::length(buf)
+}
+
+// Another version or tick in place of the right sheet's own, with other bids, and its new length.
+pub fn retick(state: &mut u64, buf: &mut [u8], steps: Steps) -> usize
+    requires { ⌜ 0 < steps .tick ⌝ }
+    ensures { λ r. ⌜ r < 34359738368 ⌝ }
+{
+    let mut space = [0u8; parts::ROOM];
+    let kept: &mut [u8] = &mut space;
+    let tick = steps.tick;
+    parts::copy(buf, kept, parts::length(buf));
+    let bytes = parts::rewrite(kept, buf, steps.version, tick);
+    set_bids_of(state, SMALL, buf, tick);
+    bytes
 }

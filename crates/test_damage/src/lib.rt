@@ -1,14 +1,12 @@
-// Sheets that break a rule of document 01, and its later rules at times too.
+// Sheets of either version with a fault, and at times with faults that are checked later too.
 ghost use Prim.Native.Nat.{_<_};
+
+pub mod faults;
+
 use test_chance::lists;
 use test_chance::number;
 use test_chance::parts;
-
-// The rules that a sheet can break, by document 01's numbers.
-pub const RULES: u32 = 13;
-
-// Rules 10 to 13 are asked of each constraint in turn.
-const FIRST_CONSTRAINT_RULE: u32 = 10;
+use test_chance::rounds;
 
 // Another byte than the one that stands there.
 fn change_byte(state: &mut u64, buf: &mut [u8], at: usize) {
@@ -22,10 +20,23 @@ fn change_mark(state: &mut u64, buf: &mut [u8]) {
     change_byte(state, buf, at as usize);
 }
 
-// "3. The version is not 1."
+// "Refusal 3 is now for versions other than 1 and 2": 0, 3, any above, or the sheet's own with another high byte.
 fn change_version(state: &mut u64, buf: &mut [u8]) {
-    let at = 3 + number::up_to(state, 1);
-    change_byte(state, buf, at as usize);
+    let drawn = number::up_to(state, 3);
+    let any = number::up_to(state, 65532);
+    let high = number::up_to(state, 254);
+    match drawn {
+        0 => parts::set_half(buf, parts::VERSION, 0),
+        1 => parts::set_half(buf, parts::VERSION, 3),
+        2 => parts::set_half(buf, parts::VERSION, 3 + any),
+        _ => parts::set_byte(buf, parts::VERSION + 1, 1 + high),
+    }
+}
+
+// "1 also covers a version 2 sheet under 13 bytes, checked after 3": any sheet's first 9 to 12 bytes, as version 2.
+fn cut_tick(state: &mut u64, buf: &mut [u8]) -> usize {
+    parts::set_half(buf, parts::VERSION, parts::TICK_VERSION);
+    parts::TICK + number::up_to(state, 3) as usize
 }
 
 // A count of one byte: 0, one above the largest, any above it, or 255.
@@ -58,6 +69,25 @@ fn change_constraint_count(state: &mut u64, buf: &mut [u8], length: usize) -> us
     length
 }
 
+// 0, just above the largest, or any above it.
+fn wrong_tick(state: &mut u64) -> u32 {
+    let drawn = number::up_to(state, 3);
+    match drawn {
+        0 | 1 => 0,
+        2 => rounds::MAX_TICK + 1,
+        _ => number::between(state, rounds::MAX_TICK + 1, 4294967295),
+    }
+}
+
+// "26 for a tick of 0 or above 1,000,000,000". It takes the place of a version 1 sheet's first effect, and the length is then wrong too,
+// but never too short for a tick.
+fn change_tick(state: &mut u64, buf: &mut [u8], length: usize) -> usize {
+    let tick = wrong_tick(state);
+    parts::set_version(buf, parts::TICK_VERSION, tick);
+    let header = parts::effect_at(buf, 0);
+    if length < header { header } else { length }
+}
+
 // The sum, or the first number alone where it is large.
 fn more(length: usize, by: usize) -> usize {
     if length < parts::ROOM {
@@ -68,17 +98,42 @@ fn more(length: usize, by: usize) -> usize {
     length
 }
 
-// "7. The length is not 9 + 4 x (m + n + c)."
-fn change_length(state: &mut u64, length: usize) -> usize {
-    let by = 1 + number::up_to(state, 3) as usize;
-    let longer = number::once_in(state, 2);
+// The difference, or 0 where there is none.
+fn fewer(length: usize, by: usize) -> usize {
     if length < by {
         return 0;
     }
-    if longer {
-        return more(length, by);
-    }
     length - by
+}
+
+fn is_tick(tick: u32) -> bool {
+    0 < tick && tick <= rounds::MAX_TICK
+}
+
+// The same bytes in the other version: a tick is then the first effect, and a first effect the tick. One byte fewer where that is no tick.
+fn swap_version(buf: &mut [u8], length: usize) -> usize {
+    if parts::version(buf) == parts::TICK_VERSION {
+        parts::set_half(buf, parts::VERSION, 1);
+        return length;
+    }
+    if is_tick(parts::word(buf, parts::TICK)) {
+        parts::set_half(buf, parts::VERSION, parts::TICK_VERSION);
+        return length;
+    }
+    fewer(length, 1)
+}
+
+// "7. The length is not 9 + 4 x (m + n + c).", nor 4 more in version 2: a few bytes fewer or more, the header with too few bytes to be a
+// sheet, or the other version.
+fn change_length(state: &mut u64, buf: &mut [u8], length: usize) -> usize {
+    let by = number::up_to(state, 3) as usize;
+    let drawn = number::up_to(state, 7);
+    match drawn {
+        0 | 1 => fewer(length, 1 + by),
+        2 | 3 => more(length, 1 + by),
+        4 => more(parts::effect_at(buf, 0), by),
+        _ => swap_version(buf, length),
+    }
 }
 
 // "8. An effect is 0, above 1,000,000 or above the one before it."
@@ -88,7 +143,7 @@ fn change_effect(state: &mut u64, buf: &mut [u8]) {
         return;
     }
     let slot = number::up_to(state, slots - 1);
-    let at = parts::effect_at(slot);
+    let at = parts::effect_at(buf, slot);
     let drawn = number::up_to(state, 3);
     match drawn {
         0 => parts::set_word(buf, at, 0),
@@ -104,7 +159,7 @@ fn rise(buf: &mut [u8], slot: u32, at: usize) {
         parts::set_word(buf, at, 16777216);
         return;
     }
-    let before = parts::word(buf, parts::effect_at(slot - 1));
+    let before = parts::word(buf, parts::effect_at(buf, slot - 1));
     if before < 4294967295 {
         parts::set_word(buf, at, before + 1);
     }
@@ -123,6 +178,37 @@ fn change_bid(state: &mut u64, buf: &mut [u8]) {
     } else {
         parts::set_word(buf, at, number::between(state, 1000000001, 4294967295));
     }
+}
+
+// A number between two multiples of the tick, next to the bid: so much below it, or so much alone where the bid is 0.
+fn beside(bid: u32, by: u32) -> u32 {
+    if by < bid {
+        return bid - by;
+    }
+    by
+}
+
+// The last bidder as often as any.
+fn last_or_any(state: &mut u64, bidders: u32) -> u32
+    requires { ⌜ 0 < bidders ⌝ }
+{
+    if number::once_in(state, 2) {
+        return bidders - 1;
+    }
+    number::up_to(state, bidders - 1)
+}
+
+// "27 for a bid that is no multiple". Nothing changes where the tick is 1, since every number is a multiple.
+fn leave_tick(state: &mut u64, buf: &mut [u8]) {
+    let bidders = parts::bidders(buf);
+    let tick = parts::tick(buf);
+    if bidders == 0 || tick < 2 {
+        return;
+    }
+    let at = parts::bid_at(buf, last_or_any(state, bidders));
+    let by = 1 + number::up_to(state, tick - 2);
+    let bid = beside(parts::word(buf, at), by);
+    parts::set_word(buf, at, bid);
 }
 
 // The largest number that may stand in a part of a constraint.
@@ -179,78 +265,91 @@ fn forbid_nothing(buf: &mut [u8], constraint: u32) {
     parts::set_fields(buf, constraint, owner, 0, 0, 0);
 }
 
-fn break_constraint(state: &mut u64, buf: &mut [u8], rule: u32, constraint: u32) {
-    match rule {
-        10 => out_of_range(state, buf, constraint),
-        11 => other_is_owner(state, buf, constraint),
-        12 => half_an_other(state, buf, constraint),
+fn break_constraint(state: &mut u64, buf: &mut [u8], fault: u32, constraint: u32) {
+    match fault {
+        faults::OUT_OF_RANGE => out_of_range(state, buf, constraint),
+        faults::OTHER_IS_OWNER => other_is_owner(state, buf, constraint),
+        faults::HALF_AN_OTHER => half_an_other(state, buf, constraint),
         _ => forbid_nothing(buf, constraint),
     }
 }
 
-fn break_any_constraint(state: &mut u64, buf: &mut [u8], rule: u32) {
+fn break_any_constraint(state: &mut u64, buf: &mut [u8], fault: u32) {
     let count = parts::constraints(buf);
     if 0 < count {
         let constraint = number::up_to(state, count - 1);
-        break_constraint(state, buf, rule, constraint);
+        break_constraint(state, buf, fault, constraint);
     }
 }
 
-// A rule broken by a constraint, and at times any of the constraints' rules by a later one. "Conditions are taken in sheet order".
-fn break_constraints(state: &mut u64, buf: &mut [u8], rule: u32) {
+// A fault of a constraint, and at times any fault of a later one. "Conditions are taken in sheet order".
+fn break_constraints(state: &mut u64, buf: &mut [u8], fault: u32) {
     let count = parts::constraints(buf);
     if count == 0 {
         return;
     }
     let constraint = number::up_to(state, count - 1);
-    break_constraint(state, buf, rule, constraint);
+    break_constraint(state, buf, fault, constraint);
     if constraint + 1 < count && number::once_in(state, 2) {
         let later = number::between(state, constraint + 1, count - 1);
-        let second = FIRST_CONSTRAINT_RULE + number::up_to(state, 3);
+        let second = faults::OUT_OF_RANGE + number::up_to(state, 3);
         break_constraint(state, buf, second, later);
     }
 }
 
-// Rules 1 to 7, with the length that the sheet then has.
-fn break_form(state: &mut u64, buf: &mut [u8], rule: u32, length: usize) -> usize {
-    match rule {
-        1 => return number::up_to(state, 8) as usize,
-        2 => change_mark(state, buf),
-        3 => change_version(state, buf),
-        4 => change_count(state, buf, parts::BIDDERS, 64),
-        5 => change_count(state, buf, parts::SLOTS, 16),
-        6 => return change_constraint_count(state, buf, length),
-        _ => return change_length(state, length),
+// The faults up to the version's, with the length that the sheet then has.
+fn break_form(state: &mut u64, buf: &mut [u8], fault: u32, length: usize) -> usize {
+    match fault {
+        faults::NO_HEADER => return number::up_to(state, 8) as usize,
+        faults::MARK => change_mark(state, buf),
+        faults::VERSION => change_version(state, buf),
+        _ => return cut_tick(state, buf),
     }
     length
 }
 
-fn break_rule(state: &mut u64, buf: &mut [u8], rule: u32, length: usize) -> usize {
-    if rule < 8 {
-        return break_form(state, buf, rule, length);
-    }
-    match rule {
-        8 => change_effect(state, buf),
-        9 => change_bid(state, buf),
-        _ => break_any_constraint(state, buf, rule),
+// Those of the counts, the tick and the length.
+fn break_counts(state: &mut u64, buf: &mut [u8], fault: u32, length: usize) -> usize {
+    match fault {
+        faults::BIDDER_COUNT => change_count(state, buf, parts::BIDDERS, 64),
+        faults::SLOT_COUNT => change_count(state, buf, parts::SLOTS, 16),
+        faults::CONSTRAINT_COUNT => return change_constraint_count(state, buf, length),
+        faults::TICK => return change_tick(state, buf, length),
+        _ => return change_length(state, buf, length),
     }
     length
 }
 
-// The rule once in four times.
-fn break_at_times(state: &mut u64, buf: &mut [u8], rule: u32, length: usize) -> usize {
+fn put_in(state: &mut u64, buf: &mut [u8], fault: u32, length: usize) -> usize {
+    if fault < faults::BIDDER_COUNT {
+        return break_form(state, buf, fault, length);
+    }
+    if fault < faults::EFFECT {
+        return break_counts(state, buf, fault, length);
+    }
+    match fault {
+        faults::EFFECT => change_effect(state, buf),
+        faults::BID => change_bid(state, buf),
+        faults::OFF_TICK => leave_tick(state, buf),
+        _ => break_any_constraint(state, buf, fault),
+    }
+    length
+}
+
+// The fault once in four times.
+fn put_in_at_times(state: &mut u64, buf: &mut [u8], fault: u32, length: usize) -> usize {
     if number::once_in(state, 4) {
-        return break_rule(state, buf, rule, length);
+        return put_in(state, buf, fault, length);
     }
     length
 }
 
-// Some of the rules after this one, the last first, since the header's counts say where the later fields stand.
-fn break_later(state: &mut u64, buf: &mut [u8], rule: u32, bytes: usize) -> usize {
+// Some of the faults after this one, the last first, since the header says where the later fields stand.
+fn put_in_later(state: &mut u64, buf: &mut [u8], fault: u32, bytes: usize) -> usize {
     let mut changed = bytes;
-    let mut left = RULES;
-    while rule < left {
-        changed = break_at_times(state, buf, left, changed);
+    let mut left = faults::FAULTS;
+    while fault < left {
+        changed = put_in_at_times(state, buf, left, changed);
         left -= 1;
     }
     changed
@@ -263,22 +362,40 @@ fn add_first(buf: &mut [u8]) {
     }
 }
 
-// Rules 10 to 13, with the length that the sheet then has.
-fn damage_lists(state: &mut u64, buf: &mut [u8], rule: u32) -> usize {
+// A constraint's fault, with the length that the sheet then has.
+fn damage_lists(state: &mut u64, buf: &mut [u8], fault: u32) -> usize {
     add_first(buf);
-    break_constraints(state, buf, rule);
+    break_constraints(state, buf, fault);
     parts::length(buf)
 }
 
-// The right sheet at the buffer's start damaged, so that the rule is the first that it breaks, and its length.
-pub fn damage(state: &mut u64, buf: &mut [u8], rule: u32) -> usize {
-    if 9 < rule {
-        return damage_lists(state, buf, rule);
+// Whether the fault is to be on a sheet with a tick above 1: always a bid that is no multiple of it, and at times a bid above the limit,
+// which such a bid can stand beside.
+fn wants_tick(state: &mut u64, fault: u32) -> bool {
+    if fault == faults::OFF_TICK {
+        return true;
     }
+    fault == faults::BID && number::once_in(state, 2)
+}
+
+// A tick above 1 where the fault wants one and the sheet has none.
+fn prepare(state: &mut u64, buf: &mut [u8], fault: u32) {
+    if wants_tick(state, fault) && parts::tick(buf) < 2 {
+        let steps = rounds::steps_above_one(state);
+        rounds::retick(state, buf, steps);
+    }
+}
+
+// The right sheet at the buffer's start damaged, so that the fault is the first that it has, and its length.
+pub fn damage(state: &mut u64, buf: &mut [u8], fault: u32) -> usize {
+    if faults::OFF_TICK < fault {
+        return damage_lists(state, buf, fault);
+    }
+    prepare(state, buf, fault);
     let length = parts::length(buf);
     if number::once_in(state, 2) {
-        return break_rule(state, buf, rule, length);
+        return put_in(state, buf, fault, length);
     }
-    let changed = break_later(state, buf, rule, length);
-    break_rule(state, buf, rule, changed)
+    let changed = put_in_later(state, buf, fault, length);
+    put_in(state, buf, fault, changed)
 }

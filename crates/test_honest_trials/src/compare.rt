@@ -65,6 +65,19 @@ fn note(tally: &mut [u64], downward: bool, placed: bool, result: Count) {
     test_tally::add(tally, counts::place(downward, result));
 }
 
+// What the two headers are like, and whether the honest list pays less.
+fn note_steps(tally: &mut [u64], downward: bool, honest: &[u8], sent: &[u8], less: bool) {
+    let mixed = parts::version(honest) != parts::version(sent);
+    let stepped = 1 < parts::tick(honest);
+    test_tally::add_if(tally, mixed, counts::place(downward, Count::Mixed));
+    test_tally::add_if(tally, stepped, counts::place(downward, Count::Stepped));
+    test_tally::add_if(
+        tally,
+        stepped && less,
+        counts::place(downward, Count::SteppedLess),
+    );
+}
+
 // "In both calls the honest sheet is the truth sheet, i is the same, and v is the same".
 fn hold(tally: &mut [u64], honest: &[u8], sent: &[u8], bidder: u32, value: u32) {
     let mut first: i64 = 0;
@@ -80,6 +93,7 @@ fn hold(tally: &mut [u64], honest: &[u8], sent: &[u8], bidder: u32, value: u32) 
     }
     let placed = stands(honest, bidder) || stands(sent, bidder);
     note(tally, answer == 1, placed, verdict(first, second));
+    note_steps(tally, answer == 1, honest, sent, first < second);
 }
 
 // A comparison on a round of the shape.

@@ -5,29 +5,36 @@ pub const COMPARISONS: u32 = 0;
 pub const REFUSED: u32 = 1;
 
 // Where the other list is downward monotonic, and from OTHERWISE on where it is not: how many, with a place for the bidder on one of the
-// two pages, and how often the honest list pays more, the same and less.
+// two pages, with sheets of two versions, with a tick above 1, how often the honest list pays more, the same and less, and less at such a
+// tick.
 pub const DOWNWARD: u32 = 2;
 
-pub const OTHERWISE: u32 = 7;
+pub const OTHERWISE: u32 = 10;
 
-pub const ROOM: usize = 12;
+pub const ROOM: usize = 18;
 
-// The five counts of a kind of list.
+// The eight counts of a kind of list.
 pub enum Count {
     All,
     Placed,
+    Mixed,
+    Stepped,
     More,
     Same,
     Less,
+    SteppedLess,
 }
 
 fn offset(count: Count) -> u32 {
     match count {
         Count::All => 0,
         Count::Placed => 1,
-        Count::More => 2,
-        Count::Same => 3,
-        Count::Less => 4,
+        Count::Mixed => 2,
+        Count::Stepped => 3,
+        Count::More => 4,
+        Count::Same => 5,
+        Count::Less => 6,
+        Count::SteppedLess => 7,
     }
 }
 
@@ -45,6 +52,16 @@ fn lines(tally: &[u64], downward: bool) {
     );
     test_tally::count_line(
         tally,
+        b"of these, one sheet of version 1 and one of version 2",
+        place(downward, Count::Mixed),
+    );
+    test_tally::count_line(
+        tally,
+        b"of these, with a tick above 1",
+        place(downward, Count::Stepped),
+    );
+    test_tally::count_line(
+        tally,
         b"of these, the honest list pays more",
         place(downward, Count::More),
     );
@@ -57,6 +74,11 @@ fn lines(tally: &[u64], downward: bool) {
         tally,
         b"of these, the honest list pays less",
         place(downward, Count::Less),
+    );
+    test_tally::count_line(
+        tally,
+        b"of these, the honest list pays less with a tick above 1",
+        place(downward, Count::SteppedLess),
     );
 }
 

@@ -1,13 +1,23 @@
 // The sheet that is sent in place of the honest one: another list of one bidder, and all else as it was. "Two sheets differ only in one
-// bidder's list when n, m, effects, bids and, for each other owner, the set of conditions are equal."
+// bidder's list when n, m, effects, bids and, for each other owner, the set of conditions are equal." "both sheets have the same tick", and
+// where that is 1 either may be of either version.
 use test_chance::lists;
 use test_chance::number;
 use test_chance::parts;
 
-// The counts n and m, the effects and the bids.
-fn copy_front(honest: &[u8], other: &mut [u8]) {
-    let bytes = parts::constraint_at(honest, 0);
-    parts::copy(honest, other, bytes);
+// A version that has the tick.
+fn version_with(state: &mut u64, tick: u32) -> u32 {
+    if tick == 1 {
+        return number::between(state, 1, parts::TICK_VERSION);
+    }
+    parts::TICK_VERSION
+}
+
+// The tick, the counts n and m, the effects and the bids.
+fn copy_front(state: &mut u64, honest: &[u8], other: &mut [u8]) {
+    let tick = parts::tick(honest);
+    let version = version_with(state, tick);
+    parts::rewrite(honest, other, version, tick);
     parts::set_half(other, parts::CONSTRAINTS, 0);
 }
 
@@ -94,7 +104,7 @@ fn shuffle_at_times(state: &mut u64, other: &mut [u8]) {
 
 // The other sheet, and its length.
 pub fn make(state: &mut u64, honest: &[u8], bidder: u32, other: &mut [u8]) -> usize {
-    copy_front(honest, other);
+    copy_front(state, honest, other);
     copy_others(state, honest, other, bidder);
     add_list(state, honest, other, bidder);
     shuffle_at_times(state, other);

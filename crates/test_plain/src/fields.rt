@@ -1,16 +1,27 @@
-// Reads one field of a sheet where it stands, by document 01's table alone.
+// Reads one field of a sheet where it stands, by document 01's table and document 02's version 2 alone.
 // Every reader is total: a byte that the sheet does not have reads as 0, so that no caller has to know the sheet's length.
 ghost use mathlib.Core.Path.{_≡_};
 ghost use Prim.Native.Nat.{_<_};
 
-// The bytes before the first effect.
-pub const HEADER: usize = 9;
+// "version, 1", and document 02's "Sheet version 2".
+pub const FIRST_VERSION: u32 = 1;
+
+pub const TICK_VERSION: u32 = 2;
+
+// The bytes before the first effect in version 1: "its shortest header stays 9 bytes".
+pub const SHORTEST_HEADER: usize = 9;
+// "Sheet version 2 has a 4-byte tick after the condition count, so every length grows by 4"
+const TICK_BYTES: usize = 4;
+// "version 1 means tick 1"
+const FIRST_TICK: u32 = 1;
 // "n, bidders, 1 to 64"
 pub const MAX_BIDDERS: u8 = 64;
 // "m, places, 1 to 16"
 pub const MAX_SLOTS: u8 = 16;
 // "c, conditions, 0 to 1,024"
 pub const MAX_CONSTRAINTS: usize = 1024;
+// "a tick of 0 or above 1,000,000,000"
+pub const MAX_TICK: u32 = 1000000000;
 // "effect of places 1 to m, 1 to 1,000,000"
 pub const MAX_EFFECT: u32 = 1000000;
 // "bid of bidders 1 to n, 0 to 1,000,000,000"
@@ -43,7 +54,7 @@ pub fn byte(sheet: &[u8], at: usize) -> u8 {
 }
 
 // Two bytes, "low byte first".
-pub fn half(sheet: &[u8], at: usize) -> u32
+fn half(sheet: &[u8], at: usize) -> u32
     ensures { λ r. ⌜ r < 65536 ⌝ }
 {
     if sheet.len() <= at {
@@ -58,6 +69,11 @@ fn word(sheet: &[u8], at: usize) -> u32 {
         return 0;
     }
     half(sheet, at) + 65536 * half(sheet, at + 2)
+}
+
+// "version"
+pub fn version(sheet: &[u8]) -> u32 {
+    half(sheet, 3)
 }
 
 // "n, bidders"
@@ -77,9 +93,28 @@ pub fn constraint_count(sheet: &[u8]) -> usize
     half(sheet, 7) as usize
 }
 
-// "Length is exactly 9 + 4 × (m + n + c)."
+// The bytes before the first effect.
+pub fn header(sheet: &[u8]) -> usize
+    ensures { λ r. ⌜ r < 14 ⌝ }
+{
+    if version(sheet) == TICK_VERSION {
+        return SHORTEST_HEADER + TICK_BYTES;
+    }
+    SHORTEST_HEADER
+}
+
+// The step of the bids.
+pub fn tick(sheet: &[u8]) -> u32 {
+    if version(sheet) == TICK_VERSION {
+        return word(sheet, SHORTEST_HEADER);
+    }
+    FIRST_TICK
+}
+
+// "Length is exactly 9 + 4 × (m + n + c)", and 4 more in version 2.
 pub fn length(sheet: &[u8]) -> usize {
-    HEADER + 4 * (wide(slot_count(sheet)) + wide(bidder_count(sheet)) + constraint_count(sheet))
+    header(sheet)
+        + 4 * (wide(slot_count(sheet)) + wide(bidder_count(sheet)) + constraint_count(sheet))
 }
 
 // The effect of a slot ("place"), counted from 1.
@@ -87,7 +122,7 @@ pub fn effect(sheet: &[u8], slot: u8) -> u32 {
     if slot == 0 {
         return 0;
     }
-    word(sheet, HEADER + 4 * (wide(slot) - 1))
+    word(sheet, header(sheet) + 4 * (wide(slot) - 1))
 }
 
 // The bid of a bidder, counted from 1.
@@ -97,7 +132,7 @@ pub fn bid(sheet: &[u8], bidder: u8) -> u32 {
     }
     word(
         sheet,
-        HEADER + 4 * (wide(slot_count(sheet)) + wide(bidder) - 1),
+        header(sheet) + 4 * (wide(slot_count(sheet)) + wide(bidder) - 1),
     )
 }
 
@@ -117,7 +152,7 @@ fn four(sheet: &[u8], field: usize) -> [u8; 4] {
     if sheet.len() / 4 <= field {
         return [0, 0, 0, 0];
     }
-    let at = HEADER + 4 * field;
+    let at = header(sheet) + 4 * field;
     [
         byte(sheet, at),
         byte(sheet, at + 1),

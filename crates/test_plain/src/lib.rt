@@ -1,8 +1,9 @@
-// A second engine for document 01, written another way on purpose, so that random rounds on which it agrees with the proved
-// engine say something of both. It shares no code with the library, keeps no table and no round in memory, and reads the
-// sheet's bytes where it needs them. It is proved safe and ending, and nothing more.
+// A second engine for document 01 and for document 02's version 2, written another way on purpose, so that random rounds on which it
+// agrees with the proved engine say something of both. It shares no code with the library, keeps no table and no round in memory,
+// and reads the sheet's bytes where it needs them. It is proved safe and ending, and nothing more.
 //
-// Each call returns 0 or the number of the first rule that the call breaks, and then nothing lent is written.
+// Each call returns 0 or the number of the first rule that the call breaks, and then nothing lent is written. A sheet's rules are 1 to
+// 13, 26 and 27.
 mod amounts;
 mod fields;
 mod list;
@@ -18,7 +19,7 @@ const MAX_SEARCHED: u8 = 8;
 // "Playing writes 5 bytes a place to the result buffer"
 const BYTES_PER_SLOT: usize = 5;
 
-// Rules 1 to 13.
+// A sheet's rules.
 pub fn check(sheet: &[u8]) -> u32 {
     rules::first_broken(sheet)
 }
@@ -54,7 +55,7 @@ fn write_page(result: &mut [u8], sheet: &[u8], bids: [u32; 64], filled: [u8; 16]
     }
 }
 
-// Rules 1 to 13 and 19; or the page and its prices.
+// A sheet's rules and 19; or the page and its prices.
 pub fn play(sheet: &[u8], result: &mut [u8]) -> u32 {
     let refusal = check(sheet);
     if refusal != 0 {
@@ -79,7 +80,7 @@ fn narrow(bidder: u32) -> u8 {
     (bidder % 256) as u8
 }
 
-// Rules 1 to 13 and 16; or 1 in the answer where the bidder's list is downward monotonic, and 0 where it is not.
+// A sheet's rules and 16; or 1 in the answer where the bidder's list is downward monotonic, and 0 where it is not.
 pub fn downward(sheet: &[u8], bidder: u32, answer: &mut u8) -> u32 {
     let refusal = check(sheet);
     if refusal != 0 {
@@ -119,7 +120,7 @@ fn gain_rule(played: &[u8], truth: &[u8], bidder: u32, worth: u32) -> u32 {
     0
 }
 
-// Rules 1 to 17; or the bidder's gain from the played sheet, by its constraints in the truth sheet.
+// A sheet's rules and 14 to 17; or the bidder's gain from the played sheet, by its constraints in the truth sheet.
 pub fn gain(played: &[u8], truth: &[u8], bidder: u32, worth: u32, gain: &mut i64) -> u32 {
     let refusal = check(played);
     if refusal != 0 {
@@ -142,7 +143,7 @@ fn write_bidders(result: &mut [u8], filled: [u8; 16], slots: u8) {
     }
 }
 
-// Rules 1 to 13, 18 and 19.
+// A sheet's rules, 18 and 19.
 fn best_rule(sheet: &[u8], room: usize) -> u32 {
     let refusal = check(sheet);
     if refusal != 0 {
@@ -158,7 +159,7 @@ fn best_rule(sheet: &[u8], room: usize) -> u32 {
     0
 }
 
-// Rules 1 to 13, 18 and 19; or the best page's bidder numbers, a byte a slot, and its total.
+// A sheet's rules, 18 and 19; or the best page's bidder numbers, a byte a slot, and its total.
 pub fn best(sheet: &[u8], result: &mut [u8], total: &mut u64) -> u32 {
     let refusal = best_rule(sheet, result.len());
     if refusal != 0 {

@@ -1,10 +1,12 @@
-// Fills a page slot by slot and finds prices by playing the round again at lower bids, as document 01 words it.
+// Fills a page slot by slot and finds prices by playing the round again at lower bids, as document 01 words it, and of these only
+// at legal bids, as document 02 has it.
 // Bids go by value, so that a replay can change one.
+ghost use Prim.Native.Nat.{_≤_, _<_};
 use crate::fields;
 use crate::page;
 
-// Up to this bid every lower bid is tried for a price.
-const SMALL_BID: u32 = 32;
+// Up to a bid of so many ticks every lower legal bid is tried for a price.
+const FEW_TICKS: u64 = 32;
 
 // Every bid of the sheet, by bidder.
 pub fn bids(sheet: &[u8]) -> [u32; 64] {
@@ -90,34 +92,59 @@ fn still_wins(sheet: &[u8], bids: [u32; 64], bidder: u8, slot: u8, bid: u32) -> 
     page::at(replayed, slot) == bidder
 }
 
-// "the smallest whole bid from 0 which, written in the sheet for the winner of place k, still wins place k. An empty place has
-// price 0."
+// The tick, and 1 for a tick of 0, which no accepted sheet has, so that every step goes up.
+fn step_of(sheet: &[u8]) -> u32
+    ensures { λ r. ⌜ 0 < r ⌝ }
+{
+    let tick = fields::tick(sheet);
+    if tick == 0 { 1 } else { tick }
+}
+
+// One step above a bid, or the limit where that is no higher.
+fn next_bid(bid: u32, step: u32, limit: u32) -> u32
+    requires { ⌜ (bid < limit) × (0 < step) ⌝ }
+    ensures { λ r. ⌜ (bid < r) × (r ≤ limit) ⌝ }
+{
+    if limit - bid <= step {
+        return limit;
+    }
+    bid + step
+}
+
+// Whether a bid has few ticks.
+fn is_small(bid: u32, step: u32) -> bool {
+    bid as u64 <= FEW_TICKS * (step as u64)
+}
+
+// "the smallest bid that the sheet would accept and that still wins the place". "An empty place has price 0."
 pub fn price(sheet: &[u8], bids: [u32; 64], winner: u8, slot: u8) -> u32 {
     if winner == 0 {
         return 0;
     }
-    if bid_of(bids, winner) <= SMALL_BID {
+    if is_small(bid_of(bids, winner), step_of(sheet)) {
         return least_of_all(sheet, bids, winner, slot);
     }
     least_by_rivals(sheet, bids, winner, slot)
 }
 
-// The price by every bid from 0 up to the winner's own.
+// The price by every legal bid from 0 up to the winner's own.
 fn least_of_all(sheet: &[u8], bids: [u32; 64], winner: u8, slot: u8) -> u32 {
     let own = bid_of(bids, winner);
+    let step = step_of(sheet);
     let mut bid: u32 = 0;
     while bid < own {
         if still_wins(sheet, bids, winner, slot, bid) {
             return bid;
         }
-        bid += 1;
+        bid = next_bid(bid, step, own);
     }
     own
 }
 
-// The price by 0, each rival's bid and one more: what it takes to pass a rival is one of these.
+// The price by 0, each rival's bid and the next legal one: what it takes to pass a rival is one of these.
 fn least_by_rivals(sheet: &[u8], bids: [u32; 64], winner: u8, slot: u8) -> u32 {
     let bidders = fields::bidder_count(sheet);
+    let step = step_of(sheet);
     let mut least = tried(sheet, bids, winner, slot, 0, bid_of(bids, winner));
     let mut rival: u8 = 0;
     while rival < bidders {
@@ -125,7 +152,7 @@ fn least_by_rivals(sheet: &[u8], bids: [u32; 64], winner: u8, slot: u8) -> u32 {
         let bid = bid_of(bids, rival);
         least = tried(sheet, bids, winner, slot, bid, least);
         if bid < least {
-            least = tried(sheet, bids, winner, slot, bid + 1, least);
+            least = tried(sheet, bids, winner, slot, next_bid(bid, step, least), least);
         }
     }
     least

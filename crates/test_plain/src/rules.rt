@@ -1,48 +1,70 @@
-// Document 01's rules 1 to 13, one after the other, each over the whole sheet.
+// Document 01's rules 1 to 13 with document 02's 26 and 27 where it puts them, one after the other, each over the whole sheet.
 use crate::fields;
 
 // The number of the first rule that the sheet breaks, 0 for none.
 pub fn first_broken(sheet: &[u8]) -> u32 {
-    if sheet.len() < fields::HEADER {
-        return 1;
+    let form = form_rule(sheet);
+    if form != 0 {
+        return form;
     }
-    let header = header_rule(sheet);
-    if header != 0 {
-        return header;
+    let counts = counts_rule(sheet);
+    if counts != 0 {
+        return counts;
     }
-    if has_bad_effect(sheet) {
-        return 8;
-    }
-    if has_bad_bid(sheet) {
-        return 9;
+    let amounts = amounts_rule(sheet);
+    if amounts != 0 {
+        return amounts;
     }
     constraints_rule(sheet)
 }
 
-// Rules 2 to 7.
-fn header_rule(sheet: &[u8]) -> u32 {
+// Rules 1 to 3, and then 1 once more: it "also covers a version 2 sheet under 13 bytes, checked after 3".
+fn form_rule(sheet: &[u8]) -> u32 {
+    if sheet.len() < fields::SHORTEST_HEADER {
+        return 1;
+    }
     if !has_mark(sheet) {
         return 2;
     }
-    if fields::half(sheet, 3) != 1 {
+    if !is_version(fields::version(sheet)) {
         return 3;
     }
+    if sheet.len() < fields::header(sheet) {
+        return 1;
+    }
+    0
+}
+
+// Rules 4 to 6, "26 for a tick of 0 or above 1,000,000,000, after 6", and 7.
+fn counts_rule(sheet: &[u8]) -> u32 {
     if is_bad_count(fields::bidder_count(sheet), fields::MAX_BIDDERS) {
         return 4;
     }
     if is_bad_count(fields::slot_count(sheet), fields::MAX_SLOTS) {
         return 5;
     }
-    length_rule(sheet)
-}
-
-// Rules 6 and 7.
-fn length_rule(sheet: &[u8]) -> u32 {
     if fields::MAX_CONSTRAINTS < fields::constraint_count(sheet) {
         return 6;
     }
+    if is_bad_tick(fields::tick(sheet)) {
+        return 26;
+    }
     if sheet.len() != fields::length(sheet) {
         return 7;
+    }
+    0
+}
+
+// Rules 8 and 9, and "27 for a bid that is no multiple, after 9".
+fn amounts_rule(sheet: &[u8]) -> u32 {
+    if has_bad_effect(sheet) {
+        return 8;
+    }
+    if has_bad_bid(sheet) {
+        return 9;
+    }
+    if has_bid_off_tick(sheet) {
+        return 27;
     }
     0
 }
@@ -54,8 +76,17 @@ fn has_mark(sheet: &[u8]) -> bool {
         && fields::byte(sheet, 2) == b'S'
 }
 
+// "Refusal 3 is now for versions other than 1 and 2"
+fn is_version(version: u32) -> bool {
+    version == fields::FIRST_VERSION || version == fields::TICK_VERSION
+}
+
 fn is_bad_count(count: u8, limit: u8) -> bool {
     count == 0 || limit < count
+}
+
+fn is_bad_tick(tick: u32) -> bool {
+    tick == 0 || fields::MAX_TICK < tick
 }
 
 fn has_bad_effect(sheet: &[u8]) -> bool {
@@ -88,6 +119,26 @@ fn has_bad_bid(sheet: &[u8]) -> bool {
     while bidder < bidders {
         bidder += 1;
         if fields::MAX_BID < fields::bid(sheet, bidder) {
+            return true;
+        }
+    }
+    false
+}
+
+// "Every bid is a multiple of the tick." A tick of 0 is turned away before.
+fn is_off_tick(bid: u32, tick: u32) -> bool {
+    if tick == 0 {
+        return true;
+    }
+    bid % tick != 0
+}
+
+fn has_bid_off_tick(sheet: &[u8]) -> bool {
+    let bidders = fields::bidder_count(sheet);
+    let mut bidder: u8 = 0;
+    while bidder < bidders {
+        bidder += 1;
+        if is_off_tick(fields::bid(sheet, bidder), fields::tick(sheet)) {
             return true;
         }
     }

@@ -7,6 +7,7 @@ mod round;
 
 use test_both_engines::counts;
 use test_chance::rounds;
+use test_damage::faults;
 
 const SEED: u64 = 88172645463325252;
 
@@ -19,13 +20,13 @@ fn right_rounds(state: &mut u64, tally: &mut [u64], shape: u32, times: u32) {
     }
 }
 
-// Sheets that break a rule, most of them small.
-fn damaged_rounds(state: &mut u64, tally: &mut [u64], rule: u32, times: u32) {
+// Sheets with a fault, most of them small.
+fn damaged_rounds(state: &mut u64, tally: &mut [u64], fault: u32, times: u32) {
     let mut left = times;
     while 0 < left {
         let drawn = test_chance::number::up_to(state, 19);
         let shape = drawn % rounds::SHAPES;
-        round::play_round(state, tally, shape, rule);
+        round::play_round(state, tally, shape, fault);
         left -= 1;
     }
 }
@@ -52,9 +53,9 @@ fn larger_rounds(state: &mut u64, tally: &mut [u64]) {
     right_rounds(state, tally, rounds::LARGEST, 250);
 }
 
-// As many for each rule.
+// As many for each fault.
 fn all_damaged_rounds(state: &mut u64, tally: &mut [u64]) {
-    let mut left = test_damage::RULES;
+    let mut left = faults::FAULTS;
     while 0 < left {
         damaged_rounds(state, tally, left, 900);
         left -= 1;

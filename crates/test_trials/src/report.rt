@@ -87,12 +87,36 @@ fn largest_sizes(tally: &[u64]) {
         b"accepted sheets with n = 64, m = 16, c = 1024",
         counts::LARGEST,
     );
+    test_tally::count_line(tally, b"of these, of version 2", counts::LONGEST);
     test_tally::count_line(tally, b"pages on these", counts::LARGEST_PAGES);
     test_tally::count_line(tally, b"gains on these", counts::LARGEST_GAINS);
     test_tally::count_line(tally, b"accepted sheets with n = 8, m = 8", counts::EIGHT);
     test_tally::count_line(tally, b"pages on these", counts::EIGHT_PAGES);
     test_tally::count_line(tally, b"gains on these", counts::EIGHT_GAINS);
     test_tally::count_line(tally, b"best pages on these", counts::EIGHT_BEST);
+}
+
+// What the headers say of versions and ticks.
+fn versions(tally: &[u64]) {
+    test_tally::count_line(tally, b"accepted sheets of version 2", counts::VERSION_TWO);
+    test_tally::count_line(
+        tally,
+        b"accepted sheets with a tick above 1",
+        counts::STEPPED,
+    );
+    test_tally::count_line(tally, b"pages on these", counts::STEPPED_PAGES);
+    test_tally::count_line(tally, b"gains on these", counts::STEPPED_GAINS);
+    test_tally::count_line(tally, b"best pages on these", counts::STEPPED_BEST);
+    test_tally::count_line(
+        tally,
+        b"pages with a price that is a rival's bid and a tick above 1",
+        counts::STEPPED_PRICES,
+    );
+    test_tally::count_line(
+        tally,
+        b"gains by a truth sheet of another tick",
+        counts::OTHER_TICK_GAINS,
+    );
 }
 
 fn answers(tally: &[u64]) {
@@ -120,6 +144,7 @@ pub fn all(tally: &[u64]) {
     small_shapes(tally);
     larger_shapes(tally);
     largest_sizes(tally);
+    versions(tally);
     test_tally::count_line(tally, b"rounds", counts::ROUNDS);
     test_tally::count_line(tally, b"differences", counts::DIFFERENCES);
 }

@@ -6,32 +6,40 @@ use test_chance::lists;
 use test_chance::number;
 use test_chance::parts;
 use test_chance::rounds;
+use test_damage::faults;
 
-// A sheet's shape, and the rule that it breaks or 0.
+// A sheet's shape, and its fault or 0.
 struct Kind {
     shape: u32,
-    rule: u32,
+    fault: u32,
 }
 
-// The truth sheet: the same sheet, other lists, another sheet or a damaged one.
+// The sheet with another version or tick, and its length.
+fn retick(state: &mut u64, sheet: &mut [u8]) -> usize {
+    let steps = rounds::any_steps(state);
+    rounds::retick(state, sheet, steps)
+}
+
+// The truth sheet: the same sheet, other lists, another tick, another sheet or a damaged one.
 fn make_truth(state: &mut u64, shape: u32, sheet: &[u8], bytes: usize, truth: &mut [u8]) -> usize {
     parts::copy(sheet, truth, bytes);
-    let rule = 1 + number::up_to(state, test_damage::RULES - 1);
+    let fault = 1 + number::up_to(state, faults::FAULTS - 1);
     let aim = number::up_to(state, 30);
-    let drawn = number::up_to(state, 7);
+    let drawn = number::up_to(state, 9);
     match drawn {
         0 | 1 | 2 => bytes,
         3 | 4 => lists::relist(state, truth, aim),
-        5 => rounds::make(state, shape, truth),
-        _ => test_damage::damage(state, truth, rule),
+        5 | 6 => retick(state, truth),
+        7 => rounds::make(state, shape, truth),
+        _ => test_damage::damage(state, truth, fault),
     }
 }
 
-fn damage_sheet(state: &mut u64, sheet: &mut [u8], rule: u32, bytes: usize) -> usize {
-    if rule == 0 {
+fn damage_sheet(state: &mut u64, sheet: &mut [u8], fault: u32, bytes: usize) -> usize {
+    if fault == 0 {
         return bytes;
     }
-    test_damage::damage(state, sheet, rule)
+    test_damage::damage(state, sheet, fault)
 }
 
 // Random bytes with the sheet among them, and how many there are.
@@ -53,34 +61,56 @@ fn is_eight(sheet: &[u8]) -> bool {
     parts::bidders(sheet) == 8 && parts::slots(sheet) == 8
 }
 
-// Counts what holds at the largest sizes. The header is asked and not the shape, so that the counts say what the sheets are.
-fn note_size(tally: &mut [u64], sheet: &[u8], holds: bool, largest: u32, eight: u32) {
+// Counts what holds at the largest sizes and at a tick above 1. The header is asked and not the shape, so that the counts say what the
+// sheets are.
+fn note(tally: &mut [u64], sheet: &[u8], holds: bool, largest: u32, eight: u32, stepped: u32) {
     if holds {
         test_tally::add_if(tally, is_largest(sheet), largest);
         test_tally::add_if(tally, is_eight(sheet), eight);
+        test_tally::add_if(tally, 1 < parts::tick(sheet), stepped);
     }
+}
+
+fn check(tally: &mut [u64], kind: Kind, sheet: &[u8]) {
+    answers::check(tally, sheet, faults::number(kind.fault));
+    let right = kind.fault == 0;
+    let two = right && parts::version(sheet) == parts::TICK_VERSION;
+    test_tally::add_if(tally, two, counts::VERSION_TWO);
+    test_tally::add_if(tally, two && is_largest(sheet), counts::LONGEST);
+    note(
+        tally,
+        sheet,
+        right,
+        counts::LARGEST,
+        counts::EIGHT,
+        counts::STEPPED,
+    );
 }
 
 fn play(state: &mut u64, tally: &mut [u64], kind: Kind, sheet: &[u8]) {
     let played = answers::play(state, tally, sheet);
     test_tally::add_if(tally, played, counts::by_shape(counts::PLAYED, kind.shape));
-    note_size(
+    note(
         tally,
         sheet,
         played,
         counts::LARGEST_PAGES,
         counts::EIGHT_PAGES,
+        counts::STEPPED_PAGES,
     );
 }
 
 fn gain(state: &mut u64, tally: &mut [u64], sheet: &[u8], truth: &[u8]) {
     let answered = answers::gain(state, tally, sheet, truth);
-    note_size(
+    let another = parts::tick(sheet) != parts::tick(truth);
+    test_tally::add_if(tally, answered && another, counts::OTHER_TICK_GAINS);
+    note(
         tally,
         sheet,
         answered,
         counts::LARGEST_GAINS,
         counts::EIGHT_GAINS,
+        counts::STEPPED_GAINS,
     );
 }
 
@@ -93,12 +123,12 @@ fn best(state: &mut u64, tally: &mut [u64], kind: Kind, sheet: &[u8]) {
     );
     if searched {
         test_tally::add_if(tally, is_eight(sheet), counts::EIGHT_BEST);
+        test_tally::add_if(tally, 1 < parts::tick(sheet), counts::STEPPED_BEST);
     }
 }
 
 fn all_calls(state: &mut u64, tally: &mut [u64], kind: Kind, sheet: &[u8], truth: &[u8]) {
-    answers::check(tally, sheet, kind.rule);
-    note_size(tally, sheet, kind.rule == 0, counts::LARGEST, counts::EIGHT);
+    check(tally, kind, sheet);
     play(state, tally, kind, sheet);
     answers::downward(state, tally, sheet);
     gain(state, tally, sheet, truth);
@@ -153,28 +183,28 @@ fn with_sheet(
     counts::hold(tally, same, b"the sheet's bytes");
 }
 
-fn note(tally: &mut [u64], shape: u32, rule: u32) {
+fn count_round(tally: &mut [u64], shape: u32, fault: u32) {
     test_tally::add(tally, counts::ROUNDS);
-    if rule != 0 {
+    if fault != 0 {
         test_tally::add(tally, counts::DAMAGED);
     } else {
         test_tally::add(tally, counts::by_shape(counts::SHAPES, shape));
     }
 }
 
-// A round on a sheet of the shape that breaks the rule, or on a right one where the rule is 0.
-pub fn play_round(state: &mut u64, tally: &mut [u64], shape: u32, rule: u32) {
+// A round on a sheet of the shape with the fault, or on a right one where the fault is 0.
+pub fn play_round(state: &mut u64, tally: &mut [u64], shape: u32, fault: u32) {
     let mut first = [0u8; parts::ROOM];
     let mut second = [0u8; parts::ROOM];
     let sheet: &mut [u8] = &mut first;
     let truth: &mut [u8] = &mut second;
-    note(tally, shape, rule);
+    count_round(tally, shape, fault);
     let bytes = rounds::make(state, shape, sheet);
     let truth_bytes = make_truth(state, shape, sheet, bytes, truth);
-    let changed = damage_sheet(state, sheet, rule, bytes);
+    let changed = damage_sheet(state, sheet, fault, bytes);
     let kind = Kind {
         shape: shape,
-        rule: rule,
+        fault: fault,
     };
     with_sheet(
         state,

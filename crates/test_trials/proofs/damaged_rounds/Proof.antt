@@ -7,10 +7,10 @@ use Rattle.test_trials.proofs.damaged_rounds.Statement.{statement}
 use Rattle.test_trials.proofs.damaged_rounds.Tie as tie
 
 abbrev Inv-loop : tie.InvT-loop
-Inv-loop state₀ tally₀ rule times left₀ state tally left = (length tally ≡ length tally₀) × (left ≤ left₀)
+Inv-loop state₀ tally₀ fault times left₀ state tally left = (length tally ≡ length tally₀) × (left ≤ left₀)
 
 abbrev μ-loop : tie.MeasureT-loop
-μ-loop state₀ tally₀ rule times left₀ state tally left = left
+μ-loop state₀ tally₀ fault times left₀ state tally left = left
 
 loop-holds : tie.Need-loop-holds Inv-loop μ-loop
 loop-holds c = search needs

@@ -16,13 +16,13 @@ returns : tie.Need-returns
 unfolding placeOf
 returns c =
     let args = c .before .before .args in
-    simp (lt-ltb (args .call) 5 (omega arith), lt-ltb (args .number) 20 (omega arith))
+    simp (lt-ltb (args .call) 5 (omega arith), lt-ltb (args .number) 28 (omega arith))
 
 returns-2 : tie.Need-returns-2
 unfolding placeOf
 returns-2 c =
     let args = c .before .before .args in
-    simp (lt-ltb (args .call) 5 (omega arith), le-ltb (args .number) 20 (omega arith))
+    simp (lt-ltb (args .call) 5 (omega arith), le-ltb (args .number) 28 (omega arith))
 
 returns-3 : tie.Need-returns-3
 unfolding placeOf

@@ -6,10 +6,10 @@ use Rattle.test_chance.proofs.rounds.set_bids.Statement.{statement}
 use Rattle.test_chance.proofs.rounds.set_bids.Tie as tie
 
 abbrev Inv-loop : tie.InvT-loop
-Inv-loop state₀ buf₀ most zeros left₀ state buf left = length buf ≡ length buf₀
+Inv-loop state₀ buf₀ tick most zeros left₀ state buf left = length buf ≡ length buf₀
 
 abbrev μ-loop : tie.MeasureT-loop
-μ-loop state₀ buf₀ most zeros left₀ state buf left = left
+μ-loop state₀ buf₀ tick most zeros left₀ state buf left = left
 
 bidders-requires : tie.Need-bidders-requires Inv-loop μ-loop
 bidders-requires c κs = search needs

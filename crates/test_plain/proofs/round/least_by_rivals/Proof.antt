@@ -6,13 +6,16 @@ use Rattle.test_plain.proofs.round.least_by_rivals.Statement.{statement
 use Rattle.test_plain.proofs.round.least_by_rivals.Tie as tie
 
 abbrev Inv-loop : tie.InvT-loop
-Inv-loop sheet bids winner slot bidders least₀ rival₀ least rival = rival ≤ bidders
+Inv-loop sheet bids winner slot bidders step least₀ rival₀ least rival = rival ≤ bidders
 
 abbrev μ-loop : tie.MeasureT-loop
-μ-loop sheet bids winner slot bidders least₀ rival₀ least rival = bidders - rival
+μ-loop sheet bids winner slot bidders step least₀ rival₀ least rival = bidders - rival
 
 bidder-count-requires : tie.Need-bidder-count-requires Inv-loop μ-loop
 bidder-count-requires c κs = search needs
+
+step-of-requires : tie.Need-step-of-requires Inv-loop μ-loop
+step-of-requires c κs = search needs
 
 bid-of-requires : tie.Need-bid-of-requires Inv-loop μ-loop
 bid-of-requires c κs = search needs
@@ -32,8 +35,8 @@ bid-of-requires-2 c κs = search needs
 tried-requires-2 : tie.Need-tried-requires-2 Inv-loop μ-loop
 tried-requires-2 c κs = search needs
 
-add-tried : tie.Need-add-tried Inv-loop μ-loop
-add-tried c = search needs
+next-bid-requires : tie.Need-next-bid-requires Inv-loop μ-loop
+next-bid-requires c κs = search needs
 
 tried-requires-3 : tie.Need-tried-requires-3 Inv-loop μ-loop
 tried-requires-3 c κs = search needs
@@ -60,13 +63,14 @@ least-by-rivals-spec =
     Inv-loop
     μ-loop
     bidder-count-requires
+    step-of-requires
     bid-of-requires
     tried-requires
     loop-holds
     add-rival
     bid-of-requires-2
     tried-requires-2
-    add-tried
+    next-bid-requires
     tried-requires-3
     loop-less
     loop-again

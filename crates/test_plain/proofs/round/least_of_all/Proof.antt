@@ -1,17 +1,20 @@
--- `test_plain::round::least_of_all` is safe and ends: the bids are counted up to the own bid. Assumes nothing.
+-- `test_plain::round::least_of_all` is safe and ends: each bid is above the one before, and none is above the own bid. Assumes nothing.
 use Prim.Native.Nat.{_≤_, _-_}
 use borrow.Author.Needs.{needs}
 use Rattle.test_plain.proofs.round.least_of_all.Statement.{statement}
 use Rattle.test_plain.proofs.round.least_of_all.Tie as tie
 
 abbrev Inv-loop : tie.InvT-loop
-Inv-loop sheet bids winner slot own bid₀ bid = bid ≤ own
+Inv-loop sheet bids winner slot own step bid₀ bid = bid ≤ own
 
 abbrev μ-loop : tie.MeasureT-loop
-μ-loop sheet bids winner slot own bid₀ bid = own - bid
+μ-loop sheet bids winner slot own step bid₀ bid = own - bid
 
 bid-of-requires : tie.Need-bid-of-requires Inv-loop μ-loop
 bid-of-requires c κs = search needs
+
+step-of-requires : tie.Need-step-of-requires Inv-loop μ-loop
+step-of-requires c κs = search needs
 
 loop-holds : tie.Need-loop-holds Inv-loop μ-loop
 loop-holds c = search needs
@@ -22,8 +25,8 @@ still-wins-requires c κs = search needs
 returns : tie.Need-returns Inv-loop μ-loop
 returns c = search needs
 
-add-bid : tie.Need-add-bid Inv-loop μ-loop
-add-bid c = search needs
+next-bid-requires : tie.Need-next-bid-requires Inv-loop μ-loop
+next-bid-requires c κs = search needs
 
 loop-less : tie.Need-loop-less Inv-loop μ-loop
 loop-less c = search needs
@@ -41,10 +44,11 @@ least-of-all-spec =
     Inv-loop
     μ-loop
     bid-of-requires
+    step-of-requires
     loop-holds
     still-wins-requires
     returns
-    add-bid
+    next-bid-requires
     loop-less
     loop-again
     returns-2)
