@@ -20,20 +20,22 @@
  *
  *   offset          bytes        field
  *   0               3            mark, the letters P A S (50 41 53)
- *   3               2            version, 1
+ *   3               2            version, 1 or 2
  *   5               1            n, bidders, 1 to 64
  *   6               1            m, places, 1 to 16
  *   7               2            c, conditions, 0 to 1,024
- *   9               4 each, m    effect of places 1 to m, 1 to 1,000,000, none larger than the one before
- *   9 + 4m          4 each, n    bid of bidders 1 to n, 0 to 1,000,000,000
- *   9 + 4(m + n)    4 each, c    condition: owner, own place, other bidder, other's place, one byte each
+ *   9               4            in version 2 only: tick, 1 to 1,000,000,000
+ *   h               4 each, m    effect of places 1 to m, 1 to 1,000,000, none larger than the one before
+ *   h + 4m          4 each, n    bid of bidders 1 to n, 0 to 1,000,000,000, a multiple of the tick
+ *   h + 4(m + n)    4 each, c    condition: owner, own place, other bidder, other's place, one byte each
  *
- * The length is exactly 9 + 4 (m + n + c): PAS_SHEET_LENGTH(n, m, c). The version in the sheet is that of the format
- * and not that of the library (PAS_VERSION).
+ * Here h is 9 in version 1, which has no tick in it and means tick 1, and 13 in version 2. The length is exactly
+ * h + 4 (m + n + c): PAS_SHEET_LENGTH(n, m, c), and in version 2 PAS_TICK_LENGTH more. The version in the sheet is that
+ * of the format and not that of the library (PAS_VERSION).
  *
  * Bidders and places are counted from 1; place 1 is the top of the page. There may be more places than bidders. A page
  * gives each place one bidder or none, and no bidder two places. The effect of a place says how many clicks it brings,
- * in any unit; bids, prices and worths are per click, in any currency.
+ * in any unit; bids, prices and worths are per click, in any currency. Bids and prices go in steps of the tick, from 0.
  *
  * A condition binds only if its owner has a place. It is broken when both its parts are true: the owner is at the own
  * place (own place 0: any place), and the other bidder is at the other's place (other bidder 0 with other's place 0: no
@@ -47,7 +49,7 @@
  *
  * What holds for every call
  *
- * - It returns PAS_OK (0), or the number of the first rule that the call breaks, in the order of the numbers below.
+ * - It returns PAS_OK (0), or the number of the first rule that the call breaks, in the order of the list below.
  * - A refused call writes nothing: no byte of a result, and nothing to *answer, *gain or *total.
  * - A call that is not refused writes what its description says and nothing else. It does not read what it writes to,
  *   so that memory need not be set before.
@@ -84,10 +86,10 @@ extern "C" {
 /* ---- Version ---- */
 
 /* The version of the library and of this file. CHANGELOG.md says what each one brought, and what a new number means. */
-#define PAS_VERSION "1.1.3"
+#define PAS_VERSION "1.2.0"
 #define PAS_VERSION_MAJOR 1
-#define PAS_VERSION_MINOR 1
-#define PAS_VERSION_PATCH 3
+#define PAS_VERSION_MINOR 2
+#define PAS_VERSION_PATCH 0
 
 /* ---- Sizes ---- */
 
@@ -96,16 +98,21 @@ extern "C" {
 #define PAS_MAX_CONDITIONS 1024u
 #define PAS_MAX_EFFECT 1000000u
 #define PAS_MAX_BID 1000000000u
+#define PAS_MAX_TICK 1000000000u
 #define PAS_MAX_WORTH 1000000000u
 
 /* most bidders and most places with which the best page is found */
 #define PAS_MAX_BEST_BIDDERS 8u
 #define PAS_MAX_BEST_PLACES 8u
 
-/* bytes of a sheet before its effects, of a sheet with n bidders, m places and c conditions, of the longest sheet */
+/*
+ * bytes of a sheet before its effects, and of a sheet with n bidders, m places and c conditions, in version 1; by how
+ * many both are more in version 2; bytes of the longest sheet, of version 2
+ */
 #define PAS_HEADER_LENGTH 9u
 #define PAS_SHEET_LENGTH(n, m, c) (9u + 4u * ((size_t)(m) + (size_t)(n) + (size_t)(c)))
-#define PAS_MAX_SHEET_LENGTH 4425u
+#define PAS_TICK_LENGTH 4u
+#define PAS_MAX_SHEET_LENGTH 4429u
 
 /* bytes that pas_play writes for each place (bidder, price) and for the longest page; pas_best writes 1 a place */
 #define PAS_PLACE_LENGTH 5u
@@ -147,21 +154,23 @@ extern "C" {
 enum {
     PAS_OK = 0,                 /* The call has its full result. */
 
-    PAS_SHEET_TOO_SHORT = 1,    /* The sheet has fewer than 9 bytes. */
+    PAS_SHEET_TOO_SHORT = 1,    /* The sheet has fewer than 9 bytes, or fewer than 13 in version 2. */
     PAS_WRONG_MARK = 2,         /* The mark is not P A S. */
-    PAS_WRONG_VERSION = 3,      /* The version is not 1. */
+    PAS_WRONG_VERSION = 3,      /* The version is neither 1 nor 2. */
     PAS_WRONG_BIDDERS = 4,      /* n is 0 or above 64. */
     PAS_WRONG_PLACES = 5,       /* m is 0 or above 16. */
     PAS_TOO_MANY_CONDITIONS = 6, /* c is above 1,024. */
-    PAS_WRONG_LENGTH = 7,       /* The length is not 9 + 4 (m + n + c). */
+    PAS_WRONG_TICK = 26,        /* The tick is 0 or above 1,000,000,000. */
+    PAS_WRONG_LENGTH = 7,       /* The length is not 9 + 4 (m + n + c), or 13 + 4 (m + n + c) in version 2. */
     PAS_WRONG_EFFECT = 8,       /* An effect is 0, above 1,000,000 or above the one before it. */
     PAS_WRONG_BID = 9,          /* A bid is above 1,000,000,000. */
+    PAS_BID_OFF_TICK = 27,      /* A bid is no multiple of the tick. */
     PAS_OUT_OF_RANGE = 10,      /* A condition has owner 0, owner or other bidder above n, or a place above m. */
     PAS_OTHER_IS_OWNER = 11,    /* A condition's other bidder is its owner. */
     PAS_HALF_AN_OTHER = 12,     /* Just one of other bidder and other's place is 0. */
     PAS_EMPTY_CONDITION = 13,   /* Own place, other bidder and other's place are all 0. */
 
-    PAS_TRUTH_REFUSED = 14,     /* The truth sheet breaks any of 1 to 13. */
+    PAS_TRUTH_REFUSED = 14,     /* The truth sheet breaks any of 1 to 13, 26 and 27. */
     PAS_TRUTH_DIFFERS = 15,     /* The truth sheet has another n or m. */
     PAS_WRONG_BIDDER = 16,      /* The bidder named in the call is 0 or above n. */
     PAS_WRONG_WORTH = 17,       /* The worth is above 1,000,000,000. */
@@ -170,8 +179,9 @@ enum {
 };
 
 /*
- * Rules 10 to 13 are held against the conditions in sheet order: the first condition that breaks one of them decides,
- * and for it the first of the four.
+ * The 13 bytes of version 2 are asked for after rule 3: before it the version is not known. Rule 9 is held against all
+ * bids, and then 27 against all of them. Rules 10 to 13 are held against the conditions in sheet order: the first
+ * condition that breaks one of them decides, and for it the first of the four.
  */
 
 /* ---- Pointers that may be null ---- */
@@ -195,7 +205,7 @@ static inline uint8_t *pas_to_write(uint8_t *pointer, size_t length) {
 /* ---- The calls ---- */
 
 /*
- * Checks a sheet: 1 to 13, or PAS_OK for an accepted sheet. Every other call does this by itself.
+ * Checks a sheet: 1 to 13, 26 or 27, or PAS_OK for an accepted sheet. Every other call does this by itself.
  */
 uint32_t pas_check(const uint8_t *sheet, size_t sheet_len);
 
@@ -207,13 +217,14 @@ uint32_t pas_check(const uint8_t *sheet, size_t sheet_len);
  * place (equal bids: the lower number). A place for which nobody is eligible stays empty, and the next one is still
  * tried.
  *
- * The price is per click: the smallest bid, from 0, with which the winner, all else unchanged, still wins that place.
+ * The price is per click: the smallest bid that the sheet would accept, a multiple of the tick from 0, with which the
+ * winner, all else unchanged, still wins that place.
  *
  * Writes 5 bytes a place to the start of the result: the bidder, and 4 bytes of price, low byte first. An empty place
  * has bidder 0 and price 0; a winner's price may be 0 too. Bytes after 5 m stay as they were. A result of
  * PAS_MAX_RESULT_LENGTH bytes always does.
  *
- * Refused with 1 to 13, or 19 where result_len is below 5 m.
+ * Refused with 1 to 13, 26, 27, or 19 where result_len is below 5 m.
  */
 uint32_t pas_play(const uint8_t *sheet, size_t sheet_len, uint8_t *result, size_t result_len);
 
@@ -225,7 +236,7 @@ uint32_t pas_play(const uint8_t *sheet, size_t sheet_len, uint8_t *result, size_
  * condition with own place k + 1 and the same other bidder and other's place. Own place 0 asks for nothing further, and
  * an empty list is downward monotonic.
  *
- * Refused with 1 to 13, or 16.
+ * Refused with 1 to 13, 26, 27, or 16.
  */
 uint32_t pas_downward(const uint8_t *sheet, size_t sheet_len, uint32_t bidder, uint8_t *answer);
 
@@ -236,14 +247,15 @@ uint32_t pas_downward(const uint8_t *sheet, size_t sheet_len, uint32_t bidder, u
  * -10^15 and 10^15.
  *
  * Of `truth` the bidder's own conditions count and nothing else, but it must be an accepted sheet with the n and m of
- * `played`. The two sheets may be the same memory.
+ * `played`; its version and its tick may be others. The two sheets may be the same memory.
  *
  * Proved of it: let `truth` be the sheet with the bidder's true conditions, and `other` one that differs from it in the
- * bidder's list alone, which pas_downward answers with 1; both are accepted. Then, with `truth` as the truth sheet of
- * both calls and at any worth from the bidder's bid to PAS_MAX_WORTH, neither call is refused, and the gain with `truth`
- * played is at least the gain with `other` played.
+ * bidder's list alone, which pas_downward answers with 1; both are accepted, and have the same tick (one may be of
+ * version 1 and the other of version 2 with tick 1). Then, with `truth` as the truth sheet of both calls and at any
+ * worth from the bidder's bid to PAS_MAX_WORTH, neither call is refused, and the gain with `truth` played is at least
+ * the gain with `other` played.
  *
- * Refused with 1 to 13 for `played`, 14 for `truth`, 15, 16, or 17.
+ * Refused with 1 to 13, 26 or 27 for `played`, 14 for `truth`, 15, 16, or 17.
  */
 uint32_t pas_gain(const uint8_t *played, size_t played_len, const uint8_t *truth, size_t truth_len, uint32_t bidder,
                   uint32_t worth, int64_t *gain);
@@ -261,7 +273,7 @@ uint32_t pas_gain(const uint8_t *played, size_t played_len, const uint8_t *truth
  * (docs/PERFORMANCE.md has it and how it was searched for); that none takes longer is not proved. Where strangers write
  * the sheets, reckon with it.
  *
- * Refused with 1 to 13, 18, or 19 where result_len is below m.
+ * Refused with 1 to 13, 26, 27, 18, or 19 where result_len is below m.
  */
 uint32_t pas_best(const uint8_t *sheet, size_t sheet_len, uint8_t *result, size_t result_len, uint64_t *total);
 

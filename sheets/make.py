@@ -1,9 +1,9 @@
 #!/usr/bin/env python3
 """Writes the sheets of this folder from the numbers of the worked rounds, and the page programs' inputs.
 
-A sheet is its header (mark, version, the counts of bidders, places and conditions), then the effects, the bids and the
-conditions, every number low byte first. Run with no argument, it writes the sheets beside itself and each program's input
-under crates/; with --check it writes nothing, and fails if a file there differs.
+A sheet is its header (mark, version, the counts of bidders, places and conditions, in version 2 the tick), then the effects,
+the bids and the conditions, every number low byte first. Run with no argument, it writes the sheets beside itself and each
+program's input under crates/; with --check it writes nothing, and fails if a file there differs.
 """
 import pathlib
 import struct
@@ -13,9 +13,13 @@ SHEETS_FOLDER = pathlib.Path(__file__).resolve().parent
 CRATES_FOLDER = SHEETS_FOLDER.parent / "crates"
 
 
-def sheet(bids, effects, conditions=(), version=1):
-    """The bytes of a sheet. A condition is (owner, own place, other bidder, other's place)."""
+def sheet(bids, effects, conditions=(), tick=None, version=None):
+    """The bytes of a sheet, of version 2 where it has a tick. A condition is (owner, own place, other bidder, other's place)."""
+    if version is None:
+        version = 1 if tick is None else 2
     header = b"PAS" + struct.pack("<HBBH", version, len(bids), len(effects), len(conditions))
+    if tick is not None:
+        header += struct.pack("<I", tick)
     effect_bytes = b"".join(struct.pack("<I", effect) for effect in effects)
     bid_bytes = b"".join(struct.pack("<I", bid) for bid in bids)
     return header + effect_bytes + bid_bytes + b"".join(bytes(condition) for condition in conditions)
@@ -45,6 +49,7 @@ SHEETS = {
     ),
     "E": sheet([5, 5], [1]),
     "F": sheet([5, 6], [1]),
+    "F2": sheet([3, 6], [1], tick=3),
     "G": sheet([0], [1, 1], [(1, 1, 0, 0)]),
     "H": sheet([30, 32, 36, 40], [10000, 4500, 2025], above(IN_ORDER, 3)),
     "H4": sheet([30, 32, 36, 40], [10000, 4500, 2025, 911], above(IN_ORDER, 4)),
@@ -57,16 +62,17 @@ SHEETS = {
     ),
 }
 
-# 64 bidders, 16 places and 1,024 conditions: the largest right sheet, of 4,425 bytes. Each bidder has 16 conditions: one of
-# places 1 and 2 is barred to it, and so is each place from 2 on while the next bidder stands just above it.
+# 64 bidders, 16 places, 1,024 conditions and a tick: the largest right sheet, of 4,429 bytes. Each bidder has 16 conditions: one
+# of places 1 and 2 is barred to it, and so is each place from 2 on while the next bidder stands just above it.
 FULL = sheet(
-    [1000 + 7 * bidder for bidder in range(64)],
+    [1001 + 7 * bidder for bidder in range(64)],
     [16000 - 900 * place for place in range(16)],
     [
         (bidder, bidder % 2 + 1, 0, 0) if place == 1 else (bidder, place, bidder % 64 + 1, place - 1)
         for bidder in range(1, 65)
         for place in range(1, 17)
     ],
+    tick=7,
 )
 
 # The same size again, as it was drawn at random once; this file is kept and not written.
@@ -75,7 +81,7 @@ LARGEST = (SHEETS_FOLDER / "largest.pas").read_bytes()
 # What each program of the gate reads.
 INPUTS = {
     "page": SHEETS["F"],
-    "test_page_refused": sheet([5, 6], [1], version=2),
+    "test_page_refused": sheet([5, 6], [1], version=3),
     "test_page_empty": SHEETS["G"],
     "test_page_chain": SHEETS["H"],
     # longer than any sheet: a sheet of the largest size, and then its bytes again

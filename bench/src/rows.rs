@@ -11,37 +11,42 @@ fn size(bidders: usize, slots: usize, constraints: usize) -> Size {
 
 /// All lines, part by part.
 pub fn rows() -> Vec<Row> {
-    let mut rows = sizes();
+    let mut rows = sizes("sizes", None);
     rows.extend(kinds());
     rows.extend(best_sizes());
     rows.extend(best_kinds());
     rows.extend(growth());
+    rows.extend(sizes("version 2", TICK));
     rows
 }
 
+/// The tick of the rows of version 2. Two bids so rarely have the same nearest multiple of it that these rounds have the pages of the same
+/// rounds in version 1.
+const TICK: Option<u32> = Some(10);
+
 /// The quick calls on sheets of five sizes; the smallest is round H's.
-fn sizes() -> Vec<Row> {
+fn sizes(part: &'static str, tick: Option<u32>) -> Vec<Row> {
     let sizes = [size(4, 3, 9), size(8, 4, 16), size(16, 8, 128), size(32, 12, 512), size(64, 16, 1024)];
-    let of_call = |call| sizes.map(|size| Row { part: "sizes", call, size, manner: Manner::Mixed });
+    let of_call = |call| sizes.map(|size| Row { part, call, size, manner: Manner::Mixed, tick });
     QUICK_CALLS.into_iter().flat_map(of_call).collect()
 }
 
 /// Play and downward on the largest sheets, by kind of constraint.
 fn kinds() -> Vec<Row> {
     let manners = [Manner::Pairs, Manner::OwnSlots, Manner::Exclusions, Manner::Chain];
-    let of_call = |call| manners.map(|manner| Row { part: "kinds", call, size: size(64, 16, 1024), manner });
+    let of_call = |call| manners.map(|manner| Row { part: "kinds", call, size: size(64, 16, 1024), manner, tick: None });
     [Call::Play, Call::Downward].into_iter().flat_map(of_call).collect()
 }
 
 /// The best page by size, with pairs.
 fn best_sizes() -> Vec<Row> {
     let sizes = [size(4, 4, 8), size(6, 6, 24), size(8, 8, 0), size(8, 8, 64), size(8, 8, 512), size(8, 8, 1024)];
-    sizes.map(|size| Row { part: "sizes", call: Call::Best, size, manner: Manner::Pairs }).to_vec()
+    sizes.map(|size| Row { part: "sizes", call: Call::Best, size, manner: Manner::Pairs, tick: None }).to_vec()
 }
 
 /// The best page by kind of constraint. 196 constraints are the whole chain of 8 bidders in 8 slots; an exclusion is 8 constraints.
 fn best_kinds() -> Vec<Row> {
-    let row = |constraints, manner| Row { part: "kinds", call: Call::Best, size: size(8, 8, constraints), manner };
+    let row = |constraints, manner| Row { part: "kinds", call: Call::Best, size: size(8, 8, constraints), manner, tick: None };
     let mut rows = vec![row(64, Manner::Mixed), row(24, Manner::OwnSlots), row(64, Manner::Exclusions), row(196, Manner::Chain)];
     rows.extend([24, 64, 96].map(|constraints| row(constraints, Manner::Ties)));
     rows
@@ -49,7 +54,7 @@ fn best_kinds() -> Vec<Row> {
 
 /// Play, then the best page, with one of n, m and c growing and the others fixed.
 fn growth() -> Vec<Row> {
-    let grow = |part, call, sizes: [Size; 4]| sizes.map(|size| Row { part, call, size, manner: Manner::Pairs });
+    let grow = |part, call, sizes: [Size; 4]| sizes.map(|size| Row { part, call, size, manner: Manner::Pairs, tick: None });
     let mut rows = Vec::new();
     rows.extend(grow("grows with n", Call::Play, [8, 16, 32, 64].map(|n| size(n, 8, 256))));
     rows.extend(grow("grows with m", Call::Play, [2, 4, 8, 16].map(|m| size(32, m, 256))));

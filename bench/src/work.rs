@@ -1,6 +1,6 @@
 //! What is measured: a call on sheets of one size and one manner, by either engine.
 
-use independent::random::{round, Manner, Random, Size};
+use independent::random::{in_ticks, round, Manner, Random, Size};
 use independent::{engine, slow};
 use pas::raw;
 use std::hint::black_box;
@@ -29,6 +29,8 @@ pub struct Row {
     pub call: Call,
     pub size: Size,
     pub manner: Manner,
+    /// None for sheets of version 1.
+    pub tick: Option<u32>,
 }
 
 /// One call's input: a sheet and, for the calls that take them, a bidder, a worth and a truth sheet.
@@ -46,7 +48,7 @@ pub fn inputs(row: &Row, count: usize) -> Vec<Input> {
 }
 
 fn input(random: &mut Random, row: &Row) -> Input {
-    let mut sheet = || slow::sheet(&round(random, row.size, row.manner, 1_000_000_000, 1_000_000));
+    let mut sheet = || slow::sheet(&in_ticks(round(random, row.size, row.manner, 1_000_000_000, 1_000_000), row.tick));
     let (sheet, truth) = (sheet(), sheet());
     let mut page = [0; 80];
     assert_eq!(engine::play(&sheet, &mut page), 0, "measured sheets are good");

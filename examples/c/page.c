@@ -1,6 +1,6 @@
 /*
  * Round H of document 01 from C: builds its sheet, prints the page with its prices as the page program does, then a
- * bidder's gain and the best page.
+ * bidder's gain and the best page; then the page of the same round with bids in ticks, a sheet of version 2.
  */
 #include <inttypes.h>
 #include <stdio.h>
@@ -8,7 +8,7 @@
 
 #include "pas.h"
 
-enum { BIDDERS = 4, PLACES = 3, CONDITIONS = 9, LENGTH = 9 + 4 * (BIDDERS + PLACES + CONDITIONS) };
+enum { BIDDERS = 4, PLACES = 3, CONDITIONS = 9 };
 
 static const uint32_t effects[PLACES] = {10000, 4500, 2025};
 static const uint32_t bids[BIDDERS] = {30, 32, 36, 40};
@@ -31,10 +31,14 @@ static uint32_t word_at(const uint8_t *at) {
     return at[0] | (uint32_t)at[1] << 8 | (uint32_t)at[2] << 16 | (uint32_t)at[3] << 24;
 }
 
-static void build(uint8_t *sheet) {
-    static const uint8_t header[PAS_HEADER_LENGTH] = {'P', 'A', 'S', 1, 0, BIDDERS, PLACES, CONDITIONS, 0};
+/* the sheet, of version 2 with a tick and of version 1 with 0 for none; its length */
+static size_t build(uint8_t *sheet, uint32_t tick) {
+    const uint8_t header[PAS_HEADER_LENGTH] = {'P', 'A', 'S', tick ? 2 : 1, 0, BIDDERS, PLACES, CONDITIONS, 0};
     memcpy(sheet, header, sizeof header);
     uint8_t *at = sheet + sizeof header;
+    if (tick) {
+        at = put_word(at, tick);
+    }
     for (int k = 0; k < PLACES; k++) {
         at = put_word(at, effects[k]);
     }
@@ -42,6 +46,7 @@ static void build(uint8_t *sheet) {
         at = put_word(at, bids[i]);
     }
     memcpy(at, conditions, sizeof conditions);
+    return (size_t)(at - sheet) + sizeof conditions;
 }
 
 static int refused(const char *call, uint32_t number) {
@@ -49,12 +54,10 @@ static int refused(const char *call, uint32_t number) {
     return 1;
 }
 
-int main(void) {
-    uint8_t sheet[LENGTH];
+/* prints a line a place; whether the sheet is refused */
+static int play(const uint8_t *sheet, size_t length) {
     uint8_t result[PAS_MAX_RESULT_LENGTH];
-    build(sheet);
-
-    uint32_t number = pas_play(sheet, sizeof sheet, result, sizeof result);
+    uint32_t number = pas_play(sheet, length, result, sizeof result);
     if (number != PAS_OK) {
         return refused("pas_play", number);
     }
@@ -62,29 +65,42 @@ int main(void) {
         const uint8_t *place = result + PAS_PLACE_LENGTH * (size_t)k;
         printf("%d %d %" PRIu32 "\n", k + 1, place[0], word_at(place + 1));
     }
+    return 0;
+}
+
+int main(void) {
+    uint8_t sheet[PAS_SHEET_LENGTH(BIDDERS, PLACES, CONDITIONS) + PAS_TICK_LENGTH];
+    size_t length = build(sheet, 0);
+    if (play(sheet, length)) {
+        return 1;
+    }
 
     uint8_t downward = 0;
-    number = pas_downward(sheet, sizeof sheet, 1, &downward);
+    uint32_t number = pas_downward(sheet, length, 1, &downward);
     if (number != PAS_OK) {
         return refused("pas_downward", number);
     }
     printf("list of 1 downward monotonic: %s\n", downward ? "yes" : "no");
 
     int64_t gain = 0;
-    number = pas_gain(sheet, sizeof sheet, sheet, sizeof sheet, 4, 40, &gain);
+    number = pas_gain(sheet, length, sheet, length, 4, 40, &gain);
     if (number != PAS_OK) {
         return refused("pas_gain", number);
     }
     printf("gain of 4 at worth 40: %" PRId64 "\n", gain);
 
+    uint8_t best[PLACES];
     uint64_t total = 0;
-    number = pas_best(sheet, sizeof sheet, result, sizeof result, &total);
+    number = pas_best(sheet, length, best, sizeof best, &total);
     if (number != PAS_OK) {
         return refused("pas_best", number);
     }
-    printf("best page: %d %d %d, total %" PRIu64 "\n", result[0], result[1], result[2], total);
+    printf("best page: %d %d %d, total %" PRIu64 "\n", best[0], best[1], best[2], total);
 
     sheet[0] = 'Q';
-    printf("with another mark: refused %" PRIu32 "\n", pas_check(sheet, sizeof sheet));
-    return 0;
+    printf("with another mark: refused %" PRIu32 "\n", pas_check(sheet, length));
+
+    printf("in ticks of 2:\n");
+    length = build(sheet, 2);
+    return play(sheet, length);
 }

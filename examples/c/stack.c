@@ -6,7 +6,7 @@
  * call the free part of that stack is painted, and after it the lowest byte that lost its paint says how deep the call
  * went. All that the call puts on the stack counts: its return address, its frames, those of memcpy and memset, and in
  * the first call those of the dynamic linker, which then looks the two up. The sheets are the largest ones, refused
- * ones and random ones from a fixed seed.
+ * ones and random ones from a fixed seed, of both versions.
  *
  * This file calls neither memcpy nor memset, so that they are looked up in the first call that is measured (the script
  * `stack` sees to it).
@@ -67,21 +67,30 @@ static void put_condition(struct sheet *sheet, uint32_t n, uint32_t m, enum mann
     put(sheet, owner | own_place << 8 | other << 16 | others_place << 24, 4);
 }
 
+/* the ticks of the sheets; 0 stands for none, which is version 1 */
+static const uint32_t ticks[] = {0, 1, 7, PAS_MAX_TICK};
+
+enum { TICKS = sizeof ticks / sizeof ticks[0] };
+
 /* a sheet that no rule refuses, with bids up to `bid` and effects that fall from the largest one */
-static void make(struct sheet *sheet, uint32_t n, uint32_t m, uint32_t c, uint32_t bid, enum manner manner) {
+static void make(struct sheet *sheet, uint32_t tick, uint32_t n, uint32_t m, uint32_t c, uint32_t bid,
+                 enum manner manner) {
     sheet->length = 0;
     put(sheet, 'P' | 'A' << 8 | 'S' << 16, 3);
-    put(sheet, 1, 2);
+    put(sheet, tick ? 2 : 1, 2);
     put(sheet, n, 1);
     put(sheet, m, 1);
     put(sheet, c, 2);
+    if (tick) {
+        put(sheet, tick, 4);
+    }
     uint32_t effect = PAS_MAX_EFFECT;
     for (uint32_t k = 0; k < m; k++) {
         put(sheet, effect, 4);
         effect -= between(0, effect / 2);
     }
     for (uint32_t i = 0; i < n; i++) {
-        put(sheet, between(0, bid), 4);
+        put(sheet, tick ? tick * between(0, bid / tick) : between(0, bid), 4);
     }
     for (uint32_t i = 0; i < c; i++) {
         put_condition(sheet, n, m, manner);
@@ -92,15 +101,16 @@ static void make(struct sheet *sheet, uint32_t n, uint32_t m, uint32_t c, uint32
 static void make_numbered(struct sheet *sheet, uint32_t number) {
     enum manner manner = (enum manner)(number / 2 % MANNERS);
     uint32_t bid = number % 3 ? PAS_MAX_BID : number % 2;
+    uint32_t tick = ticks[number / 8 % TICKS];
     if (number < ROUNDS / 4) {
-        make(sheet, PAS_MAX_BIDDERS, PAS_MAX_PLACES, PAS_MAX_CONDITIONS, bid, manner);
+        make(sheet, tick, PAS_MAX_BIDDERS, PAS_MAX_PLACES, PAS_MAX_CONDITIONS, bid, manner);
     } else if (number < ROUNDS / 2) {
         uint32_t most = number % 2 ? PAS_MAX_CONDITIONS : 24;
-        make(sheet, PAS_MAX_BEST_BIDDERS, PAS_MAX_BEST_PLACES, between(0, most), bid, manner);
+        make(sheet, tick, PAS_MAX_BEST_BIDDERS, PAS_MAX_BEST_PLACES, between(0, most), bid, manner);
     } else {
         uint32_t n = between(1, PAS_MAX_BIDDERS);
         uint32_t m = between(1, PAS_MAX_PLACES);
-        make(sheet, n, m, between(0, PAS_MAX_CONDITIONS), bid, manner);
+        make(sheet, tick, n, m, between(0, PAS_MAX_CONDITIONS), bid, manner);
     }
     if (number % 4 == 3) {
         /* a byte of the last condition or of the last bid, else one anywhere */
@@ -215,14 +225,14 @@ static void *measure(void *given) {
     }
     bidder = 1;
     worth = PAS_MAX_WORTH;
-    make(&sheet, PAS_MAX_BEST_BIDDERS, PAS_MAX_BEST_PLACES, PAS_MAX_CONDITIONS, PAS_MAX_BID, PAIRS);
-    make(&truth, PAS_MAX_BEST_BIDDERS, PAS_MAX_BEST_PLACES, PAS_MAX_CONDITIONS, PAS_MAX_BID, PAIRS);
+    make(&sheet, 0, PAS_MAX_BEST_BIDDERS, PAS_MAX_BEST_PLACES, PAS_MAX_CONDITIONS, PAS_MAX_BID, PAIRS);
+    make(&truth, 0, PAS_MAX_BEST_BIDDERS, PAS_MAX_BEST_PLACES, PAS_MAX_CONDITIONS, PAS_MAX_BID, PAIRS);
     found.first = call->measured(0xa5);
     for (uint32_t round = 0; round < ROUNDS; round++) {
         make_numbered(&sheet, round);
         /* the truth sheet has as many bidders and places, but for one time in 16 */
         uint32_t n = round % 16 ? sheet.bytes[5] : 1;
-        make(&truth, n, sheet.bytes[6], round % 2 ? PAS_MAX_CONDITIONS : 0, 1, MIXED);
+        make(&truth, ticks[round / 2 % TICKS], n, sheet.bytes[6], round % 2 ? PAS_MAX_CONDITIONS : 0, 1, MIXED);
         bidder = between(round % 16 ? 1 : 0, sheet.bytes[5]);
         measure_later(call);
     }

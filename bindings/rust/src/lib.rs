@@ -41,9 +41,24 @@
 //! # Ok::<(), Refusal>(())
 //! ```
 //!
+//! Where bids go in steps, the sheet has a tick, and prices go in the same steps (round F2, whose winner pays one tick more than a rival with
+//! a lower number):
+//!
+//! ```
+//! use pas::{Bidder, Refusal, SheetBuilder};
+//!
+//! let sheet = SheetBuilder::new().tick(3).effects([1]).bids([3, 6]).build()?;
+//! let page = sheet.play();
+//! assert_eq!((page.bidders(), page.prices()), (vec![Some(Bidder(2))], vec![6]));
+//!
+//! let between = SheetBuilder::new().tick(3).effects([1]).bids([5, 6]);
+//! assert_eq!(between.build(), Err(Refusal::BidOffTick));
+//! # Ok::<(), Refusal>(())
+//! ```
+//!
 //! Every call but the check is there twice: as a method of [`Sheet`], whose bytes the library has accepted, and as a function over bytes
 //! that nobody has checked. The check makes a [`Sheet`] of bytes (`Sheet::from_bytes`), and is a function too. `play_into` and `best_into` write to a buffer of the caller's and allocate nothing. [`raw`] has the calls with plain
-//! numbers, as in C. A [`Sheet`] can be read back: its effects, bids and constraints, as the builder takes them.
+//! numbers, as in C. A [`Sheet`] can be read back: its tick, effects, bids and constraints, as the builder takes them.
 //!
 //! Calls may run in several threads at once. They take up to 40 KB of stack, which is measured and not proved (`PAS_STACK_PLAY` and the
 //! others in the header); the library uses no more memory than that.

@@ -24,7 +24,7 @@ mod library {
     }
 }
 
-/// Checks a sheet: 1 to 13, or 0 for an accepted one.
+/// Checks a sheet: 1 to 13, 26 or 27, or 0 for an accepted one.
 pub fn check(sheet: &[u8]) -> u32 {
     // SAFETY: a slice's pointer is not null and good for its length; the library only reads it.
     unsafe { library::pas_check(sheet.as_ptr(), sheet.len()) }

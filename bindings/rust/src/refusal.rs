@@ -3,8 +3,8 @@
 use std::error::Error;
 use std::fmt;
 
-/// The rule that a refused call breaks, the first in checking order. A refused call alters nothing that was lent to it. A later version may
-/// have more of them.
+/// The rule that a refused call breaks, the first in checking order: by number, but that 26 comes after 6 and 27 after 9. A refused call
+/// alters nothing that was lent to it. A later version may have more of them.
 ///
 /// [`Display`](fmt::Display) gives the header's sentence, which says n for the number of bidders, m for that of slots ("places") and c
 /// for that of constraints ("conditions").
@@ -12,11 +12,11 @@ use std::fmt;
 #[repr(u32)]
 #[non_exhaustive]
 pub enum Refusal {
-    /// 1: the sheet has fewer than 9 bytes.
+    /// 1: the sheet has fewer than 9 bytes, or fewer than 13 in version 2 (which is asked after rule 3).
     SheetTooShort = 1,
     /// 2: the mark is not P A S.
     WrongMark,
-    /// 3: the version is not 1.
+    /// 3: the version is neither 1 nor 2.
     WrongVersion,
     /// 4: the number of bidders is 0 or above 64.
     WrongBidders,
@@ -24,7 +24,7 @@ pub enum Refusal {
     WrongSlots,
     /// 6: there are more than 1,024 constraints.
     TooManyConstraints,
-    /// 7: the length is not 9 + 4 × (slots + bidders + constraints).
+    /// 7: the length is not 9 + 4 × (slots + bidders + constraints), or 4 more in version 2.
     WrongLength,
     /// 8: an effect is 0, above 1,000,000 or above the one before it.
     WrongEffect,
@@ -38,7 +38,7 @@ pub enum Refusal {
     HalfAnOther,
     /// 13: a constraint names nothing but its owner.
     EmptyConstraint,
-    /// 14: the truth sheet breaks any of 1 to 13.
+    /// 14: the truth sheet breaks any of 1 to 13, 26 and 27.
     TruthRefused,
     /// 15: the truth sheet has another number of bidders or slots.
     TruthDiffers,
@@ -50,10 +50,14 @@ pub enum Refusal {
     TooLargeForBest,
     /// 19: the result buffer is shorter than the bytes to be written.
     ResultTooShort,
+    /// 26: the tick is 0 or above 1,000,000,000.
+    WrongTick = 26,
+    /// 27: a bid is no multiple of the tick.
+    BidOffTick,
 }
 
-/// Every refusal, by its number from 1.
-const ALL: [Refusal; 19] = [
+/// Every refusal, in the order of the numbers.
+const ALL: [Refusal; 21] = [
     Refusal::SheetTooShort,
     Refusal::WrongMark,
     Refusal::WrongVersion,
@@ -73,41 +77,46 @@ const ALL: [Refusal; 19] = [
     Refusal::WrongWorth,
     Refusal::TooLargeForBest,
     Refusal::ResultTooShort,
-];
-
-/// The header's sentences, in the same order.
-const SENTENCES: [&str; 19] = [
-    "The sheet has fewer than 9 bytes.",
-    "The mark is not P A S.",
-    "The version is not 1.",
-    "n is 0 or above 64.",
-    "m is 0 or above 16.",
-    "c is above 1,024.",
-    "The length is not 9 + 4 × (m + n + c).",
-    "An effect is 0, above 1,000,000 or above the one before it.",
-    "A bid is above 1,000,000,000.",
-    "A condition has owner 0, owner or other bidder above n, or a place above m.",
-    "A condition's other bidder is its owner.",
-    "Just one of other bidder and other's place is 0.",
-    "Own place, other bidder and other's place are all 0.",
-    "The truth sheet breaks any of 1 to 13.",
-    "The truth sheet has another n or m.",
-    "The bidder named in the call is 0 or above n.",
-    "The worth is above 1,000,000,000.",
-    "The best page is sought with n above 8 or m above 8.",
-    "The result buffer is shorter than the bytes to be written.",
+    Refusal::WrongTick,
+    Refusal::BidOffTick,
 ];
 
 impl Refusal {
-    /// The number, 1 to 19, by which C has it.
+    /// The number, 1 to 19, 26 or 27, by which C has it.
     pub fn number(self) -> u32 {
         self as u32
     }
 
-    /// The refusal of a number; none for 0, which is no refusal, and for numbers above 19.
+    /// The refusal of a number; none for 0, which is no refusal, and for numbers that no rule has.
     pub fn from_number(number: u32) -> Option<Refusal> {
-        let at = usize::try_from(number).ok()?.checked_sub(1)?;
-        ALL.get(at).copied()
+        ALL.into_iter().find(|refusal| refusal.number() == number)
+    }
+
+    /// The header's sentence.
+    fn sentence(self) -> &'static str {
+        match self {
+            Refusal::SheetTooShort => "The sheet has fewer than 9 bytes, or fewer than 13 in version 2.",
+            Refusal::WrongMark => "The mark is not P A S.",
+            Refusal::WrongVersion => "The version is neither 1 nor 2.",
+            Refusal::WrongBidders => "n is 0 or above 64.",
+            Refusal::WrongSlots => "m is 0 or above 16.",
+            Refusal::TooManyConstraints => "c is above 1,024.",
+            Refusal::WrongLength => "The length is not 9 + 4 × (m + n + c), or 13 + 4 × (m + n + c) in version 2.",
+            Refusal::WrongEffect => "An effect is 0, above 1,000,000 or above the one before it.",
+            Refusal::WrongBid => "A bid is above 1,000,000,000.",
+            Refusal::OutOfRange => "A condition has owner 0, owner or other bidder above n, or a place above m.",
+            Refusal::OtherIsOwner => "A condition's other bidder is its owner.",
+            Refusal::HalfAnOther => "Just one of other bidder and other's place is 0.",
+            Refusal::EmptyConstraint => "Own place, other bidder and other's place are all 0.",
+            Refusal::TruthRefused => "The truth sheet breaks any of 1 to 13, 26 and 27.",
+            Refusal::TruthDiffers => "The truth sheet has another n or m.",
+            Refusal::WrongBidder => "The bidder named in the call is 0 or above n.",
+            Refusal::WrongWorth => "The worth is above 1,000,000,000.",
+            Refusal::TooLargeForBest => "The best page is sought with n above 8 or m above 8.",
+            Refusal::ResultTooShort => "The result buffer is shorter than the bytes to be written.",
+            Refusal::WrongTick => "The tick is 0 or above 1,000,000,000.",
+            Refusal::BidOffTick => "A bid is no multiple of the tick.",
+        }
     }
 
     /// What the library's number says: nothing refused, or the refusal.
@@ -121,7 +130,7 @@ impl Refusal {
 
 impl fmt::Display for Refusal {
     fn fmt(&self, out: &mut fmt::Formatter<'_>) -> fmt::Result {
-        out.write_str(SENTENCES[self.number() as usize - 1])
+        out.write_str(self.sentence())
     }
 }
 

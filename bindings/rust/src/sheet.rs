@@ -66,18 +66,20 @@ impl Constraint {
     }
 }
 
-/// Bytes of a sheet before its effects.
+/// Bytes of a sheet of version 1 before its effects.
 const HEADER: usize = 9;
+/// Bytes of the tick, which follows them in version 2.
+const TICK: usize = 4;
 
 /// A sheet that the library has accepted. What it holds can be read back, as the builder takes it: a builder that is given the effects,
-/// the bids and all constraints builds the same bytes.
+/// the bids, all constraints and, for version 2, the tick builds the same bytes.
 #[derive(Clone, Debug, PartialEq, Eq, Hash)]
 pub struct Sheet {
     bytes: Vec<u8>,
 }
 
 impl Sheet {
-    /// Copies the bytes if the library accepts them; refused with 1 to 13.
+    /// Copies the bytes if the library accepts them; refused with 1 to 13, 26 or 27.
     pub fn from_bytes(bytes: &[u8]) -> Result<Sheet, Refusal> {
         calls::check(bytes)?;
         Ok(Sheet { bytes: bytes.to_vec() })
@@ -86,6 +88,19 @@ impl Sheet {
     /// The sheet's bytes.
     pub fn as_bytes(&self) -> &[u8] {
         &self.bytes
+    }
+
+    /// The version of the sheet's format: 2 where the tick stands in the sheet, else 1.
+    pub fn version(&self) -> u16 {
+        u16::from_le_bytes([self.bytes[3], self.bytes[4]])
+    }
+
+    /// The tick, of which each bid and each price is a multiple; 1 in version 1.
+    pub fn tick(&self) -> u32 {
+        match self.version() {
+            1 => 1,
+            _ => u32::from_le_bytes([self.bytes[9], self.bytes[10], self.bytes[11], self.bytes[12]]),
+        }
     }
 
     /// How many bidders there are.
@@ -128,7 +143,8 @@ impl Sheet {
 
     /// So many of the sheet's fields of four bytes, after those that are skipped.
     fn fields(&self, skipped: usize, count: usize) -> impl Iterator<Item = [u8; 4]> + '_ {
-        let fields = self.bytes[HEADER..].chunks_exact(4).skip(skipped).take(count);
+        let header = if self.version() == 1 { HEADER } else { HEADER + TICK };
+        let fields = self.bytes[header..].chunks_exact(4).skip(skipped).take(count);
         fields.map(|field| [field[0], field[1], field[2], field[3]])
     }
 
@@ -173,6 +189,7 @@ impl AsRef<[u8]> for Sheet {
 /// Collects the parts of a sheet in any order. It judges nothing: [`build`](SheetBuilder::build) asks the library.
 #[derive(Clone, Debug, Default)]
 pub struct SheetBuilder {
+    tick: Option<u32>,
     effects: Vec<u32>,
     bids: Vec<u32>,
     constraints: Vec<Constraint>,
@@ -182,6 +199,13 @@ impl SheetBuilder {
     /// A sheet with nothing in it yet.
     pub fn new() -> SheetBuilder {
         SheetBuilder::default()
+    }
+
+    /// Sets the tick, of which each bid must be a multiple; the sheet is then of version 2. Without one it is of version 1, which means a tick
+    /// of 1.
+    pub fn tick(mut self, tick: u32) -> SheetBuilder {
+        self.tick = Some(tick);
+        self
     }
 
     /// Adds the effects of the next slots, from the top down.
@@ -218,12 +242,15 @@ impl SheetBuilder {
     /// The sheet's bytes, not checked. A count that is too large for its field is written as the field's largest number, which is above
     /// the limit of the count, so that the library refuses it with the count's own number.
     pub fn bytes(&self) -> Vec<u8> {
-        let mut bytes = Vec::with_capacity(HEADER + 4 * (self.effects.len() + self.bids.len() + self.constraints.len()));
-        bytes.extend(b"PAS\x01\x00");
+        let mut bytes = Vec::with_capacity(HEADER + TICK + 4 * (self.effects.len() + self.bids.len() + self.constraints.len()));
+        bytes.extend(b"PAS");
+        let version: u16 = if self.tick.is_some() { 2 } else { 1 };
+        bytes.extend(version.to_le_bytes());
         bytes.push(u8::try_from(self.bids.len()).unwrap_or(u8::MAX));
         bytes.push(u8::try_from(self.effects.len()).unwrap_or(u8::MAX));
         let constraints = u16::try_from(self.constraints.len()).unwrap_or(u16::MAX);
         bytes.extend(constraints.to_le_bytes());
+        bytes.extend(self.tick.iter().flat_map(|tick| tick.to_le_bytes()));
         bytes.extend(self.effects.iter().flat_map(|effect| effect.to_le_bytes()));
         bytes.extend(self.bids.iter().flat_map(|bid| bid.to_le_bytes()));
         bytes.extend(self.constraints.iter().flat_map(|constraint| constraint.bytes()));

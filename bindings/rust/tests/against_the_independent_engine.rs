@@ -1,12 +1,12 @@
 //! The library and the independent engine must agree on every byte: numbers, answers, buffers with what lies behind the result, on
 //! good sheets and on damaged ones. The seeds are fixed, so that a failure comes back.
 
-use independent::random::{round, Manner, Random, Size};
+use independent::random::{in_ticks, round, tick, Manner, Random, Size};
 use independent::{engine, slow};
 use pas::raw;
+use std::collections::BTreeSet;
 
-const MANNERS: [Manner; 6] =
-    [Manner::Mixed, Manner::Pairs, Manner::OwnSlots, Manner::Exclusions, Manner::Chain, Manner::Ties];
+const MANNERS: [Manner; 6] = [Manner::Mixed, Manner::Pairs, Manner::OwnSlots, Manner::Exclusions, Manner::Chain, Manner::Ties];
 const HIGHEST_BID: usize = 1_000_000_000;
 const HIGHEST_EFFECT: usize = 1_000_000;
 
@@ -23,16 +23,23 @@ fn size_up_to(random: &mut Random, most: Size) -> Size {
 fn random_round(random: &mut Random, most: Size) -> slow::Round {
     let size = size_up_to(random, most);
     let manner = random.one_of(&MANNERS);
-    let highest_bid = random.one_of(&[1, 6, 1000, HIGHEST_BID]);
     let highest_effect = random.one_of(&[1, 3, 1000, HIGHEST_EFFECT]);
-    round(random, size, manner, highest_bid, highest_effect)
+    let (tick, highest_bid) = tick_and_highest_bid(random, &[1, 6, 1000, HIGHEST_BID]);
+    in_ticks(round(random, size, manner, highest_bid, highest_effect), tick)
+}
+
+/// A tick, or none for version 1, and one of some highest bids, which are counted in ticks.
+fn tick_and_highest_bid(random: &mut Random, in_ticks: &[usize]) -> (Option<u32>, usize) {
+    let tick = tick(random);
+    let highest_bid = random.one_of(in_ticks) * tick.unwrap_or(1) as usize;
+    (tick, highest_bid.min(HIGHEST_BID))
 }
 
 /// One small change somewhere in the bytes. Often it makes the sheet refused, sometimes it is another good sheet.
 fn damage(random: &mut Random, sheet: &mut Vec<u8>) {
     let last = sheet.len() - 1;
     let edges = [0, 1, 2, 15, 16, 17, 63, 64, 65, 127, 128, 255];
-    match random.between(0, 8) {
+    match random.between(0, 9) {
         0 => sheet.truncate(random.between(0, last)),
         1 => sheet.extend(vec![random.byte(0, 255); random.between(1, 8)]),
         2 => sheet[random.between(0, last.min(8))] = random.one_of(&edges),
@@ -41,11 +48,12 @@ fn damage(random: &mut Random, sheet: &mut Vec<u8>) {
         5 => sheet.truncate(sheet.len() - sheet.len().min(4)),
         6 => sheet[last - random.between(0, last.min(11))] = random.one_of(&edges),
         7 => write_a_word(random, sheet),
+        8 => sheet.truncate(random.between(8, 13)),
         _ => sheet[random.between(0, last)] = random.one_of(&edges),
     }
 }
 
-/// Writes a number at an edge of effects or bids into one of the first entries behind the header.
+/// Writes a number at an edge of ticks, effects or bids into one of the first entries behind the counts.
 fn write_a_word(random: &mut Random, sheet: &mut [u8]) {
     let entry = random.between(0, 4);
     let number: u32 = random.one_of(&[0, 1, 999_999, 1_000_000, 1_000_001, 1_000_000_000, 1_000_000_001, u32::MAX]);
@@ -99,17 +107,19 @@ fn worth(random: &mut Random) -> u32 {
     random.one_of(&[0, 7, any, any, any, 1_000_000_000, 1_000_000_001, u32::MAX])
 }
 
-/// How often each number was given, so that a test can say that it has seen what it is about.
-struct Seen([usize; 20]);
+/// The numbers that were given, so that a test can say that it has seen what it is about.
+#[derive(Default)]
+struct Seen(BTreeSet<u32>);
 
 impl Seen {
-    fn count(&mut self, number: u32) {
-        self.0[number as usize] += 1;
+    fn add(&mut self, number: u32) {
+        self.0.insert(number);
     }
 
-    fn all_of(&self, numbers: impl IntoIterator<Item = usize>) {
-        for number in numbers {
-            assert!(self.0[number] > 0, "no random call was answered {number}");
+    /// All numbers of a check have come up, and these of the call.
+    fn all_of_a_sheet_and(&self, of_the_call: impl IntoIterator<Item = u32>) {
+        for number in (0..=13).chain([26, 27]).chain(of_the_call) {
+            assert!(self.0.contains(&number), "no random call was answered {number}");
         }
     }
 }
@@ -119,20 +129,20 @@ const SMALL: Size = Size { bidders: 9, slots: 9, constraints: 200 };
 
 #[test]
 fn both_give_every_sheet_the_same_number() {
-    let (mut random, mut seen) = (Random::seeded(1), Seen([0; 20]));
+    let (mut random, mut seen) = (Random::seeded(1), Seen::default());
     for _ in 0..40_000 {
         let most = random.one_of(&[WHOLE, SMALL, SMALL]);
         let sheet = random_sheet(&mut random, most);
         let number = engine::check(&sheet);
         assert_eq!(raw::check(&sheet), number, "{sheet:?}");
-        seen.count(number);
+        seen.add(number);
     }
-    seen.all_of(0..=13);
+    seen.all_of_a_sheet_and([]);
 }
 
 #[test]
 fn both_write_the_same_page_and_leave_the_same_bytes() {
-    let (mut random, mut seen) = (Random::seeded(2), Seen([0; 20]));
+    let (mut random, mut seen) = (Random::seeded(2), Seen::default());
     for _ in 0..40_000 {
         let most = random.one_of(&[WHOLE, SMALL, SMALL]);
         let sheet = random_sheet(&mut random, most);
@@ -143,14 +153,14 @@ fn both_write_the_same_page_and_leave_the_same_bytes() {
         assert_eq!(raw::play(&sheet, within(&mut ours)), number, "{sheet:?}");
         assert_eq!(ours, theirs, "{sheet:?}");
         assert!(number == 0 || ours == lent, "a refused call altered the buffer");
-        seen.count(number);
+        seen.add(number);
     }
-    seen.all_of((0..=13).chain([19]));
+    seen.all_of_a_sheet_and([19]);
 }
 
 #[test]
 fn both_judge_lists_alike() {
-    let (mut random, mut seen, mut answers) = (Random::seeded(3), Seen([0; 20]), [0; 2]);
+    let (mut random, mut seen, mut answers) = (Random::seeded(3), Seen::default(), [0; 2]);
     for _ in 0..40_000 {
         let most = random.one_of(&[WHOLE, SMALL, Size { bidders: 2, slots: 2, constraints: 12 }]);
         let sheet = random_sheet(&mut random, most);
@@ -163,17 +173,20 @@ fn both_judge_lists_alike() {
             0 => answers[usize::from(ours)] += 1,
             _ => assert_eq!(ours, 77, "a refused call altered the answer"),
         }
-        seen.count(number);
+        seen.add(number);
     }
-    seen.all_of((0..=13).chain([16]));
+    seen.all_of_a_sheet_and([16]);
     assert!(answers[0] > 1000 && answers[1] > 1000, "both answers come up: {answers:?}");
 }
 
-/// A truth sheet for a played one: the same round with other constraints for one bidder, or damaged, or any other sheet.
+/// A truth sheet for a played one: the same round with other constraints, or one with another tick as well, or damaged, or any other sheet.
 fn truth_of(random: &mut Random, played: &slow::Round) -> Vec<u8> {
     let size = Size { bidders: played.bids.len(), slots: played.effects.len(), constraints: random.between(0, 40) };
     let mut truth = played.clone();
     truth.constraints = round(random, size, Manner::Mixed, 1, 1).constraints;
+    if random.once_in(3) {
+        truth = in_ticks(truth, tick(random));
+    }
     let mut sheet = slow::sheet(&truth);
     match random.between(0, 5) {
         0 => damage(random, &mut sheet),
@@ -185,7 +198,7 @@ fn truth_of(random: &mut Random, played: &slow::Round) -> Vec<u8> {
 
 #[test]
 fn both_find_the_same_gain() {
-    let (mut random, mut seen, mut signs) = (Random::seeded(4), Seen([0; 20]), [0; 3]);
+    let (mut random, mut seen, mut signs) = (Random::seeded(4), Seen::default(), [0; 3]);
     for _ in 0..40_000 {
         let most = random.one_of(&[WHOLE, SMALL, SMALL]);
         let round = random_round(&mut random, most);
@@ -203,15 +216,15 @@ fn both_find_the_same_gain() {
             0 => signs[(ours.signum() + 1) as usize] += 1,
             _ => assert_eq!(ours, 77, "a refused call altered the gain"),
         }
-        seen.count(number);
+        seen.add(number);
     }
-    seen.all_of(0..=17);
+    seen.all_of_a_sheet_and(14..=17);
     assert!(signs.iter().all(|&times| times > 1000), "losses, none and gains come up: {signs:?}");
 }
 
 #[test]
 fn both_find_the_same_best_page() {
-    let (mut random, mut seen) = (Random::seeded(5), Seen([0; 20]));
+    let (mut random, mut seen) = (Random::seeded(5), Seen::default());
     for _ in 0..40_000 {
         let most =
             random.one_of(&[SMALL, Size { bidders: 8, slots: 8, constraints: 60 }, Size { bidders: 8, slots: 8, constraints: 1024 }]);
@@ -223,9 +236,9 @@ fn both_find_the_same_best_page() {
         assert_eq!(raw::best(&sheet, within(&mut ours), &mut our_total), number, "{sheet:?}");
         assert_eq!((&ours, our_total), (&theirs, their_total), "{sheet:?}");
         assert!(number == 0 || (ours == lent && our_total == 77), "a refused call altered something lent");
-        seen.count(number);
+        seen.add(number);
     }
-    seen.all_of((0..=13).chain([18, 19]));
+    seen.all_of_a_sheet_and([18, 19]);
 }
 
 #[test]
@@ -234,7 +247,8 @@ fn the_library_keeps_to_the_document_tried_word_by_word() {
     for _ in 0..3_000 {
         let size = size_up_to(&mut random, Size { bidders: 5, slots: 4, constraints: 24 });
         let manner = random.one_of(&MANNERS);
-        let round = round(&mut random, size, manner, 9, 4);
+        let (tick, highest_bid) = tick_and_highest_bid(&mut random, &[9]);
+        let round = in_ticks(round(&mut random, size, manner, highest_bid, 4), tick);
         let sheet = pas::Sheet::from_bytes(&slow::sheet(&round)).expect("a random round is a good sheet");
         let number = |bidder: Option<pas::Bidder>| bidder.map_or(0, |bidder| bidder.0);
         let page = sheet.play();

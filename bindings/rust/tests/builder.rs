@@ -14,6 +14,19 @@ fn the_builder_writes_sheet_f_as_the_document_prints_it() {
 }
 
 #[test]
+fn a_tick_stands_after_the_counts_of_version_2() {
+    let with_tick = [0x50, 0x41, 0x53, 2, 0, 2, 1, 0, 0, 3, 0, 0, 0, 1, 0, 0, 0, 3, 0, 0, 0, 6, 0, 0, 0];
+    let sheet = SheetBuilder::new().effects([1]).bids([3, 6]).tick(3).build().expect("bids of one tick and two");
+    assert_eq!(sheet.as_bytes(), with_tick);
+    assert_eq!(Sheet::from_bytes(&with_tick), Ok(sheet));
+}
+
+#[test]
+fn a_tick_of_0_is_written_and_refused() {
+    assert_eq!(SheetBuilder::new().effects([1]).bids([0]).tick(0).build(), Err(Refusal::WrongTick));
+}
+
+#[test]
 fn each_kind_of_constraint_is_written_in_four_bytes() {
     let kinds = [
         Kind::OwnSlot(Slot(3)),
@@ -57,12 +70,13 @@ fn the_first_count_that_is_wrong_gives_the_number() {
 
 #[test]
 fn every_refusal_has_its_number_and_its_sentence() {
-    let all: Vec<Refusal> = (1..=19).filter_map(Refusal::from_number).collect();
-    assert_eq!(all.iter().map(|refusal| refusal.number()).collect::<Vec<_>>(), (1..=19).collect::<Vec<_>>());
-    assert_eq!((Refusal::from_number(0), Refusal::from_number(20), Refusal::from_number(u32::MAX)), (None, None, None));
-    assert_eq!(all[0].to_string(), "The sheet has fewer than 9 bytes.");
+    let all: Vec<Refusal> = (0..=300).filter_map(Refusal::from_number).collect();
+    assert_eq!(all.iter().map(|refusal| refusal.number()).collect::<Vec<_>>(), (1..=19).chain([26, 27]).collect::<Vec<_>>());
+    assert_eq!(Refusal::from_number(u32::MAX), None);
+    assert_eq!(all[0].to_string(), "The sheet has fewer than 9 bytes, or fewer than 13 in version 2.");
     assert_eq!(all[12].to_string(), "Own place, other bidder and other's place are all 0.");
     assert_eq!(all[18].to_string(), "The result buffer is shorter than the bytes to be written.");
+    assert_eq!(all[20].to_string(), "A bid is no multiple of the tick.");
 }
 
 #[test]

@@ -1,6 +1,6 @@
-//! The C header, the changelog and this crate say the same: version, numbers, sentences, and names by the table of words.
+//! The C header, the changelog and this crate say the same: version, sizes, numbers, sentences, and names by the table of words.
 
-use pas::Refusal;
+use pas::{Bidder, Constraint, Kind, Refusal, SheetBuilder, Slot};
 
 const HEADER: &str = include_str!("../../../include/pas.h");
 const CHANGELOG: &str = include_str!("../../../CHANGELOG.md");
@@ -47,10 +47,28 @@ fn the_newest_version_of_the_changelog_is_that_of_the_crate() {
     assert_eq!(numbered.split([' ', ',']).next(), Some(pas::VERSION));
 }
 
+/// What the header defines a name as, for one that is a number such as `64u`.
+fn number(name: &str) -> usize {
+    defined(name).trim_end_matches('u').parse().unwrap_or_else(|_| panic!("{name} is a number"))
+}
+
+#[test]
+fn the_headers_sizes_are_those_of_the_longest_sheets() {
+    let constraint = Constraint { owner: Bidder(1), kind: Kind::OwnSlot(Slot(1)) };
+    let (bidders, slots, constraints) = (number("PAS_MAX_BIDDERS"), number("PAS_MAX_PLACES"), number("PAS_MAX_CONDITIONS"));
+    let sheet = SheetBuilder::new().bids(vec![0; bidders]).effects(vec![1; slots]).constraints(vec![constraint; constraints]);
+    let length = |sheet: SheetBuilder| sheet.build().expect("the header's sizes are accepted").as_bytes().len();
+    let (without, with) = (length(sheet.clone()), length(sheet.tick(number("PAS_MAX_TICK") as u32)));
+    assert_eq!(without, number("PAS_HEADER_LENGTH") + 4 * (slots + bidders + constraints));
+    assert_eq!(with, without + number("PAS_TICK_LENGTH"));
+    assert_eq!(with, number("PAS_MAX_SHEET_LENGTH"));
+}
+
 #[test]
 fn each_refusal_has_the_number_the_name_and_the_sentence_of_the_header() {
     let entries: Vec<Entry> = HEADER.lines().filter_map(entry).collect();
-    assert_eq!(entries.iter().map(|entry| entry.number).collect::<Vec<_>>(), (0..=19).collect::<Vec<_>>());
+    let in_checking_order = (0..=6).chain([26]).chain(7..=9).chain([27]).chain(10..=19);
+    assert_eq!(entries.iter().map(|entry| entry.number).collect::<Vec<_>>(), in_checking_order.collect::<Vec<_>>());
     for Entry { name, number, sentence } in entries.into_iter().skip(1) {
         let refusal = Refusal::from_number(number).expect("a refusal has this number");
         assert_eq!(format!("{refusal:?}"), in_rust(name));

@@ -1,13 +1,17 @@
 //! An accepted sheet can be read back, and a builder that is given what was read builds the same bytes.
 
-use independent::random::{round, Manner, Random, Size};
+use independent::random::{in_ticks, round, tick, Manner, Random, Size};
 use independent::slow;
 use pas::{Bidder, Constraint, Kind, Sheet, SheetBuilder, Slot};
 
 const LARGEST: Size = Size { bidders: 64, slots: 16, constraints: 1024 };
 
 fn built_from(sheet: &Sheet) -> SheetBuilder {
-    SheetBuilder::new().effects(sheet.effects()).bids(sheet.bids()).constraints(sheet.all_constraints())
+    let read = SheetBuilder::new().effects(sheet.effects()).bids(sheet.bids()).constraints(sheet.all_constraints());
+    match sheet.version() {
+        1 => read,
+        _ => read.tick(sheet.tick()),
+    }
 }
 
 fn constraint(owner: u8, kind: Kind) -> Constraint {
@@ -23,18 +27,24 @@ fn one_of_each_kind() -> [Constraint; 3] {
     ]
 }
 
+fn small_round() -> SheetBuilder {
+    SheetBuilder::new().effects([1_000_000, 258]).bids([1_000_000_000, 0, 66_052]).constraints(one_of_each_kind())
+}
+
 fn small_sheet() -> Sheet {
-    let parts = SheetBuilder::new().effects([1_000_000, 258]).bids([1_000_000_000, 0, 66_051]);
-    parts.constraints(one_of_each_kind()).build().expect("a good sheet")
+    small_round().build().expect("a good sheet")
 }
 
 #[test]
 fn what_was_built_is_read_back() {
-    let sheet = small_sheet();
-    assert_eq!((sheet.bidders(), sheet.slots(), sheet.constraints()), (3, 2, 3));
-    assert_eq!(sheet.effects(), [1_000_000, 258]);
-    assert_eq!(sheet.bids(), [1_000_000_000, 0, 66_051]);
-    assert_eq!(sheet.all_constraints(), one_of_each_kind());
+    let with_tick = small_round().tick(4).build().expect("multiples of 4");
+    for (sheet, version, tick) in [(small_sheet(), 1, 1), (with_tick, 2, 4)] {
+        assert_eq!((sheet.version(), sheet.tick()), (version, tick));
+        assert_eq!((sheet.bidders(), sheet.slots(), sheet.constraints()), (3, 2, 3));
+        assert_eq!(sheet.effects(), [1_000_000, 258]);
+        assert_eq!(sheet.bids(), [1_000_000_000, 0, 66_052]);
+        assert_eq!(sheet.all_constraints(), one_of_each_kind());
+    }
 }
 
 #[test]
@@ -67,8 +77,10 @@ fn a_builder_that_is_given_what_was_read_builds_the_same_bytes() {
     for number in 0..2_000 {
         let some = Size { bidders: random.between(1, 64), slots: random.between(1, 16), constraints: random.between(0, 1024) };
         let size = if number % 20 == 0 { LARGEST } else { some };
-        let round = round(&mut random, size, Manner::Mixed, 1_000_000_000, 1_000_000);
+        let (tick, round) = (tick(&mut random), round(&mut random, size, Manner::Mixed, 1_000_000_000, 1_000_000));
+        let round = in_ticks(round, tick);
         let sheet = Sheet::from_bytes(&slow::sheet(&round)).expect("a good sheet");
+        assert_eq!((sheet.version() == 2).then_some(sheet.tick()), tick);
         assert_eq!((sheet.effects(), sheet.bids()), (round.effects, round.bids));
         assert_eq!(built_from(&sheet).bytes(), sheet.as_bytes());
     }

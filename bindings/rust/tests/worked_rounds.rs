@@ -1,4 +1,4 @@
-//! The rounds that document 01 works by hand, its edges, and its wrong engines that look fine on most pages.
+//! The rounds that document 01 works by hand, its edges, and its wrong engines that look fine on most pages; the ticks of document 02.
 
 use pas::{Bidder, Kind, Refusal, Sheet, SheetBuilder, Slot};
 
@@ -20,6 +20,11 @@ fn round(bids: &[u32], effects: &[u32], constraints: &[Written]) -> SheetBuilder
 
 fn sheet(bids: &[u32], effects: &[u32], constraints: &[Written]) -> Sheet {
     round(bids, effects, constraints).build().expect("a good sheet")
+}
+
+/// A sheet of version 2, without constraints.
+fn in_ticks(tick: u32, bids: &[u32], effects: &[u32]) -> Sheet {
+    round(bids, effects, &[]).tick(tick).build().expect("bids in ticks")
 }
 
 /// Bidders by slot, 0 for an empty one.
@@ -89,6 +94,50 @@ fn a_lower_numbered_rival_must_be_outbid() {
 }
 
 #[test]
+fn a_lower_numbered_rival_must_be_outbid_by_a_whole_tick() {
+    let sheet = in_ticks(3, &[3, 6], &[1]);
+    plays(&sheet, &[2], &[6]);
+    assert_eq!(sheet.gain(&sheet, Bidder(2), 6), Ok(0));
+    plays(&in_ticks(3, &[3, 12], &[1]), &[2], &[6]);
+    plays(&in_ticks(1, &[5, 6], &[1]), &[2], &[6]);
+}
+
+#[test]
+fn a_higher_numbered_rival_asks_its_bid_and_no_tick_more() {
+    plays(&in_ticks(3, &[12, 6], &[1]), &[1], &[6]);
+}
+
+#[test]
+fn equal_bids_in_ticks_go_to_the_lower_number_and_cost_the_whole_bid() {
+    plays(&in_ticks(5, &[5, 5], &[1]), &[1], &[5]);
+    plays(&in_ticks(3, &[3, 6, 6], &[1, 1]), &[2, 3], &[6, 6]);
+}
+
+#[test]
+fn a_tick_may_be_above_every_bid() {
+    plays(&in_ticks(1_000_000_000, &[0, 0], &[1, 1]), &[1, 2], &[0, 0]);
+    plays(&in_ticks(1_000_000_000, &[0, 1_000_000_000], &[1]), &[2], &[1_000_000_000]);
+}
+
+#[test]
+fn ticks_change_prices_and_neither_page_nor_best_page() {
+    let sheet = round(&[30, 32, 36, 40], &[10_000, 4_500, 2_025], &chain(3)).tick(2).build().expect("even bids");
+    plays(&sheet, &[4, 2, 0], &[38, 32, 0]);
+    let best = sheet.best_page().expect("four bidders, three slots");
+    assert_eq!((numbers(&best.bidders), best.total), (vec![3, 4, 1], 600_750));
+    assert_eq!(sheet.is_downward(Bidder(1)), Ok(true));
+}
+
+#[test]
+fn the_truth_sheet_may_have_another_tick() {
+    let played = in_ticks(3, &[3, 6], &[1]);
+    let truth = round(&[7, 14], &[1], &[[2, 1, 0, 0]]);
+    assert_eq!(played.gain(&truth.clone().build().expect("version 1"), Bidder(2), 9), Ok(-6));
+    assert_eq!(played.gain(&truth.tick(7).build().expect("multiples of 7"), Bidder(2), 9), Ok(-6));
+    assert_eq!(played.gain(&in_ticks(1_000_000_000, &[0, 0], &[5]), Bidder(2), 9), Ok(3), "effects are those of the played sheet");
+}
+
+#[test]
 fn the_page_goes_on_after_an_empty_slot() {
     plays(&sheet(&[0], &[1, 1], &[[1, 1, 0, 0]]), &[0, 1], &[0, 0]);
 }
@@ -131,6 +180,60 @@ fn nine_bytes_are_the_fewest() {
     assert_eq!(pas::check(&[]), Err(Refusal::SheetTooShort));
     assert_eq!(pas::check(b"PAS\x01\x00\x01\x01\x00"), Err(Refusal::SheetTooShort));
     assert_eq!(pas::check(b"PAS\x01\x00\x01\x01\x00\x00"), Err(Refusal::WrongLength));
+}
+
+#[test]
+fn versions_are_1_and_2() {
+    for version in [b"\x00\x00", b"\x03\x00", b"\x01\x01", b"\x02\x01", b"\x00\x02"] {
+        let nine_bytes = [b"PAS".as_slice(), version, &[0; 4]].concat();
+        assert_eq!(pas::check(&nine_bytes), Err(Refusal::WrongVersion), "{version:?}");
+    }
+}
+
+#[test]
+fn thirteen_bytes_are_the_fewest_of_version_2() {
+    let header = b"PAS\x02\x00\x01\x01\x00\x00\x01\x00\x00\x00";
+    for length in 9..13 {
+        assert_eq!(pas::check(&header[..length]), Err(Refusal::SheetTooShort), "{length} bytes");
+    }
+    assert_eq!(pas::check(header), Err(Refusal::WrongLength));
+    assert_eq!(pas::check(b"PAS\x02\x00\x00\x00\x00\x00"), Err(Refusal::SheetTooShort), "before 4");
+}
+
+#[test]
+fn ticks_are_from_1_to_a_thousand_million() {
+    for tick in [1, 1_000_000_000] {
+        assert_eq!(in_ticks(tick, &[0], &[1]).tick(), tick);
+    }
+    for tick in [0, 1_000_000_001, u32::MAX] {
+        assert_eq!(round(&[0], &[1], &[]).tick(tick).build(), Err(Refusal::WrongTick), "{tick}");
+    }
+}
+
+#[test]
+fn the_tick_is_judged_after_the_counts_and_before_the_length() {
+    let mut bytes = round(&[0], &[1], &[]).tick(0).bytes();
+    bytes.push(0);
+    assert_eq!(pas::check(&bytes), Err(Refusal::WrongTick));
+    let over = vec![[1, 1, 0, 0]; 1025];
+    assert_eq!(round(&[0], &[1], &over).tick(0).build(), Err(Refusal::TooManyConstraints));
+}
+
+#[test]
+fn every_bid_is_a_multiple_of_the_tick() {
+    for bids in [[1, 3], [3, 1], [3, 5], [1_000_000_000, 3]] {
+        assert_eq!(round(&bids, &[1], &[]).tick(3).build(), Err(Refusal::BidOffTick), "{bids:?}");
+    }
+    plays(&in_ticks(3, &[999_999_999, 0], &[1]), &[1], &[0]);
+}
+
+#[test]
+fn all_bids_are_held_to_the_largest_before_any_is_held_to_the_tick() {
+    let refused = |bids: [u32; 2], effect, constraints: &[Written]| round(&bids, &[effect], constraints).tick(3).build();
+    assert_eq!(refused([4, 1_000_000_001], 1, &[]), Err(Refusal::WrongBid));
+    assert_eq!(refused([1_000_000_001, 4], 1, &[]), Err(Refusal::WrongBid));
+    assert_eq!(refused([4, 6], 0, &[]), Err(Refusal::WrongEffect));
+    assert_eq!(refused([3, 7], 1, &[[3, 1, 0, 0]]), Err(Refusal::BidOffTick), "before 10");
 }
 
 #[test]
@@ -184,7 +287,10 @@ fn the_call_of_a_gain_is_refused_by_the_first_rule_that_it_breaks() {
     let gain = |played: &[u8], truth: &[u8], bidder, worth| pas::gain(played, truth, Bidder(bidder), worth);
     let too_much = 1_000_000_001;
     assert_eq!(gain(bad, bad, 0, too_much), Err(Refusal::SheetTooShort));
-    assert_eq!(gain(good.as_bytes(), bad, 0, too_much), Err(Refusal::TruthRefused));
+    let of_three = |bid| round(&[bid, 3, 3], &[3, 2, 1], &[]);
+    for truth in [bad, &of_three(3).tick(0).bytes(), &of_three(4).tick(3).bytes(), b"PAS\x02\x00\x03\x03\x00\x00"] {
+        assert_eq!(gain(good.as_bytes(), truth, 0, too_much), Err(Refusal::TruthRefused), "{truth:?}");
+    }
     assert_eq!(gain(good.as_bytes(), other_size.as_bytes(), 0, too_much), Err(Refusal::TruthDiffers));
     assert_eq!(gain(good.as_bytes(), good.as_bytes(), 0, too_much), Err(Refusal::WrongBidder));
     assert_eq!(gain(good.as_bytes(), good.as_bytes(), 4, too_much), Err(Refusal::WrongBidder));

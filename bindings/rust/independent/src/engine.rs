@@ -1,11 +1,11 @@
-//! The five calls over bytes that nobody has checked, for speed. Each returns 0, or the first number of document 01 that applies, and
-//! then leaves everything lent as it was.
+//! The five calls over bytes that nobody has checked, for speed. Each returns 0, or the first number of documents 01 and 02 that applies,
+//! and then leaves everything lent as it was.
 
 use crate::best::{Search, MOST};
 use crate::fill::fill;
 use crate::read::{accept, constraint, word_at, words, Parts, LARGEST_BID, MOST_BIDDERS, MOST_SLOTS};
 
-/// Rules 1 to 13.
+/// Rules 1 to 13, 26 and 27.
 pub fn check(sheet: &[u8]) -> u32 {
     accept(sheet).err().unwrap_or(0)
 }

@@ -138,7 +138,7 @@ pub fn fill(parts: &Parts) -> Page {
         let winner = ranking.number(eligible.trailing_zeros());
         free &= !ranking.bit(usize::from(winner));
         page.bidders[(slot - 1) & 15] = winner;
-        page.prices[(slot - 1) & 15] = asked(&ranking, winner, eligible & (eligible - 1));
+        page.prices[(slot - 1) & 15] = asked(&ranking, parts.tick, winner, eligible & (eligible - 1));
         if slot < parts.slots {
             barred.by_winner(&ranking, winner, slot);
             barred.by_others(&ranking, winner, slot);
@@ -147,12 +147,12 @@ pub fn fill(parts: &Parts) -> Page {
     page
 }
 
-/// What the first of the rivals asks: its bid, and one more where it wins a tie. A rival behind it bids no more, and where it bids as
+/// What the first of the rivals asks: its bid, and one tick more where it wins a tie. A rival behind it bids no more, and where it bids as
 /// much it has a higher number, so it asks no more.
-fn asked(ranking: &Ranking, winner: u8, rivals: u64) -> u32 {
+fn asked(ranking: &Ranking, tick: u32, winner: u8, rivals: u64) -> u32 {
     if rivals == 0 {
         return 0;
     }
     let first = rivals.trailing_zeros();
-    ranking.bid(first) + u32::from(ranking.number(first) < winner)
+    ranking.bid(first) + if ranking.number(first) < winner { tick } else { 0 }
 }

@@ -1,5 +1,7 @@
-//! Random numbers from a fixed seed, and random rounds of several kinds. The same seed gives the same rounds on every machine.
+//! Random numbers from a fixed seed, and random rounds of several kinds and of both versions. The same seed gives the same rounds on every
+//! machine.
 
+use crate::read::LARGEST_BID;
 use crate::slow::{Constraint, Round};
 
 /// A generator of 64-bit numbers (SplitMix64).
@@ -82,7 +84,7 @@ pub struct Size {
     pub constraints: usize,
 }
 
-/// A random round of a size. Bids go up to `highest_bid`, effects up to `highest_effect`.
+/// A random round of a size, in version 1. Bids go up to `highest_bid`, effects up to `highest_effect`.
 pub fn round(random: &mut Random, size: Size, manner: Manner, highest_bid: usize, highest_effect: usize) -> Round {
     let mut effects: Vec<u32> = (0..size.slots).map(|_| random.between(1, highest_effect) as u32).collect();
     effects.sort_unstable_by(|one, other| other.cmp(one));
@@ -95,7 +97,25 @@ pub fn round(random: &mut Random, size: Size, manner: Manner, highest_bid: usize
         }
         _ => {}
     }
-    Round { effects, bids, constraints: constraints(random, size, manner) }
+    Round { tick: None, effects, bids, constraints: constraints(random, size, manner) }
+}
+
+/// A tick for a round: none in one time of three, which is version 1, else 1, small, any or the largest.
+pub fn tick(random: &mut Random) -> Option<u32> {
+    let ticks = [1, random.between(2, 9), random.between(2, LARGEST_BID as usize), LARGEST_BID as usize];
+    (!random.once_in(3)).then_some(random.one_of(&ticks) as u32)
+}
+
+/// The same round with a tick: each bid is moved to the nearest multiple that a sheet accepts, so that bids stay in their order. Without a
+/// tick it is the round as it was.
+pub fn in_ticks(mut round: Round, tick: Option<u32>) -> Round {
+    round.tick = tick;
+    let step = tick.unwrap_or(1);
+    for bid in &mut round.bids {
+        let nearest = (*bid + step / 2) / step;
+        *bid = step * nearest.min(LARGEST_BID / step);
+    }
+    round
 }
 
 fn constraints(random: &mut Random, size: Size, manner: Manner) -> Vec<Constraint> {

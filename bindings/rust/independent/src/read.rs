@@ -7,15 +7,17 @@ pub const MOST_SLOTS: usize = 16;
 /// "c, conditions, 0 to 1,024".
 pub const MOST_CONSTRAINTS: usize = 1024;
 const LARGEST_EFFECT: u32 = 1_000_000;
-/// The largest bid, and the largest worth of a click.
+/// The largest bid, the largest worth of a click and the largest tick.
 pub const LARGEST_BID: u32 = 1_000_000_000;
 const HEADER_BYTES: usize = 9;
+const TICK_BYTES: usize = 4;
 
-/// An accepted sheet: its counts, and its three lists still in bytes, four to an entry.
+/// An accepted sheet: its counts, its tick (1 in version 1), and its three lists still in bytes, four to an entry.
 #[derive(Clone, Copy)]
 pub struct Parts<'a> {
     pub bidders: usize,
     pub slots: usize,
+    pub tick: u32,
     pub effects: &'a [u8],
     pub bids: &'a [u8],
     pub constraints: &'a [u8],
@@ -47,7 +49,7 @@ pub fn constraint(word: u32) -> Constraint {
     Constraint { owner, own, other, slot }
 }
 
-/// The parts of a sheet that breaks none of the rules 1 to 13, or the first number that applies.
+/// The parts of a sheet that breaks none of the rules 1 to 13, 26 and 27, or the first number that applies.
 pub fn accept(sheet: &[u8]) -> Result<Parts<'_>, u32> {
     let parts = split(sheet)?;
     if !effects_stand(parts.effects) {
@@ -55,6 +57,9 @@ pub fn accept(sheet: &[u8]) -> Result<Parts<'_>, u32> {
     }
     if words(parts.bids).fold(0, u32::max) > LARGEST_BID {
         return Err(9);
+    }
+    if parts.tick > 1 && !are_multiples(parts.bids, parts.tick) {
+        return Err(27);
     }
     let (bidders, slots) = (parts.bidders as u32, parts.slots as u32);
     // One pass without a branch for the usual sheet; only a refused one is gone through again, for its number.
@@ -64,15 +69,20 @@ pub fn accept(sheet: &[u8]) -> Result<Parts<'_>, u32> {
     Ok(parts)
 }
 
-/// Rules 1 to 7.
+/// Rules 1 to 7, with 1 again after 3 and 26 after 6.
 fn split(sheet: &[u8]) -> Result<Parts<'_>, u32> {
-    let Some((header, body)) = sheet.split_first_chunk::<HEADER_BYTES>() else { return Err(1) };
+    let Some((header, rest)) = sheet.split_first_chunk::<HEADER_BYTES>() else { return Err(1) };
     if header[..3] != *b"PAS" {
         return Err(2);
     }
-    if header[3..5] != [1, 0] {
-        return Err(3);
-    }
+    let (tick, body) = match header[3..5] {
+        [1, 0] => (1, rest),
+        [2, 0] => {
+            let Some((tick, body)) = rest.split_first_chunk::<TICK_BYTES>() else { return Err(1) };
+            (u32::from_le_bytes(*tick), body)
+        }
+        _ => return Err(3),
+    };
     let (bidders, slots) = (usize::from(header[5]), usize::from(header[6]));
     let constraints = usize::from(u16::from_le_bytes([header[7], header[8]]));
     if bidders == 0 || bidders > MOST_BIDDERS {
@@ -84,12 +94,15 @@ fn split(sheet: &[u8]) -> Result<Parts<'_>, u32> {
     if constraints > MOST_CONSTRAINTS {
         return Err(6);
     }
+    if tick == 0 || tick > LARGEST_BID {
+        return Err(26);
+    }
     if body.len() != 4 * (slots + bidders + constraints) {
         return Err(7);
     }
     let (effects, rest) = body.split_at(4 * slots);
     let (bids, constraints) = rest.split_at(4 * bidders);
-    Ok(Parts { bidders, slots, effects, bids, constraints })
+    Ok(Parts { bidders, slots, tick, effects, bids, constraints })
 }
 
 /// Rule 8 holds of every effect.
@@ -101,6 +114,13 @@ fn effects_stand(effects: &[u8]) -> bool {
         before = effect;
     }
     stand
+}
+
+/// Every bid is a multiple of the tick, told without a division for each: with the reciprocal rounded up to 64 bits, a word's product wraps
+/// to less than the reciprocal exactly where the division has no rest (Lemire, Kaser and Kurz, "Faster remainder by direct computation").
+fn are_multiples(bids: &[u8], tick: u32) -> bool {
+    let reciprocal = u64::MAX / u64::from(tick) + 1;
+    words(bids).fold(true, |all, bid| all & (u64::from(bid).wrapping_mul(reciprocal) < reciprocal))
 }
 
 /// A constraint breaks one of the rules 10 to 13. Straight-line, so that the compiler takes several constraints at once.

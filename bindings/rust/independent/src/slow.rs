@@ -1,6 +1,9 @@
-//! Document 01 word by word, by trying everything: the measure for `engine`, which is quick and so needs one.
+//! Document 01 word by word, with the ticks of document 02, by trying everything: the measure for `engine`, which is quick and so needs one.
 //!
-//! Rounds must be small: a price is found by replaying the round with bid 0, 1, 2 and so on, and the best page by going through every page.
+//! Rounds must be small: a price is found by replaying the round with bid 0, one tick, two ticks and so on, and the best page by going
+//! through every page.
+
+use crate::read::LARGEST_BID;
 
 /// A condition as document 01 writes it: owner, own place, other bidder, other's place.
 pub type Constraint = [u8; 4];
@@ -8,6 +11,8 @@ pub type Constraint = [u8; 4];
 /// A round as it stands in an accepted sheet.
 #[derive(Clone, Debug, PartialEq)]
 pub struct Round {
+    /// What version 2 writes after the counts; none in version 1, "which means tick 1".
+    pub tick: Option<u32>,
     /// By slot, the first at 0.
     pub effects: Vec<u32>,
     /// By bidder, the first at 0.
@@ -21,11 +26,14 @@ pub type Page = Vec<u8>;
 
 /// The sheet that holds a round. Counts that do not fit their field are not for this function.
 pub fn sheet(round: &Round) -> Vec<u8> {
-    let mut bytes = b"PAS\x01\x00".to_vec();
+    let mut bytes = b"PAS".to_vec();
+    let version: u16 = if round.tick.is_some() { 2 } else { 1 };
+    bytes.extend(version.to_le_bytes());
     bytes.push(u8::try_from(round.bids.len()).expect("a byte holds n"));
     bytes.push(u8::try_from(round.effects.len()).expect("a byte holds m"));
     let count = u16::try_from(round.constraints.len()).expect("two bytes hold c");
     bytes.extend(count.to_le_bytes());
+    bytes.extend(round.tick.iter().flat_map(|tick| tick.to_le_bytes()));
     bytes.extend(round.effects.iter().flat_map(|effect| effect.to_le_bytes()));
     bytes.extend(round.bids.iter().flat_map(|bid| bid.to_le_bytes()));
     bytes.extend(round.constraints.iter().flatten());
@@ -61,7 +69,7 @@ fn is_eligible(round: &Round, page: &[u8], bidder: u8) -> bool {
     !page.contains(&bidder) && !round.constraints.iter().any(|&of| concerned(of[0]) && is_broken(of, &with))
 }
 
-/// "The smallest whole bid from 0 which, written in the sheet for the winner of place k, still wins place k"; 0 for an empty place.
+/// "The smallest bid that the sheet would accept and that still wins the place"; 0 for an empty place.
 pub fn price(round: &Round, slot: usize) -> u32 {
     let winner = page(round)[slot];
     if winner == 0 {
@@ -72,7 +80,8 @@ pub fn price(round: &Round, slot: usize) -> u32 {
         replayed.bids[usize::from(winner) - 1] = bid;
         page(&replayed)[slot] == winner
     };
-    (0..).find(|&bid| wins(bid)).expect("its own bid wins")
+    let mut accepted = (0..=LARGEST_BID).step_by(round.tick.unwrap_or(1) as usize);
+    accepted.find(|&bid| wins(bid)).expect("its own bid wins")
 }
 
 /// "For every condition with own place k from 1 to m − 1, the list also has the condition with own place k + 1 and the same other part."

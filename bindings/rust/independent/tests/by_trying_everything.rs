@@ -1,16 +1,17 @@
 //! The quick engine against the document tried word by word, on rounds small enough for that.
 
-use independent::random::{round, Manner, Random, Size};
+use independent::random::{in_ticks, round, tick, Manner, Random, Size};
 use independent::{engine, slow};
 
-const MANNERS: [Manner; 6] =
-    [Manner::Mixed, Manner::Pairs, Manner::OwnSlots, Manner::Exclusions, Manner::Chain, Manner::Ties];
+const MANNERS: [Manner; 6] = [Manner::Mixed, Manner::Pairs, Manner::OwnSlots, Manner::Exclusions, Manner::Chain, Manner::Ties];
 
 fn small_round(random: &mut Random) -> slow::Round {
     let size = Size { bidders: random.between(1, 5), slots: random.between(1, 5), constraints: random.between(0, 30) };
     let manner = random.one_of(&MANNERS);
-    let (highest_bid, highest_effect) = (random.one_of(&[1, 4, 15]), random.one_of(&[1, 3, 20]));
-    round(random, size, manner, highest_bid, highest_effect)
+    let (tick, ticks) = (tick(random), random.one_of(&[1, 4, 15]));
+    let highest_bid = (ticks * tick.unwrap_or(1) as usize).min(1_000_000_000);
+    let highest_effect = random.one_of(&[1, 3, 20]);
+    in_ticks(round(random, size, manner, highest_bid, highest_effect), tick)
 }
 
 #[test]
