@@ -25,6 +25,7 @@ except-sym i r r′ x =
     record {
       bidders = sym (x .bidders);
       slots = sym (x .slots);
+      ticks = sym (x .ticks);
       bids = λ b d. sym (x .bids b d);
       there = x .back;
       back = x .there;
@@ -108,6 +109,7 @@ sets-except i r r′ x =
     record {
       bidders = x .bidders;
       slots = x .slots;
+      ticks = x .ticks;
       bids = λ b d. x .bids b;
       there = λ q d. x .there q;
       back = λ q d. x .back q;

@@ -1,24 +1,26 @@
--- The price of document 01, the smallest bid that still wins when the round is replayed, is the critical bid.
+-- The price of documents 01 and 02, the smallest legal bid that still wins when the round is replayed, is the critical bid.
 -- A lower bid changes no slot before the winner's: whoever won there still ranks no lower. At its own slot the same bidders are
--- eligible, since bids bar nobody, so it wins with exactly the bids from the critical one up. Assumes nothing.
-use Prim.Native.Nat.{ℕ, zero, suc, _<_, _≤_}
+-- eligible, since bids bar nobody, so it wins with exactly the legal bids from the critical one up. Assumes nothing.
+use Prim.Native.Nat.{ℕ, zero, suc, _%_, _<_, _≤_}
 use borrow.Author.Tests.{eq-eqb, ne-eqb, eqb-true}
-use mathlib.Core.Bool.{Bool, true, false}
+use mathlib.Core.Bool.{Bool, true, false, _&&_, and-false}
 use mathlib.Core.Logic.{_⊎_, ⊎-elim}
 use mathlib.Core.Path.{_≡_, refl, sym, _∙_, ap, ap₂, subst}
-use native.Mathlib.Nat.{not-suc-le-zero}
+use native.Mathlib.Nat.{not-suc-le-zero, zero-mod}
 use native.Mathlib.Omega.{arith}
 use lib.ListN.{length}
 use lib.Seq.{getD-set-same, getD-set-other}
 use Rattle.basis.specs.Tests.{least}
-use Rattle.basis.proofs.TestLaws.{not-both, least-is, least-at-most}
+use Rattle.basis.proofs.TestLaws.{holds-or-fails, not-both, and-holds, least-is, least-at-most}
 use Rattle.sheet.specs.declared.Constraint.{Constraint}
 use Rattle.sheet.specs.declared.Page.{Page}
 use Rattle.sheet.specs.declared.Round.{Round}
 use Rattle.choice.specs.Winner.{ranksNoLower, winner}
-use Rattle.choice.specs.Critical.{criticalBid}
+use Rattle.choice.specs.Critical.{InTicks, criticalBid}
 use Rattle.auction.specs.Page.{at, put, placed}
 use Rattle.sheet.specs.Proper.{ProperRound}
+use Rattle.sheet.specs.Refusal.{legalBid}
+use Rattle.sheet.proofs.AcceptedLaws.{legal-parts, parts-legal}
 use Rattle.sheet.specs.Round.{constraintAt, bidOf, Has}
 use Rattle.auction.specs.Broken.{breaksOwn}
 use Rattle.auction.specs.Eligible.{breaksEarlier, firstFailed, eligible}
@@ -26,7 +28,7 @@ use Rattle.auction.specs.Greedy.{winnerAt, pageUpTo, greedyPage}
 use Rattle.auction.specs.Price.{withBid, winsWith, priceFor, price}
 use Rattle.auction.specs.Except.{Except, SameSets}
 use Rattle.choice.proofs.WinnerLaws.{Wins, winner-wins, winner-same, ranks-cases}
-use Rattle.choice.proofs.CriticalLaws.{ExceptBid, enough-wins, less-loses, critical-at-most-bid, critical-same}
+use Rattle.choice.proofs.CriticalLaws.{ExceptBid, enough-wins, less-loses, critical-at-most-bid, critical-multiple, critical-same}
 use Rattle.basis.proofs.NumberLaws.{same-or-not}
 use Rattle.auction.proofs.BrokenLaws.{eligible-unplaced}
 use Rattle.auction.proofs.GreedyLaws.{upTo-next, upTo-sized, slot-winner, winner-eligible, winner-bidder, empty-nobody}
@@ -47,6 +49,14 @@ module _ (r : Round) (w x : ℕ) where
   with-slots = by-number w
     where
       by-number : (b : ℕ) → withBid r b x .slots ≡ r .slots
+      by-number zero = refl
+      by-number (suc i) = refl
+
+  pub with-tick : withBid r w x .tick ≡ r .tick
+  unfolding withBid
+  with-tick = by-number w
+    where
+      by-number : (b : ℕ) → withBid r b x .tick ≡ r .tick
       by-number zero = refl
       by-number (suc i) = refl
 
@@ -81,13 +91,14 @@ with-except r w x =
     record {
       bidders = sym (with-bidders r w x);
       slots = sym (with-slots r w x);
+      ticks = sym (with-tick r w x);
       bids = λ b d. sym (with-other r w x b d);
       there = λ q d. with-has r w x q;
       back = λ q d. has-with r w x q;
     }
 
--- somebody at a slot pays the least bid that still wins it
-price-least : (r : Round) (k w : ℕ) → 0 < w → priceFor r k w ≡ least (winsWith r k w) (bidOf r w)
+-- somebody at a slot pays the least legal bid that still wins it
+price-least : (r : Round) (k w : ℕ) → 0 < w → priceFor r k w ≡ least (λ x. legalBid (r .tick) x && winsWith r k w x) (bidOf r w)
 unfolding priceFor
 price-least r k zero s = absurd (not-suc-le-zero s)
 price-least r k (suc i) s = refl
@@ -159,14 +170,25 @@ module _ (r : Round) (w x : ℕ) (lower : x ≤ bidOf r w) (some : 0 < w) (has-b
       (λ j a z. with-eligible r w x p (suc k) j) (λ j a z. refl)
       ∙ ap (winner (eligible r p (suc k)) (bidOf r′)) (with-bidders r w x)
 
+-- the bids of a proper round are in ticks
+pub round-in-ticks : (r : Round) → ProperRound r → InTicks (r .tick) (bidOf r)
+round-in-ticks r proper =
+    record { some-tick = proper .some-tick; most-tick = proper .most-tick; most-bid = proper .most-bid; multiple = proper .in-ticks }
+
 -- The winner w of slot k + 1, and its critical bid there.
-module _ (r : Round) (k w : ℕ) (few : r .slots ≤ 16) (inside : k < r .slots) (has-bid : w ≤ length (r .bids)) (some : 0 < w)
+module _ (r : Round) (k w : ℕ) (proper : ProperRound r) (inside : k < r .slots) (has-bid : w ≤ length (r .bids)) (some : 0 < w)
     (won : winnerAt r (pageUpTo r k) (suc k) ≡ w) where
+  few : r .slots ≤ 16
+  few = proper .most-slots
+
+  in-ticks : InTicks (r .tick) (bidOf r)
+  in-ticks = round-in-ticks r proper
+
   abbrev here-eligible : ℕ → Bool
   here-eligible = eligible r (pageUpTo r k) (suc k)
 
   abbrev critical : ℕ
-  critical = criticalBid here-eligible (bidOf r) w (r .bidders)
+  critical = criticalBid (r .tick) here-eligible (bidOf r) w (r .bidders)
 
   top : Wins here-eligible (bidOf r) (r .bidders) w
   top =
@@ -178,7 +200,13 @@ module _ (r : Round) (k w : ℕ) (few : r .slots ≤ 16) (inside : k < r .slots)
 
   critical-low : critical ≤ bidOf r w
   unfolding winnerAt
-  critical-low = critical-at-most-bid here-eligible (bidOf r) (r .bidders) w some won
+  critical-low = critical-at-most-bid (r .tick) here-eligible (bidOf r) in-ticks (r .bidders) w some won
+
+  critical-legal : legalBid (r .tick) critical ≡ true
+  critical-legal =
+      parts-legal (r .tick) critical
+      (let h = critical-low in let m = proper .most-bid w in omega arith)
+      (critical-multiple (r .tick) here-eligible (bidOf r) w (r .bidders) (proper .in-ticks))
 
   others-bid : (x : ℕ) → ExceptBid (bidOf r) (bidOf (withBid r w x)) w
   others-bid x = record { others = with-other r w x }
@@ -189,17 +217,27 @@ module _ (r : Round) (k w : ℕ) (few : r .slots ≤ 16) (inside : k < r .slots)
       let own = with-own r w x some has-bid in
       eq-eqb (at (greedyPage (withBid r w x)) (suc k)) w
       (replay-slot r w x low some has-bid few k inside unplaced
-      ∙ enough-wins here-eligible (bidOf r) (r .bidders) w (bidOf (withBid r w x)) (others-bid x) some (top .most) (top .is-eligible) (omega arith))
+      ∙ enough-wins (r .tick) here-eligible (bidOf r) in-ticks (r .bidders) w (bidOf (withBid r w x)) (others-bid x) some (top .most) (top .is-eligible) (omega arith))
 
-  loses-below-critical : (x : ℕ) → x < critical → winsWith r (suc k) w x ≡ false
+  loses-below-critical : (x : ℕ) → x < critical → legalBid (r .tick) x ≡ true → winsWith r (suc k) w x ≡ false
   unfolding winsWith
-  loses-below-critical x less =
+  loses-below-critical x less legal =
       let own = with-own r w x some has-bid in
       let low : x ≤ bidOf r w = (let h = critical-low in omega arith) in
       ne-eqb (at (greedyPage (withBid r w x)) (suc k)) w
       (λ e.
-      less-loses here-eligible (bidOf r) (r .bidders) w (bidOf (withBid r w x)) (others-bid x) some (omega arith)
+      less-loses (r .tick) here-eligible (bidOf r) in-ticks (r .bidders) w (bidOf (withBid r w x)) (others-bid x)
+      (ap (λ (y : ℕ). y % r .tick) own ∙ legal-parts (r .tick) x legal .1) some (omega arith)
       (sym (replay-slot r w x low some has-bid few k inside unplaced) ∙ e))
+
+  -- what the least is taken of: below the critical bid nothing passes, and it does
+  none-below : (x : ℕ) → x < critical → (legalBid (r .tick) x && winsWith r (suc k) w x) ≡ false
+  none-below x less =
+      ⊎-elim
+      (λ (t : legalBid (r .tick) x ≡ true).
+      ap (λ (u : Bool). legalBid (r .tick) x && u) (loses-below-critical x less t) ∙ and-false (legalBid (r .tick) x))
+      (λ (t : legalBid (r .tick) x ≡ false). ap (λ (u : Bool). u && winsWith r (suc k) w x) t)
+      (holds-or-fails (legalBid (r .tick) x))
 
   -- The price is the critical bid.
   pub price-critical : price r (suc k) ≡ critical
@@ -207,11 +245,16 @@ module _ (r : Round) (k w : ℕ) (few : r .slots ≤ 16) (inside : k < r .slots)
   price-critical =
       ap (priceFor r (suc k)) (slot-winner r few k inside ∙ won)
       ∙ price-least r (suc k) w some
-      ∙ least-is (winsWith r (suc k) w) (bidOf r w) critical critical-low loses-below-critical (λ l. wins-from-critical critical critical-low (omega arith))
+      ∙ least-is (λ x. legalBid (r .tick) x && winsWith r (suc k) w x) (bidOf r w) critical critical-low none-below
+      (λ l. and-holds critical-legal (wins-from-critical critical critical-low (omega arith)))
 
   -- It is at most the winner's bid,
   pub price-at-most-bid : price r (suc k) ≤ bidOf r w
   price-at-most-bid = let e = price-critical in let h = critical-low in omega arith
+
+  -- it is legal,
+  pub price-legal : legalBid (r .tick) (price r (suc k)) ≡ true
+  price-legal = ap (legalBid (r .tick)) price-critical ∙ critical-legal
 
   -- it wins the slot,
   pub price-wins : at (greedyPage (withBid r w (price r (suc k)))) (suc k) ≡ w
@@ -220,11 +263,11 @@ module _ (r : Round) (k w : ℕ) (few : r .slots ≤ 16) (inside : k < r .slots)
       eqb-true (at (greedyPage (withBid r w (price r (suc k)))) (suc k)) w
       (wins-from-critical (price r (suc k)) price-at-most-bid (let e = price-critical in omega arith))
 
-  -- and no smaller bid does.
-  pub smaller-loses : (x : ℕ) → x < price r (suc k) → at (greedyPage (withBid r w x)) (suc k) ≡ w → ⊥
+  -- and no smaller legal bid does.
+  pub smaller-loses : (x : ℕ) → x < price r (suc k) → legalBid (r .tick) x ≡ true → at (greedyPage (withBid r w x)) (suc k) ≡ w → ⊥
   unfolding winsWith
-  smaller-loses x less e =
-      not-both (eq-eqb (at (greedyPage (withBid r w x)) (suc k)) w e) (loses-below-critical x (let h = price-critical in omega arith))
+  smaller-loses x less legal e =
+      not-both (eq-eqb (at (greedyPage (withBid r w x)) (suc k)) w e) (loses-below-critical x (let h = price-critical in omega arith) legal)
 
 -- "An empty place has price 0."
 pub empty-costs-nothing : (r : Round) (k : ℕ) → at (greedyPage r) k ≡ 0 → price r k ≡ 0
@@ -232,25 +275,30 @@ unfolding price priceFor
 empty-costs-nothing r k e = ap (priceFor r k) e
 
 -- Rounds that differ only in the winner's list and bid, and agree before its slot, charge it the same there.
-pub price-except : (r r′ : Round) (k w : ℕ) → Except w r r′ → r .slots ≤ 16 → k < r .slots → 0 < w →
+pub price-except : (r r′ : Round) (k w : ℕ) → Except w r r′ → ProperRound r → ProperRound r′ → k < r .slots → 0 < w →
     w ≤ length (r .bids) → w ≤ length (r′ .bids) → pageUpTo r k ≡ pageUpTo r′ k →
     winnerAt r (pageUpTo r k) (suc k) ≡ w → winnerAt r′ (pageUpTo r′ k) (suc k) ≡ w → price r (suc k) ≡ price r′ (suc k)
-price-except r r′ k w x few inside some has-bid has-bid′ same won won′ =
+price-except r r′ k w x proper proper′ inside some has-bid has-bid′ same won won′ =
     let slots = x .slots in
+    let few = proper .most-slots in
     let p = pageUpTo r k in
-    price-critical r k w few inside has-bid some won
-    ∙ critical-same (eligible r p (suc k)) (eligible r′ p (suc k)) (bidOf r) (bidOf r′) (r .bidders) w
+    price-critical r k w proper inside has-bid some won
+    ∙ critical-same (r .tick) (eligible r p (suc k)) (eligible r′ p (suc k)) (bidOf r) (bidOf r′) (r .bidders) w
     (λ j d a z.
-    eligible-except w r r′ x p (suc k) j (upTo-sized r k) (omega arith) (omega arith) (unplaced r k w few inside has-bid some won) d)
+    eligible-except w r r′ x p (suc k) j (upTo-sized r k) (omega arith) (omega arith) (unplaced r k w proper inside has-bid some won) d)
     (λ j d a z. x .bids j d)
-    ∙ ap₂ (λ (q : Page) (n : ℕ). criticalBid (eligible r′ q (suc k)) (bidOf r′) w n) same (x .bidders)
-    ∙ sym (price-critical r′ k w (omega arith) (omega arith) has-bid′ some won′)
+    ∙ ap (λ (t : ℕ). criticalBid t (eligible r′ p (suc k)) (bidOf r′) w (r .bidders)) (x .ticks)
+    ∙ ap₂ (λ (q : Page) (n : ℕ). criticalBid (r′ .tick) (eligible r′ q (suc k)) (bidOf r′) w n) same (x .bidders)
+    ∙ sym (price-critical r′ k w proper′ (omega arith) has-bid′ some won′)
 
 -- Prices depend on each owner's set of constraints only.
-pub price-sets : (r r′ : Round) → SameSets r r′ → r .slots ≤ 16 → r .bidders ≤ length (r .bids) → r .bidders ≤ length (r′ .bids) →
-    (k : ℕ) → k < r .slots → price r (suc k) ≡ price r′ (suc k)
-price-sets r r′ x few has-bid has-bid′ k inside =
+pub price-sets : (r r′ : Round) → SameSets r r′ → ProperRound r → ProperRound r′ → (k : ℕ) → k < r .slots → price r (suc k) ≡ price r′ (suc k)
+price-sets r r′ x proper proper′ k inside =
     let slots = x .slots in
+    let few = proper .most-slots in
+    let many = proper .most-bidders in
+    let sized = proper .sized-bids in
+    let sized′ = proper′ .sized-bids in
     let same = upTo-sets r r′ x k (omega arith) in
     let page = page-sets r r′ x few in
     let here = slot-winner r few k inside in
@@ -262,7 +310,7 @@ price-sets r r′ x few has-bid has-bid′ k inside =
     (λ (z : winnerAt r (pageUpTo r k) (suc k) ≡ 0 → ⊥).
     let w = winnerAt r (pageUpTo r k) (suc k) in
     let most = winner-bidder r (pageUpTo r k) (suc k) in
-    price-except r r′ k w (sets-except w r r′ x) few inside (omega arith) (omega arith) (omega arith) same refl
+    price-except r r′ k w (sets-except w r r′ x) proper proper′ inside (omega arith) (omega arith) (omega arith) same refl
     (sym here′ ∙ ap (λ (p : Page). at p (suc k)) (sym page) ∙ here))
     (same-or-not (winnerAt r (pageUpTo r k) (suc k)) 0)
 
@@ -272,7 +320,7 @@ unfolding priceFor
 paid-low r k zero proper = omega arith
 paid-low r k (suc i) proper =
     let low = proper .most-bid (suc i) in
-    let most = least-at-most (winsWith r k (suc i)) (bidOf r (suc i)) in
+    let most = least-at-most (λ x. legalBid (r .tick) x && winsWith r k (suc i) x) (bidOf r (suc i)) in
     omega arith
 
 pub price-low : (r : Round) (k : ℕ) → ProperRound r → price r k ≤ 1_000_000_000

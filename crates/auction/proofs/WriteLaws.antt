@@ -1,10 +1,11 @@
 -- A bid written into the sheet's bytes is the replay's round: the other fields stay, and the four bytes say the bid. The bytes lie
--- after the effects and before the constraints, so every fact of acceptance, and every field of the round but that bid, is as before.
--- Assumes nothing.
-use Prim.Native.Nat.{ℕ, zero, suc, _+_, _*_, _<_, _≤_}
+-- after the effects and before the constraints, so every fact of acceptance, and every field of the round but that bid, is as before:
+-- the sheet is accepted exactly when the bid is legal. Assumes nothing.
+use Prim.Native.Nat.{ℕ, zero, suc, _+_, _*_, _%_, _<_, _≤_}
 use mathlib.Core.List.{List}
 use mathlib.Core.Logic.{inl, inr, ⊎-elim}
-use mathlib.Core.Path.{_≡_, refl, sym, _∙_, ap, subst}
+use mathlib.Core.Bool.{true}
+use mathlib.Core.Path.{_≡_, refl, sym, _∙_, ap, ap₂, subst}
 use native.Mathlib.Nat.{not-suc-le-zero}
 use native.Mathlib.Omega.{arith}
 use lib.ListN.{length, set}
@@ -19,6 +20,7 @@ use Rattle.sheet.specs.Sheet.{
   bidderCount,
   slotCount,
   constraintCount,
+  tickField,
   effectsStart,
   bidsStart,
   constraintsStart,
@@ -29,10 +31,11 @@ use Rattle.sheet.specs.Sheet.{
   otherField,
   otherSlotField,
 }
-use Rattle.sheet.specs.Refusal.{effectBefore, Accepted}
+use Rattle.sheet.specs.Refusal.{effectBefore, legalBid, Accepted}
 use Rattle.sheet.specs.Accepted.{Form, Counts, EffectAccepted, BidAccepted, ConstraintAccepted, AcceptedSheet}
 use Rattle.sheet.specs.Round.{bidder, kindOf, constraintField, blank, roundOf}
-use Rattle.sheet.proofs.AcceptedLaws.{accepted-sheet, sheet-accepted}
+use Rattle.sheet.proofs.HeaderLaws.{start-least, start-same, tick-same}
+use Rattle.sheet.proofs.AcceptedLaws.{accepted-sheet, sheet-accepted, legal-parts, parts-legal}
 use Rattle.auction.specs.Price.{withBid}
 use Rattle.auction.specs.Write.{writeBid}
 
@@ -40,20 +43,24 @@ use Rattle.auction.specs.Write.{writeBid}
 abbrev written : List ℕ → ℕ → ℕ → List ℕ
 written s i x = sets s (bidsStart s + 4 * i) (bytes32 x)
 
--- What an accepted sheet s says after a legal bid is written for bidder i + 1.
-module _ (s : List ℕ) (ok : Accepted s) (i x : ℕ) (most : i < bidderCount s) (low : x ≤ 1_000_000_000) where
+-- What an accepted sheet s says after a bid that four bytes hold is written for bidder i + 1.
+module _ (s : List ℕ) (ok : Accepted s) (i x : ℕ) (most : i < bidderCount s) (fits : x < 4_294_967_296) where
   facts : AcceptedSheet s
   facts = accepted-sheet s ok
+
+  -- the bids stand after the header and an effect at least
+  after-header : 13 ≤ bidsStart s
+  after-header = let least = start-least s in let some = facts .counts .some-slots in omega arith
 
   -- the header is as it was
   same-length : length (written s i x) ≡ length s
   same-length = length-sets s (bidsStart s + 4 * i) (bytes32 x)
 
-  same-byte : (k : ℕ) → k < effectsStart s → byteAt (written s i x) k ≡ byteAt s k
-  same-byte k l = byte-elsewhere s (bidsStart s + 4 * i) x k (inl (omega arith))
+  same-byte : (k : ℕ) → k < 9 → byteAt (written s i x) k ≡ byteAt s k
+  same-byte k l = byte-elsewhere s (bidsStart s + 4 * i) x k (inl (let h = after-header in omega arith))
 
   same-version : version (written s i x) ≡ version s
-  same-version = word16-elsewhere s (bidsStart s + 4 * i) x 3 (inl (omega arith))
+  same-version = word16-elsewhere s (bidsStart s + 4 * i) x 3 (inl (let h = after-header in omega arith))
 
   same-bidders : bidderCount (written s i x) ≡ bidderCount s
   same-bidders = same-byte 5 (omega arith)
@@ -62,19 +69,29 @@ module _ (s : List ℕ) (ok : Accepted s) (i x : ℕ) (most : i < bidderCount s)
   same-slots = same-byte 6 (omega arith)
 
   same-used : constraintCount (written s i x) ≡ constraintCount s
-  same-used = word16-elsewhere s (bidsStart s + 4 * i) x 7 (inl (omega arith))
+  same-used = word16-elsewhere s (bidsStart s + 4 * i) x 7 (inl (let h = after-header in omega arith))
+
+  same-tick : tickField (written s i x) ≡ tickField s
+  same-tick =
+      tick-same (written s i x) s same-version
+      (word32-elsewhere s (bidsStart s + 4 * i) x 9 (inl (let h = after-header in omega arith)))
+
+  same-start : effectsStart (written s i x) ≡ effectsStart s
+  same-start = start-same (written s i x) s same-version
 
   same-bids-start : bidsStart (written s i x) ≡ bidsStart s
-  same-bids-start = let slots = same-slots in omega arith
+  same-bids-start = let start = same-start in let slots = same-slots in omega arith
 
   same-constraints-start : constraintsStart (written s i x) ≡ constraintsStart s
-  same-constraints-start = let slots = same-slots in let bidders = same-bidders in omega arith
+  same-constraints-start = let start = same-bids-start in let bidders = same-bidders in omega arith
 
   -- so are the effects, which stand before the bids,
   same-effect : (k : ℕ) → k ≤ slotCount s → effectField (written s i x) k ≡ effectField s k
   unfolding effectField
   same-effect zero l = refl
-  same-effect (suc k) l = word32-elsewhere s (bidsStart s + 4 * i) x (effectsStart s + 4 * k) (inl (omega arith))
+  same-effect (suc k) l =
+      ap (λ (start : ℕ). word32At (written s i x) (start + 4 * k)) same-start
+      ∙ word32-elsewhere s (bidsStart s + 4 * i) x (effectsStart s + 4 * k) (inl (omega arith))
 
   same-effect-before : (k : ℕ) → k ≤ slotCount s → effectBefore (written s i x) k ≡ effectBefore s k
   same-effect-before zero l = refl
@@ -133,13 +150,13 @@ module _ (s : List ℕ) (ok : Accepted s) (i x : ℕ) (most : i < bidderCount s)
       ap (λ (start : ℕ). word32At (written s i x) (start + 4 * i)) same-bids-start
       ∙ word-of-bytes s (bidsStart s + 4 * i) x (omega arith) (omega arith)
 
-  -- So each fact of acceptance is as it was, and the bid is legal:
+  -- So each fact of acceptance is as it was:
   form-written : Form (written s i x)
   form-written =
       record {
-        header = (let e = same-length in let h = facts .form .header in omega arith);
+        header = (let e = same-length in let start = same-start in let h = facts .form .header in omega arith);
         mark = simp (same-byte 0 (omega arith), same-byte 1 (omega arith), same-byte 2 (omega arith)) (facts .form .mark);
-        first = same-version ∙ facts .form .first;
+        known = ⊎-elim (λ (e : version s ≡ 1). inl (same-version ∙ e)) (λ (e : version s ≡ 2). inr (same-version ∙ e)) (facts .form .known);
       }
 
   counts-written : Counts (written s i x)
@@ -149,6 +166,8 @@ module _ (s : List ℕ) (ok : Accepted s) (i x : ℕ) (most : i < bidderCount s)
       let slots = same-slots in
       let used = same-used in
       let size = same-length in
+      let tick = same-tick in
+      let start = same-start in
       let whole = f .whole in
       record {
         some-bidders = omega arith;
@@ -156,6 +175,8 @@ module _ (s : List ℕ) (ok : Accepted s) (i x : ℕ) (most : i < bidderCount s)
         some-slots = omega arith;
         most-slots = omega arith;
         most-constraints = omega arith;
+        some-tick = omega arith;
+        most-tick = omega arith;
         whole = omega arith;
       }
 
@@ -166,11 +187,17 @@ module _ (s : List ℕ) (ok : Accepted s) (i x : ℕ) (most : i < bidderCount s)
       let before = same-effect-before k l in
       record { some = omega arith; most = omega arith; no-rise = omega arith }
 
-  bid-written : (b : ℕ) → 0 < b → b ≤ bidderCount s → BidAccepted (written s i x) b
-  bid-written b some l =
+  bid-written : legalBid (tickField s) x ≡ true → (b : ℕ) → 0 < b → b ≤ bidderCount s → BidAccepted (written s i x) b
+  bid-written legal b some l =
+      let parts = legal-parts (tickField s) x legal in
       ⊎-elim
-      (λ (q : b ≡ suc i). let e = ap (bidField (written s i x)) q in let own = own-bid in record { most = omega arith })
-      (λ (other : b ≡ suc i → ⊥). let e = same-bid b other in let f = facts .bids b some l in record { most = omega arith })
+      (λ (q : b ≡ suc i).
+      let e = ap (bidField (written s i x)) q ∙ own-bid in
+      record { most = (let low = parts .0 in omega arith); multiple = ap₂ (λ (y t : ℕ). y % t) e same-tick ∙ parts .1 })
+      (λ (other : b ≡ suc i → ⊥).
+      let e = same-bid b other in
+      let f = facts .bids b some l in
+      record { most = (let low = f .most in omega arith); multiple = ap₂ (λ (y t : ℕ). y % t) e same-tick ∙ f .multiple })
       (same-or-not b (suc i))
 
   constraint-written : (k : ℕ) → k < constraintCount s →
@@ -178,15 +205,23 @@ module _ (s : List ℕ) (ok : Accepted s) (i x : ℕ) (most : i < bidderCount s)
   constraint-written k l =
       rw (same-bidders, same-slots, same-owner k, same-own-slot k, same-other k, same-other-slot k) (facts .constraints k l)
 
-  facts-written : AcceptedSheet (written s i x)
-  facts-written =
+  facts-written : legalBid (tickField s) x ≡ true → AcceptedSheet (written s i x)
+  facts-written legal =
       record {
         form = form-written;
         counts = counts-written;
         effects = λ k some l. effect-written k some (subst (λ (m : ℕ). k ≤ m) same-slots l);
-        bids = λ b some l. bid-written b some (subst (λ (n : ℕ). b ≤ n) same-bidders l);
+        bids = λ b some l. bid-written legal b some (subst (λ (n : ℕ). b ≤ n) same-bidders l);
         constraints = λ k l. constraint-written k (subst (λ (c : ℕ). k < c) same-used l);
       }
+
+  -- and where the sheet is accepted, the bid is legal.
+  legal-written : Accepted (written s i x) → legalBid (tickField s) x ≡ true
+  legal-written accepted =
+      let bidders = same-bidders in
+      let f = accepted-sheet (written s i x) accepted .bids (suc i) (omega arith) (omega arith) in
+      let own = own-bid in
+      parts-legal (tickField s) x (let low = f .most in omega arith) (ap₂ (λ (y t : ℕ). y % t) (sym own-bid) (sym same-tick) ∙ f .multiple)
 
   -- The round that the sheet says then is the one with the bid in its row.
   round-written : roundOf (written s i x) ≡ withBid (roundOf s) (suc i) x
@@ -210,26 +245,36 @@ module _ (s : List ℕ) (ok : Accepted s) (i x : ℕ) (most : i < bidderCount s)
         bidders = same-bidders j;
         slots = same-slots j;
         used = same-used j;
+        tick = same-tick j;
         effects = effects j;
         bids = bids j;
         constraints = constraints j;
       }
 
-module _ (s : List ℕ) (ok : Accepted s) (b x : ℕ) (some : 0 < b) (most : b ≤ bidderCount s) (low : x ≤ 1_000_000_000) where
-  -- a legal bid leaves the sheet accepted
-  pub write-accepted : Accepted (writeBid s b x)
+module _ (s : List ℕ) (ok : Accepted s) (b x : ℕ) (some : 0 < b) (most : b ≤ bidderCount s) (fits : x < 4_294_967_296) where
+  -- a legal bid leaves the sheet accepted,
+  pub write-accepted : legalBid (tickField s) x ≡ true → Accepted (writeBid s b x)
   unfolding writeBid
-  write-accepted = by-number b some most
+  write-accepted legal = by-number b some most
     where
       by-number : (b : ℕ) → 0 < b → b ≤ bidderCount s → Accepted (writeBid s b x)
       by-number zero above within = absurd (not-suc-le-zero above)
-      by-number (suc i) above within = sheet-accepted (written s i x) (facts-written s ok i x within low)
+      by-number (suc i) above within = sheet-accepted (written s i x) (facts-written s ok i x within fits legal)
 
-  -- and its round is the round with that bid
+  -- and no other does
+  pub accepted-legal : Accepted (writeBid s b x) → legalBid (tickField s) x ≡ true
+  unfolding writeBid
+  accepted-legal = by-number b some most
+    where
+      by-number : (b : ℕ) → 0 < b → b ≤ bidderCount s → Accepted (writeBid s b x) → legalBid (tickField s) x ≡ true
+      by-number zero above within = absurd (not-suc-le-zero above)
+      by-number (suc i) above within = legal-written s ok i x within fits
+
+  -- the round is then the round with that bid
   pub write-round : roundOf (writeBid s b x) ≡ withBid (roundOf s) b x
   unfolding writeBid
   write-round = by-number b some most
     where
       by-number : (b : ℕ) → 0 < b → b ≤ bidderCount s → roundOf (writeBid s b x) ≡ withBid (roundOf s) b x
       by-number zero above within = absurd (not-suc-le-zero above)
-      by-number (suc i) above within = round-written s ok i x within low
+      by-number (suc i) above within = round-written s ok i x within fits

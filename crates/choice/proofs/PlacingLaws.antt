@@ -10,9 +10,10 @@ use native.Mathlib.Nat.{eq-or-lt-of-le}
 use native.Mathlib.Omega.{arith}
 use lib.Dec.{ltb}
 use lib.ListN.{getD}
+use Rattle.basis.proofs.NumberLaws.{multiple-above}
 use Rattle.basis.proofs.TestLaws.{holds-or-fails, not-both}
 use Rattle.choice.specs.Winner.{ranksNoLower, winner}
-use Rattle.choice.specs.Critical.{criticalAgainst, criticalBid}
+use Rattle.choice.specs.Critical.{InTicks, criticalAgainst, criticalBid}
 use Rattle.choice.specs.EngineBids.{bidIn}
 use Rattle.choice.specs.EngineRanking.{InOrder, NextAt}
 use Rattle.choice.proofs.WinnerLaws.{ranks-cases, ranks-self, wins-winner}
@@ -26,33 +27,34 @@ bid-index bids (suc i) s =
     let q : i ≡ suc i - 1 = omega arith in
     ap (λ (k : ℕ). getD bids k 0) q
 
--- the critical bid against a rival is its bid, and one more where its number is lower
-pub against-sum : (bid : ℕ → ℕ) (w j : ℕ) → criticalAgainst bid w j ≡ bid j + cond (ltb j w) 1 0
+-- the critical bid against a rival is its bid, and one tick more where its number is lower
+pub against-sum : (tick : ℕ) (bid : ℕ → ℕ) (w j : ℕ) → criticalAgainst tick bid w j ≡ bid j + cond (ltb j w) tick 0
 unfolding criticalAgainst
-against-sum bid w j = by-test (ltb j w)
+against-sum tick bid w j = by-test (ltb j w)
   where
-    by-test : (t : Bool) → cond t (suc (bid j)) (bid j) ≡ bid j + cond t 1 0
+    by-test : (t : Bool) → cond t (bid j + tick) (bid j) ≡ bid j + cond t tick 0
     by-test true = omega arith
     by-test false = omega arith
 
 -- against who ranks no lower than a rival it is no less than against the rival
-critical-no-less : (bid : ℕ → ℕ) (w v u : ℕ) → ranksNoLower bid v u ≡ true → criticalAgainst bid w u ≤ criticalAgainst bid w v
-critical-no-less bid w v u h =
-    let least = against-sum bid w v in
+critical-no-less : (tick : ℕ) (bid : ℕ → ℕ) → InTicks tick bid → (w v u : ℕ) → ranksNoLower bid v u ≡ true →
+    criticalAgainst tick bid w u ≤ criticalAgainst tick bid w v
+critical-no-less tick bid in-ticks w v u h =
+    let least = against-sum tick bid w v in
     ⊎-elim
     (λ (t : ltb u w ≡ true).
     let l : u < w = ltb-true u w t in
-    let a = against-lower bid w u l in
+    let a = against-lower tick bid w u l in
     ⊎-elim
-    (λ (k : bid u < bid v). omega arith)
-    (λ (k : (bid u ≡ bid v) × (v ≤ u)). let b = against-lower bid w v (omega arith) in omega arith)
+    (λ (k : bid u < bid v). let m = multiple-above tick (bid u) (bid v) (in-ticks .multiple u) (in-ticks .multiple v) k in omega arith)
+    (λ (k : (bid u ≡ bid v) × (v ≤ u)). let b = against-lower tick bid w v (omega arith) in omega arith)
     (ranks-cases bid v u h))
     (λ (t : ltb u w ≡ false).
-    let a = against-higher bid w u (ltb-false u w t) in
+    let a = against-higher tick bid w u (ltb-false u w t) in
     ⊎-elim (λ (k : bid u < bid v). omega arith) (λ (k : (bid u ≡ bid v) × (v ≤ u)). omega arith) (ranks-cases bid v u h))
     (holds-or-fails (ltb u w))
 
-module _ (eligible : ℕ → Bool) (bid : ℕ → ℕ) (n : ℕ) (ranked : List ℕ) (o : InOrder bid n ranked) where
+module _ (tick : ℕ) (eligible : ℕ → Bool) (bid : ℕ → ℕ) (in-ticks : InTicks tick bid) (n : ℕ) (ranked : List ℕ) (o : InOrder bid n ranked) where
   -- the bidder at an index ranks no lower than that at any later one
   order-at : (i j : ℕ) → i ≤ j → j < n → ranksNoLower bid (getD ranked i 0) (getD ranked j 0) ≡ true
   order-at i j m l =
@@ -119,10 +121,10 @@ module _ (eligible : ℕ → Bool) (bid : ℕ → ℕ) (n : ℕ) (ranked : List 
           (eq-or-lt-of-le (p .3))
 
       -- where there is none, the critical bid is 0
-      pub no-rival-costs : s ≡ n → criticalBid eligible bid (getD ranked f 0) n ≡ 0
+      pub no-rival-costs : s ≡ n → criticalBid tick eligible bid (getD ranked f 0) n ≡ 0
       no-rival-costs q =
           let a =
-          critical-within eligible bid (getD ranked f 0) n 0
+          critical-within tick eligible bid (getD ranked f 0) n 0
           (λ b z m e d.
           let p = rival-stands b z m e d in
           let h : p .0 < n = p .1 in
@@ -131,16 +133,16 @@ module _ (eligible : ℕ → Bool) (bid : ℕ → ℕ) (n : ℕ) (ranked : List 
           omega arith
 
       -- and else the bidder there sets it
-      pub second-sets : s < n → criticalBid eligible bid (getD ranked f 0) n ≡ criticalAgainst bid (getD ranked f 0) (getD ranked s 0)
+      pub second-sets : s < n → criticalBid tick eligible bid (getD ranked f 0) n ≡ criticalAgainst tick bid (getD ranked f 0) (getD ranked s 0)
       second-sets h =
           let w = getD ranked f 0 in
           let v = getD ranked s 0 in
-          let most : criticalBid eligible bid w n ≤ criticalAgainst bid w v =
-          critical-within eligible bid w n (criticalAgainst bid w v)
+          let most : criticalBid tick eligible bid w n ≤ criticalAgainst tick bid w v =
+          critical-within tick eligible bid w n (criticalAgainst tick bid w v)
           (λ b z m e d.
           let p = rival-stands b z m e d in
-          critical-no-less bid w v b (subst (λ (u : ℕ). ranksNoLower bid v u ≡ true) (p .2) (order-at s (p .0) (p .3) (p .1)))) in
-          let least : criticalAgainst bid w v ≤ criticalBid eligible bid w n =
-          critical-covers eligible bid w n v (o .some s h .0) (o .some s h .1) (second .here h)
+          critical-no-less tick bid in-ticks w v b (subst (λ (u : ℕ). ranksNoLower bid v u ≡ true) (p .2) (order-at s (p .0) (p .3) (p .1)))) in
+          let least : criticalAgainst tick bid w v ≤ criticalBid tick eligible bid w n =
+          critical-covers tick eligible bid w n v (o .some s h .0) (o .some s h .1) (second .here h)
           (λ q. let k = second .low in o .order f s (omega arith) h .1 (sym q)) in
           omega arith
