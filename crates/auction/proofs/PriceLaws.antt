@@ -326,3 +326,6 @@ paid-low r k (suc i) proper =
 pub price-low : (r : Round) (k : ℕ) → ProperRound r → price r k ≤ 1_000_000_000
 unfolding price
 price-low r k proper = paid-low r k (at (greedyPage r) k) proper
+
+-- a price is a multiple of the tick
+pub price-multiple : (r : Round) (k : ℕ) → ProperRound r → price r (suc k) % r .tick ≡ 0

@@ -1,29 +1,31 @@
 -- Demand 2, first half: what a result says is the round's greedy page with its prices, and a price written into the sheet's bytes is the
 -- replay's round. Assumes nothing.
-use Prim.Native.Nat.{ℕ, zero, suc, _*_, _<_, _≤_}
+use Prim.Native.Nat.{ℕ, zero, suc, _*_, _%_, _<_, _≤_}
 use borrow.Author.Tests.{le-ltb}
 use mathlib.Core.List.{List}
 use mathlib.Core.Logic.{⊎-elim}
-use mathlib.Core.Path.{_≡_, sym, _∙_, ap}
+use mathlib.Core.Bool.{true}
+use mathlib.Core.Path.{_≡_, sym, _∙_, ap, ap₂, subst}
 use native.Mathlib.Nat.{not-suc-le-zero}
 use native.Mathlib.Omega.{arith}
 use lib.ListN.{length}
 use Rattle.basis.proofs.FirstLaws.{orElse-right, answered-gives}
 use Rattle.basis.proofs.NumberLaws.{same-or-not}
 use Rattle.sheet.specs.declared.Round.{Round}
-use Rattle.sheet.specs.Sheet.{bidderCount, slotCount, bidField}
-use Rattle.sheet.specs.Refusal.{refusalOf, Accepted}
+use Rattle.sheet.specs.Sheet.{bidderCount, slotCount, tickField, bidField}
+use Rattle.sheet.specs.Refusal.{legalBid, refusalOf, Accepted}
 use Rattle.sheet.specs.Proper.{ProperRound}
 use Rattle.sheet.specs.Round.{roundOf}
-use Rattle.sheet.proofs.RoundLaws.{round-proper, round-bid, round-bidders, round-slots}
+use Rattle.sheet.proofs.AcceptedLaws.{legal-parts}
+use Rattle.sheet.proofs.RoundLaws.{round-proper, round-bid, round-bidders, round-slots, round-tick}
 use Rattle.auction.specs.Page.{at}
 use Rattle.auction.specs.Greedy.{winnerAt, pageUpTo, greedyPage}
 use Rattle.auction.specs.Price.{price, withBid}
 use Rattle.auction.specs.Write.{writeBid}
 use Rattle.auction.proofs.FilledLaws.{greedy-allowed, greedy-filled}
 use Rattle.auction.proofs.GreedyLaws.{slot-winner, upTo-bidders}
-use Rattle.auction.proofs.PriceLaws.{with-slots, price-at-most-bid, price-wins, smaller-loses, empty-costs-nothing, price-low}
-use Rattle.auction.proofs.WriteLaws.{write-accepted, write-round}
+use Rattle.auction.proofs.PriceLaws.{with-slots, price-at-most-bid, price-legal, price-wins, smaller-loses, empty-costs-nothing, price-low, price-multiple}
+use Rattle.auction.proofs.WriteLaws.{write-accepted, accepted-legal, write-round}
 use Rattle.play.specs.Play.{playRefusal, playedBuffer, Played, bidderSaid, priceSaid}
 use Rattle.play.proofs.SaidLaws.{bidder-said, price-said}
 use Rattle.demands.specs.Demands.{PricedRight, PlayedRight}
@@ -84,17 +86,18 @@ module _ (s : List ℕ) (ok : Accepted s) (w k : ℕ) (inside : suc k ≤ slotCo
   pub paid-at-most : price r (suc k) ≤ bidField s w
   paid-at-most =
       let e = round-bid s ok w bidder-of in
-      let p = price-at-most-bid r k w (proper .most-slots) within has-bid some won in
+      let p = price-at-most-bid r k w proper within has-bid some won in
       omega arith
 
-  -- the sheet with a legal number written for the winner
-  module _ (x : ℕ) (low : x ≤ 1_000_000_000) (out out′ : List ℕ) (number : ℕ) (room : 5 * slotCount s ≤ length out)
-      (played : Played (writeBid s w x) out number out′) where
-    written : Accepted (writeBid s w x)
-    written = write-accepted s ok w x some bidder-of low
+  -- the price is legal, and so is every number that the sheet would accept
+  pub paid-legal : legalBid (tickField s) (price r (suc k)) ≡ true
+  paid-legal = ap (λ (t : ℕ). legalBid t (price r (suc k))) (sym (round-tick s)) ∙ price-legal r k w proper within has-bid some won
 
+  -- the sheet with a legal number written for the winner
+  module _ (x : ℕ) (fits : x < 4_294_967_296) (written : Accepted (writeBid s w x)) (out out′ : List ℕ) (number : ℕ)
+      (room : 5 * slotCount s ≤ length out) (played : Played (writeBid s w x) out number out′) where
     same : roundOf (writeBid s w x) ≡ withBid r w x
-    same = write-round s ok w x some bidder-of low
+    same = write-round s ok w x some bidder-of fits
 
     same-slots : slotCount (writeBid s w x) ≡ slotCount s
     same-slots = sym (round-slots (writeBid s w x)) ∙ ap (λ (q : Round). q .slots) same ∙ with-slots r w x ∙ round-slots s
@@ -109,10 +112,16 @@ module _ (s : List ℕ) (ok : Accepted s) (w k : ℕ) (inside : suc k ≤ slotCo
 
   -- what it must bid, and what is not enough, in the replay
   pub price-replayed : at (greedyPage (withBid r w (price r (suc k)))) (suc k) ≡ w
-  price-replayed = price-wins r k w (proper .most-slots) within has-bid some won
+  price-replayed = price-wins r k w proper within has-bid some won
 
-  pub smaller-replayed : (x : ℕ) → x < price r (suc k) → at (greedyPage (withBid r w x)) (suc k) ≡ w → ⊥
-  smaller-replayed = smaller-loses r k w (proper .most-slots) within has-bid some won
+  pub price-written : price r (suc k) < 4_294_967_296 → Accepted (writeBid s w (price r (suc k)))
+  price-written fits = write-accepted s ok w (price r (suc k)) some bidder-of fits paid-legal
+
+  pub smaller-replayed : (x : ℕ) → x < 4_294_967_296 → Accepted (writeBid s w x) → x < price r (suc k) →
+      at (greedyPage (withBid r w x)) (suc k) ≡ w → ⊥
+  smaller-replayed x fits written less =
+      smaller-loses r k w proper within has-bid some won x less
+      (ap (λ (t : ℕ). legalBid t x) (round-tick s) ∙ accepted-legal s ok w x some bidder-of fits written)
 
 -- What a result says of an accepted sheet.
 module _ (s out out′ : List ℕ) (number : ℕ) (ok : Accepted s) (room : 5 * slotCount s ≤ length out) (played : Played s out number out′) where
@@ -134,18 +143,23 @@ module _ (s out out′ : List ℕ) (number : ℕ) (ok : Accepted s) (room : 5 * 
             let most = paid-at-most s ok (bidderSaid out′ (suc k)) k l (sym who) (omega arith) in
             omega arith)
             (same-or-not (bidderSaid out′ (suc k)) 0);
-        wins = λ h other other′ number′ room′ again. (
-          replay-number s ok w k l (sym who) (omega arith) p (omega arith) other other′ number′ room′ again,
-          replay-says s ok w k l (sym who) (omega arith) p (omega arith) other other′ number′ room′ again
+        multiple =
+            ap₂ (λ (x t : ℕ). x % t) pays (sym (round-tick s))
+            ∙ price-multiple (roundOf s) (suc k) (round-proper s ok);
+        wins = λ h other other′ number′ room′ again.
+            let written : Accepted (writeBid s w p)
+            = subst (λ (x : ℕ). Accepted (writeBid s w x)) (sym pays) (price-written s ok w k l (sym who) (omega arith) (omega arith)) in (
+          replay-number s ok w k l (sym who) (omega arith) p (omega arith) written other other′ number′ room′ again,
+          replay-says s ok w k l (sym who) (omega arith) p (omega arith) written other other′ number′ room′ again
               ∙ ap (λ (x : ℕ). at (greedyPage (withBid (roundOf s) w x)) (suc k)) pays
               ∙ price-replayed s ok w k l (sym who) (omega arith),
         );
-        smaller-loses = λ x less other other′ number′ room′ again.
+        smaller-loses = λ x less written other other′ number′ room′ again.
             let h : bidderSaid out′ (suc k) ≡ 0 → ⊥ = (λ z. absurd (let e = nothing z in omega arith)) in (
-              replay-number s ok w k l (sym who) (omega arith) x (omega arith) other other′ number′ room′ again,
+              replay-number s ok w k l (sym who) (omega arith) x (omega arith) written other other′ number′ room′ again,
               λ e.
-                  smaller-replayed s ok w k l (sym who) (omega arith) x (omega arith)
-                  (sym (replay-says s ok w k l (sym who) (omega arith) x (omega arith) other other′ number′ room′ again) ∙ e),
+                  smaller-replayed s ok w k l (sym who) (omega arith) x (omega arith) written (omega arith)
+                  (sym (replay-says s ok w k l (sym who) (omega arith) x (omega arith) written other other′ number′ room′ again) ∙ e),
             );
       }
 

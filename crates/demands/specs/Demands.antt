@@ -1,7 +1,7 @@
 -- The three demands, over the contracts of the five calls that programs link (pas/src/lib.rt), and then what the requests of document 02 that have
 -- landed add. Each call promises one record or equation, for every input; here is what follows for a reader, and the proofs are in proofs/Demands.antt. Lists of
 -- numbers are bytes; s is a sheet, out and out′ are a result buffer before and after a call, `number` is what a call returns.
-use Prim.Native.Nat.{ℕ, suc, _*_, _<_, _≤_}
+use Prim.Native.Nat.{ℕ, suc, _*_, _%_, _<_, _≤_}
 use mathlib.Core.Bool.{true, false, not, _&&_, _||_}
 use mathlib.Core.List.{List, _++_}
 use mathlib.Core.Path.{_≡_}
@@ -11,7 +11,7 @@ use lib.Signed.{_≤ℤ_}
 use Rattle.basis.specs.Rows.{row}
 use Rattle.sheet.specs.declared.Page.{Page}
 use Rattle.sheet.specs.declared.Round.{Round}
-use Rattle.sheet.specs.Sheet.{bidderCount, slotCount, bidField}
+use Rattle.sheet.specs.Sheet.{version, bidderCount, slotCount, tickField, bidField}
 use Rattle.sheet.specs.Refusal.{refusalOf, Accepted}
 use Rattle.sheet.specs.Round.{roundOf}
 use Rattle.auction.specs.declared.Eligibility.{Eligibility}
@@ -43,32 +43,35 @@ pub record Owed (number first : ℕ) (unchanged result : Type 0) : Type 0 where
   pub answered : number ≡ 0 → result
 
 pub record DemandOne : Type 0 where
-  -- pas_check, 1 to 13: the contract itself, and an accepted sheet is one without a number
+  -- pas_check, 1 to 13, 26, 27: the contract itself, and an accepted sheet is one without a number
   pub check : (s : List ℕ) (number : ℕ) → number ≡ refusalOf s → Owed number (refusalOf s) Unit (Accepted s)
-  -- pas_play, 1 to 13, 19
+  -- pas_play, those of pas_check, 19
   pub play : (s out out′ : List ℕ) (number : ℕ) → Played s out number out′ →
       Owed number (playRefusal s out) (out′ ≡ out) (out′ ≡ playedBuffer (roundOf s) out)
-  -- pas_downward, 1 to 13, 16
+  -- pas_downward, those of pas_check, 16
   pub downward : (s : List ℕ) (i before number after : ℕ) → DownwardGiven s i before number after →
       Owed number (testRefusal s i) (after ≡ before) (after ≡ yesNumber (downward (roundOf s) i))
-  -- pas_gain, 1 to 17
+  -- pas_gain, those of pas_check, 14 to 17
   pub gain : (s t : List ℕ) (i worth : ℕ) (before : ℤ) (number : ℕ) (after : ℤ) → GainGiven s t i worth before number after →
       Owed number (gainRefusal s t i worth) (after ≡ before) (after ≡ gainOf (roundOf s) (roundOf t) i worth)
-  -- pas_best, 1 to 13, 18, 19
+  -- pas_best, those of pas_check, 18, 19
   pub best : (s out out′ : List ℕ) (before number after : ℕ) → BestPageGiven s out before number out′ after →
       Owed number (bestRefusal s out) ((out′ ≡ out) × (after ≡ before))
       ((out′ ≡ bestBuffer (roundOf s) out) × (after ≡ total (roundOf s) (bestPage (roundOf s))))
 
 -- DEMAND 2. "The page is the greedy page. A price is the smallest bid with which its winner, all else unchanged, still wins that place. Up to 8
--- bidders and 8 places, the best page breaks no condition and no other such page has a larger total."
+-- bidders and 8 places, the best page breaks no condition and no other such page has a larger total." With request S-4 "a price becomes the smallest
+-- bid that the sheet would accept and that still wins the place".
 
--- The price that a result says for slot k, with w the bidder there: at most w's bid (an empty slot's bid is 0); playing the sheet with the
--- price written for w, into any buffer with room, gives w the slot; playing it with any smaller number written does not.
+-- The price that a result says for slot k, with w the bidder there: at most w's bid (an empty slot's bid is 0), and a multiple of the tick; playing the
+-- sheet with the price written for w, into any buffer with room, is not refused and gives w the slot; playing it with any smaller number written that
+-- the sheet would accept does not.
 pub record PricedRight (s result : List ℕ) (k : ℕ) : Type 0 where
   pub at-most-bid : priceSaid result k ≤ bidField s (bidderSaid result k)
+  pub multiple : priceSaid result k % tickField s ≡ 0
   pub wins : (bidderSaid result k ≡ 0 → ⊥) → (again again′ : List ℕ) (number : ℕ) → 5 * slotCount s ≤ length again →
       Played (writeBid s (bidderSaid result k) (priceSaid result k)) again number again′ → (number ≡ 0) × (bidderSaid again′ k ≡ bidderSaid result k)
-  pub smaller-loses : (x : ℕ) → x < priceSaid result k → (again again′ : List ℕ) (number : ℕ) → 5 * slotCount s ≤ length again →
+  pub smaller-loses : (x : ℕ) → x < priceSaid result k → Accepted (writeBid s (bidderSaid result k) x) → (again again′ : List ℕ) (number : ℕ) → 5 * slotCount s ≤ length again →
       Played (writeBid s (bidderSaid result k) x) again number again′ → (number ≡ 0) × (bidderSaid again′ k ≡ bidderSaid result k → ⊥)
 
 -- What a result says of an accepted sheet: a page of the round that breaks no condition, each slot filled by the greedy rule and priced right.
@@ -97,7 +100,7 @@ pub record DemandTwo : Type 0 where
 -- DEMAND 3. "A bidder that lists its true conditions (of any kind) and bids at most its worth gains at least as much as with any downward
 -- monotonic list sent instead, whatever the others do."
 
--- An honest sheet and one sent instead are accepted and differ only in bidder i's list, and `pas_downward` answers 1 for i's list in the latter. At any worth from i's bid up,
+-- An honest sheet and one sent instead are accepted and differ only in bidder i's list (their ticks are equal too), and `pas_downward` answers 1 for i's list in the latter. At any worth from i's bid up,
 -- `pas_gain` with the honest sheet as truth refuses neither sheet, and gives with the honest one played at least what it gives with the other.
 unfoldable pub DemandThree : Type 0
 DemandThree =
@@ -130,3 +133,23 @@ pub record RequestThree : Type 0 where
   -- winner are broken."
   pub sentence : (r : Round) (p : Page) (k b : ℕ) →
       eligible r p k b ≡ (not (placed p b) && not (breaksOwn r (put p k b) b || breaksEarlier r p (put p k b)))
+
+-- REQUEST S-4. "Sheet version 2 has a 4-byte tick after the condition count …; version 1 means tick 1 … Every bid is a multiple of the tick. A price
+-- becomes the smallest bid that the sheet would accept and that still wins the place … for the last, both sheets have the same tick." Demands 1 to 3 are
+-- for both versions; the price is `PricedRight` above.
+pub record RequestFour : Type 0 where
+  -- version 1 means tick 1; so, in demand 3, one sheet may be of version 1 and the other of version 2 with tick 1
+  pub version-one : (s : List ℕ) → version s ≡ 1 → tickField s ≡ 1
+  -- an accepted sheet of either version has a tick of 1 to 1,000,000,000, of which every bid is a multiple
+  pub in-ticks : (s : List ℕ) → Accepted s →
+      (0 < tickField s) × (tickField s ≤ 1_000_000_000) × ((i : ℕ) → 0 < i → i ≤ bidderCount s → bidField s i % tickField s ≡ 0)
+  -- the bids that an accepted sheet would accept for a bidder: just the multiples of the tick up to 1,000,000,000
+  pub would-accept : (s : List ℕ) (i x : ℕ) → Accepted s → 0 < i → i ≤ bidderCount s → x < 4_294_967_296 →
+      Exactly (Accepted (writeBid s i x)) ((x ≤ 1_000_000_000) × (x % tickField s ≡ 0))
+  -- "14 covers a truth sheet breaking these too"
+  pub truth-refused : (s t : List ℕ) (i worth : ℕ) (before : ℤ) (number : ℕ) (after : ℤ) → GainGiven s t i worth before number after →
+      Accepted s → (refusalOf t ≡ 0 → ⊥) → number ≡ 14
+  -- and a truth sheet of another tick is not refused
+  pub another-tick : (s t : List ℕ) (i worth : ℕ) (before : ℤ) (number : ℕ) (after : ℤ) → GainGiven s t i worth before number after →
+      Accepted s → Accepted t → bidderCount t ≡ bidderCount s → slotCount t ≡ slotCount s → 0 < i → i ≤ bidderCount s → worth ≤ 1_000_000_000 →
+      number ≡ 0

@@ -1,6 +1,6 @@
 -- The page and its prices, slot after slot: while slots 1 to k are filled, the marks know the page so far, and so tell who is eligible for the
 -- next slot; its winner and the winner's critical bid are the slot's entry. Assumes nothing.
-use Prim.Native.Nat.{ℕ, zero, suc, _-_, _<_, _≤_}
+use Prim.Native.Nat.{ℕ, zero, suc, _-_, _%_, _<_, _≤_}
 use mathlib.Core.Bool.{Bool, _||_}
 use mathlib.Core.List.{List}
 use mathlib.Core.Logic.{⊎-elim}
@@ -15,6 +15,7 @@ use Rattle.sheet.specs.declared.Page.{Page}
 use Rattle.sheet.specs.declared.Round.{Round}
 use Rattle.sheet.specs.Round.{bidOf, roundOf}
 use Rattle.sheet.specs.Proper.{ProperRound}
+use Rattle.choice.specs.Critical.{InTicks}
 use Rattle.choice.specs.EngineBids.{bidIn}
 use Rattle.choice.proofs.WinnerLaws.{winner-same}
 use Rattle.choice.proofs.CriticalLaws.{critical-same, critical-nobody}
@@ -48,7 +49,7 @@ filled-start r c =
 
 module _ (r : Round) (c : ProperRound r) (k : ℕ) (inside : k < r .slots) (barred held : List ℕ) (page : Page) (prices : List ℕ)
     (f : Filled r k barred held page prices) (w paid : ℕ)
-    (awarded : Awarded (eligible r (pageUpTo r k) (suc k)) (bidIn (r .bids)) (r .bidders) w paid) where
+    (awarded : Awarded (r .tick) (eligible r (pageUpTo r k) (suc k)) (bidIn (r .bids)) (r .bidders) w paid) where
   abbrev p : Page
   p = pageUpTo r k
 
@@ -67,20 +68,20 @@ module _ (r : Round) (c : ProperRound r) (k : ℕ) (inside : k < r .slots) (barr
   -- what is paid is the price of document 01
   paid-price : paid ≡ price r (suc k)
   paid-price =
-      let critical = critical-same (eligible r p (suc k)) (eligible r p (suc k)) (bidIn (r .bids)) (bidOf r) (r .bidders) w (λ j d s m. refl)
+      let critical = critical-same (r .tick) (eligible r p (suc k)) (eligible r p (suc k)) (bidIn (r .bids)) (bidOf r) (r .bidders) w (λ j d s m. refl)
       (λ j d s m. bid-in r j) in
       let here = slot-winner r few k inside in
       ⊎-elim
       (λ (z : w ≡ 0).
       awarded .paid-as
       ∙ critical
-      ∙ critical-nobody (eligible r p (suc k)) (bidOf r) w (r .bidders) (empty-nobody r p (suc k) (sym won-slot ∙ z))
+      ∙ critical-nobody (r .tick) (eligible r p (suc k)) (bidOf r) w (r .bidders) (empty-nobody r p (suc k) (sym won-slot ∙ z))
       ∙ sym (empty-costs-nothing r (suc k) (here ∙ sym won-slot ∙ z)))
       (λ (s : w ≡ 0 → ⊥).
       let most = winner-bidder r p (suc k) in
       let has-bid : w ≤ length (r .bids)
       = (let e = won-slot in let h = c .sized-bids in let m = c .most-bidders in omega arith) in
-      awarded .paid-as ∙ critical ∙ sym (price-critical r k w few inside has-bid (omega arith) (sym won-slot)))
+      awarded .paid-as ∙ critical ∙ sym (price-critical r k w c inside has-bid (omega arith) (sym won-slot)))
       (same-or-not w 0)
 
   next : pageUpTo r (suc k) ≡ put p (suc k) w
@@ -110,7 +111,8 @@ module _ (r : Round) (c : ProperRound r) (k : ℕ) (inside : k < r .slots) (barr
       }
 
 -- The same of what is lent, at the slot that comes next.
-module _ (r : Round) (s : List ℕ) (start : ℕ) (last links bids : List ℕ) (bidders slots : ℕ) (lent : Lent r s start last links bids bidders slots) where
+module _ (r : Round) (s : List ℕ) (start : ℕ) (last links bids : List ℕ) (bidders slots tick : ℕ)
+    (lent : Lent r s start last links bids bidders slots tick) where
   pub lent-few : (bidders ≤ 64) × (length bids ≡ 64) × (slots ≤ 16)
   lent-few =
       let n = lent .bidders-are in
@@ -119,16 +121,24 @@ module _ (r : Round) (s : List ℕ) (start : ℕ) (last links bids : List ℕ) (
       let room = lent .proper .most-slots in
       (omega arith, ap length (lent .bids-are) ∙ lent .proper .sized-bids, omega arith)
 
-  pub lent-low : (b : ℕ) → bidIn bids b ≤ 1_000_000_000
-  lent-low b =
-      let e : bidIn bids b ≡ bidOf r b = ap (λ (bs : List ℕ). bidIn bs b) (lent .bids-are) ∙ bid-in r b in
-      let m = lent .proper .most-bid b in
-      omega arith
+  lent-bid : (b : ℕ) → bidIn bids b ≡ bidOf r b
+  lent-bid b = ap (λ (bs : List ℕ). bidIn bs b) (lent .bids-are) ∙ bid-in r b
+
+  pub lent-in-ticks : InTicks tick (bidIn bids)
+  lent-in-ticks =
+      let proper = lent .proper in
+      let same = lent .tick-is in
+      record {
+        some-tick = (let t = proper .some-tick in omega arith);
+        most-tick = (let t = proper .most-tick in omega arith);
+        most-bid = λ b. (let e = lent-bid b in let m = proper .most-bid b in omega arith);
+        multiple = λ b. ap₂ (λ (x t : ℕ). x % t) (lent-bid b) (lent .tick-is) ∙ proper .in-ticks b;
+      }
 
   module _ (barred held : List ℕ) (page : Page) (prices : List ℕ) (w paid : ℕ) where
     -- what an award promises
     abbrev Award : ℕ → Type 0
-    Award k = (q : Round) (p : Page) → SoFar q p s barred held k → Awarded (eligible q p k) (bidIn bids) bidders w paid
+    Award k = (q : Round) (p : Page) → SoFar q p s barred held k → Awarded tick (eligible q p k) (bidIn bids) bidders w paid
 
     inside-at : (k : ℕ) → suc k ≤ slots → k < r .slots
     inside-at k most = let e = lent .slots-are in omega arith
@@ -150,11 +160,9 @@ module _ (r : Round) (s : List ℕ) (start : ℕ) (last links bids : List ℕ) (
 
     -- the award, promised for every page so far, for the round's own
     awarded-of : (k : ℕ) → suc k ≤ slots → Filled r k barred held page prices → Award (suc k) →
-        Awarded (eligible r (pageUpTo r k) (suc k)) (bidIn (r .bids)) (r .bidders) w paid
+        Awarded (r .tick) (eligible r (pageUpTo r k) (suc k)) (bidIn (r .bids)) (r .bidders) w paid
     awarded-of k most f a =
-        subst (λ (bs : List ℕ). Awarded (eligible r (pageUpTo r k) (suc k)) (bidIn bs) (r .bidders) w paid) (lent .bids-are)
-        (subst (λ (n : ℕ). Awarded (eligible r (pageUpTo r k) (suc k)) (bidIn bids) n w paid) (lent .bidders-are)
-        (a r (pageUpTo r k) (so-far k most f)))
+        rw (sym (lent .bids-are), sym (lent .bidders-are), sym (lent .tick-is)) (a r (pageUpTo r k) (so-far k most f))
 
     -- and so the marks
     settled-of : (k : ℕ) (barred′ held′ : List ℕ) → Settled (roundOf s) w k barred held barred′ held′ → Settled r w k barred held barred′ held′

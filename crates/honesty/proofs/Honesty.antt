@@ -13,7 +13,7 @@ use Rattle.basis.proofs.RowLaws.{padded-same}
 use Rattle.sheet.specs.Sheet.{bidderCount, slotCount, effectField, bidField}
 use Rattle.sheet.specs.Refusal.{refusalOf, Accepted}
 use Rattle.sheet.specs.Round.{roundOf, bidOf, effectOf}
-use Rattle.sheet.proofs.RoundLaws.{round-bidders, round-slots, round-bid, round-proper, sheet-round, round-sheet}
+use Rattle.sheet.proofs.RoundLaws.{round-bidders, round-slots, round-tick, round-bid, round-proper, sheet-round, round-sheet}
 use Rattle.auction.specs.Except.{Except}
 use Rattle.gain.specs.Gain.{gainOf}
 use Rattle.gain.specs.Call.{laterRefusal, gainRefusal, gainedFor, gainedOf}
@@ -41,8 +41,8 @@ effects-of s t m f (suc k) =
     (padded-same (λ k. effectField s (suc k)) (λ k. effectField t (suc k)) (slotCount s) 16 0 (λ k l. f (suc k) (omega arith) l)
     ∙ ap (λ (j : ℕ). padded (λ k. effectField t (suc k)) j 16 0) m)
 
--- a call on accepted sheets of the same n and m, with a bidder and a worth in range, is not refused
-not-refused : (s t : List ℕ) (i v : ℕ) → Accepted s → Accepted t → bidderCount t ≡ bidderCount s → slotCount t ≡ slotCount s →
+-- a call on accepted sheets of the same n and m, with a bidder and a worth in range, is not refused, whatever their ticks
+pub not-refused : (s t : List ℕ) (i v : ℕ) → Accepted s → Accepted t → bidderCount t ≡ bidderCount s → slotCount t ≡ slotCount s →
     0 < i → i ≤ bidderCount s → v ≤ 1_000_000_000 → gainRefusal s t i v ≡ 0
 unfolding gainRefusal laterRefusal
 not-refused s t i v ok ok′ n m some within low =
@@ -66,6 +66,7 @@ rounds-except i s t ok ok′ d =
     record {
       bidders = round-bidders s ∙ d .same-n ∙ sym (round-bidders t);
       slots = round-slots s ∙ d .same-m ∙ sym (round-slots t);
+      ticks = round-tick s ∙ d .same-tick ∙ sym (round-tick t);
       bids = λ a e. bids-of s t (d .same-n) (d .same-bids) a;
       there = λ q e h. sheet-round t ok′ q (d .there q e (round-sheet s ok q h));
       back = λ q e h. sheet-round s ok q (d .back q e (round-sheet t ok′ q h));

@@ -204,7 +204,7 @@ module _ (r : Round) (c : ProperRound r) (i : ℕ) (some : 0 < i) where
           let won = slot-won r c i some k e in
           let sized = c .sized-bids in
           let many = c .most-bidders in
-          let paid = price-at-most-bid r k i (c .most-slots) (won .0) (omega arith) some (won .1) in (
+          let paid = price-at-most-bid r k i c (won .0) (omega arith) some (won .1) in (
             effectOf r (suc k) * (v - price r (suc k)),
             ap (λ (s : ℕ). gainAt s r r i v) e
                 ∙ ap (λ (t : Bool). gainIf t (effectOf r (suc k)) v (price r (suc k))) (true-unbroken r c i some)
@@ -242,7 +242,7 @@ honest-pays r r′ i v c c′ x same-bid same-effects down some within low = by-
         let many = c .most-bidders in
         let inside : k < r .slots = (let l = won .0 in omega arith) in
         let paid : price r (suc k) ≡ price r′ (suc k)
-        = price-except r r′ k i x (c .most-slots) inside some (omega arith) (omega arith)
+        = price-except r r′ k i x c c′ inside some (omega arith) (omega arith)
         (same-before r r′ i c c′ x same-bid some down k (won .0) (won .1)) won-honest (won .1) in
         let equal : gainOf r′ r i v ≡ gainOf r r i v
         = here

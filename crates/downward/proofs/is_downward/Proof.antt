@@ -9,19 +9,20 @@ use Rattle.sheet.specs.Sheet.{bidderCount}
 use Rattle.sheet.specs.Round.{roundOf}
 use Rattle.sheet.proofs.AcceptedLaws.{accepted-sheet}
 use Rattle.sheet.proofs.RoundLaws.{round-proper}
+use Rattle.sheet_read.proofs.RoomLaws.{room}
 use Rattle.basis.proofs.RowLaws.{zeros}
 use Rattle.downward.proofs.ListedLaws.{sheet-part-below, first-sets, downward-listed}
 use Rattle.downward.proofs.is_downward.Statement.{statement}
 use Rattle.downward.proofs.is_downward.Tie as tie
 
 shared-slice-read-bidders : tie.Need-shared-slice-read-bidders
-shared-slice-read-bidders c = (let size = accepted-sheet _ (c .before .before .pre) .form .header in omega arith)
+shared-slice-read-bidders c = omega (arith, room _ (c .before .before .pre))
 
 cast-bidders : tie.Need-cast-bidders
 cast-bidders c = (let few = accepted-sheet _ (c .before .before .pre) .counts .most-bidders in omega arith)
 
 shared-slice-read-slots : tie.Need-shared-slice-read-slots
-shared-slice-read-slots c = (let size = accepted-sheet _ (c .before .before .before .pre) .form .header in omega arith)
+shared-slice-read-slots c = omega (arith, room _ (c .before .before .before .pre))
 
 cast-slots : tie.Need-cast-slots
 cast-slots c = (let few = accepted-sheet _ (c .before .before .before .pre) .counts .most-slots in omega arith)

@@ -5,6 +5,7 @@ use mathlib.Core.Path.{sym, _∙_, ap}
 use native.Mathlib.Omega.{arith}
 use Rattle.sheet.specs.Refusal.{Accepted}
 use Rattle.sheet.proofs.AcceptedLaws.{accepted-sheet}
+use Rattle.sheet_read.proofs.RoomLaws.{room}
 use Rattle.downward.proofs.CallLaws.{sheet-refused, no-bidder, bidder-above, list-tested}
 use borrow.Author.Needs.{needs}
 use Rattle.downward.proofs.test.Statement.{statement}
@@ -22,8 +23,7 @@ shared-slice-read-bidders : tie.Need-shared-slice-read-bidders
 shared-slice-read-bidders c =
     let s = c .before .before .before .before .args .sheet .now in
     let ok : Accepted s = sym (c .before .before .check .ensures) ∙ c .before .if1 .left in
-    let size = accepted-sheet s ok .form .header in
-    omega arith
+    omega (arith, room s ok)
 
 cast-bidders : tie.Need-cast-bidders
 cast-bidders c =

@@ -8,7 +8,7 @@ use native.Mathlib.Omega.{arith}
 use borrow.Author.Needs.{needs}
 use Rattle.basis.specs.Bytes.{word32At}
 use Rattle.sheet.specs.Sheet.{effectsStart, effectField}
-use Rattle.sheet.proofs.AcceptedLaws.{accepted-sheet}
+use Rattle.sheet_read.proofs.RoomLaws.{room}
 use Rattle.sheet_read.proofs.effect_at.Statement.{statement}
 use Rattle.sheet_read.proofs.effect_at.Tie as tie
 
@@ -24,20 +24,35 @@ cast-index c = search needs
 sub-index : tie.Need-sub-index
 sub-index c = search needs
 
+effects-start-requires : tie.Need-effects-start-requires
+effects-start-requires c κs = omega (arith, room _ (c .before .before .pre .0))
+
 mul-word32 : tie.Need-mul-word32
 mul-word32 c = search needs
 
 add-word32 : tie.Need-add-word32
-add-word32 c = search needs
+add-word32 c = omega (arith, room _ (c .before .before .before .pre .0))
 
 word32-requires : tie.Need-word32-requires
-word32-requires c κs = omega (arith, accepted-sheet _ (c .before .before .pre .0) .counts)
+word32-requires c κs = omega (arith, room _ (c .before .before .before .pre .0))
 
 returns : tie.Need-returns
 returns c =
-    let start = c .before .before .before in
-    c .word32 .ensures ∙ word-effect (start .args .sheet .now) (start .args .slot .0) (start .pre .1)
+    let enter = c .before .before .before .before in
+    let s = enter .args .sheet .now in
+    let k = enter .args .slot .0 in
+    c .word32 .ensures
+    ∙ ap (λ (start : ℕ). word32At s (start + 4 * (k - 1))) (c .before .effects-start .ensures)
+    ∙ word-effect s k (enter .pre .1)
 
 pub effect-at-spec : {M : Type 1} → statement M
 effect-at-spec =
-    tie.close (tie.spec cast-index sub-index mul-word32 add-word32 word32-requires returns)
+    tie.close
+    (tie.spec
+    cast-index
+    sub-index
+    effects-start-requires
+    mul-word32
+    add-word32
+    word32-requires
+    returns)

@@ -13,10 +13,10 @@ use Rattle.sheet_read.proofs.read_effects.Statement.{statement}
 use Rattle.sheet_read.proofs.read_effects.Tie as tie
 
 abbrev Inv-loop : tie.InvT-loop
-Inv-loop sheet slots effects₀ k₀ effects k = (k ≤ slots) × (effects ≡ padded (λ k. effectField sheet (suc k)) k 16 0)
+Inv-loop sheet start slots effects₀ k₀ effects k = (k ≤ slots) × (effects ≡ padded (λ k. effectField sheet (suc k)) k 16 0)
 
 abbrev μ-loop : tie.MeasureT-loop
-μ-loop sheet slots effects₀ k₀ effects k = slots - k
+μ-loop sheet start slots effects₀ k₀ effects k = slots - k
 
 loop-holds : tie.Need-loop-holds Inv-loop μ-loop
 loop-holds c =
@@ -50,7 +50,7 @@ loop-again c =
     let s = c .before .before .before .before .args .sheet .now in
     let k = c .before .before .loop .k in (
       omega arith,
-      rw (c .before .before .loop .inv .1, c .word32 .ensures, add-one) (padded-next (λ k. effectField s (suc k)) k 16 0 (omega arith)),
+      rw (c .before .before .loop .inv .1, c .word32 .ensures, c .before .before .before .before .pre .1, add-one) (padded-next (λ k. effectField s (suc k)) k 16 0 (omega arith)),
     )
 
 returns : tie.Need-returns Inv-loop μ-loop
