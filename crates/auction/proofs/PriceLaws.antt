@@ -328,4 +328,16 @@ unfolding price
 price-low r k proper = paid-low r k (at (greedyPage r) k) proper
 
 -- a price is a multiple of the tick
-pub price-multiple : (r : Round) (k : ℕ) → ProperRound r → price r (suc k) % r .tick ≡ 0
+pub price-multiple : (r : Round) (k : ℕ) → ProperRound r → k < r .slots → price r (suc k) % r .tick ≡ 0
+price-multiple r k proper inside =
+    let here = slot-winner r (proper .most-slots) k inside in
+    ⊎-elim
+    (λ (z : winnerAt r (pageUpTo r k) (suc k) ≡ 0).
+    ap (λ (x : ℕ). x % r .tick) (empty-costs-nothing r (suc k) (here ∙ z)) ∙ zero-mod (r .tick))
+    (λ (z : winnerAt r (pageUpTo r k) (suc k) ≡ 0 → ⊥).
+    let most = winner-bidder r (pageUpTo r k) (suc k) in
+    let many = proper .most-bidders in
+    let sized = proper .sized-bids in
+    legal-parts (r .tick) (price r (suc k))
+    (price-legal r k (winnerAt r (pageUpTo r k) (suc k)) proper inside (omega arith) (omega arith) refl) .1)
+    (same-or-not (winnerAt r (pageUpTo r k) (suc k)) 0)

@@ -145,7 +145,7 @@ module _ (s out out′ : List ℕ) (number : ℕ) (ok : Accepted s) (room : 5 * 
             (same-or-not (bidderSaid out′ (suc k)) 0);
         multiple =
             ap₂ (λ (x t : ℕ). x % t) pays (sym (round-tick s))
-            ∙ price-multiple (roundOf s) (suc k) (round-proper s ok);
+            ∙ price-multiple (roundOf s) k (round-proper s ok) (let m = round-slots s in omega arith);
         wins = λ h other other′ number′ room′ again.
             let written : Accepted (writeBid s w p)
             = subst (λ (x : ℕ). Accepted (writeBid s w x)) (sym pays) (price-written s ok w k l (sym who) (omega arith) (omega arith)) in (

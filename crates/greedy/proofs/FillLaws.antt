@@ -162,7 +162,10 @@ module _ (r : Round) (s : List ℕ) (start : ℕ) (last links bids : List ℕ) (
     awarded-of : (k : ℕ) → suc k ≤ slots → Filled r k barred held page prices → Award (suc k) →
         Awarded (r .tick) (eligible r (pageUpTo r k) (suc k)) (bidIn (r .bids)) (r .bidders) w paid
     awarded-of k most f a =
-        rw (sym (lent .bids-are), sym (lent .bidders-are), sym (lent .tick-is)) (a r (pageUpTo r k) (so-far k most f))
+        subst (λ (t : ℕ). Awarded t (eligible r (pageUpTo r k) (suc k)) (bidIn (r .bids)) (r .bidders) w paid) (lent .tick-is)
+        (subst (λ (bs : List ℕ). Awarded tick (eligible r (pageUpTo r k) (suc k)) (bidIn bs) (r .bidders) w paid) (lent .bids-are)
+        (subst (λ (n : ℕ). Awarded tick (eligible r (pageUpTo r k) (suc k)) (bidIn bids) n w paid) (lent .bidders-are)
+        (a r (pageUpTo r k) (so-far k most f))))
 
     -- and so the marks
     settled-of : (k : ℕ) (barred′ held′ : List ℕ) → Settled (roundOf s) w k barred held barred′ held′ → Settled r w k barred held barred′ held′
