@@ -154,7 +154,8 @@ module _ (s : List ℕ) (ok : Accepted s) (i x : ℕ) (most : i < bidderCount s)
   form-written : Form (written s i x)
   form-written =
       record {
-        header = (let e = same-length in let start = same-start in let h = facts .form .header in omega arith);
+        header = (let e = same-length in let h = facts .form .header in omega arith);
+        whole-header = (let e = same-length in let start = same-start in let h = facts .form .whole-header in omega arith);
         mark = simp (same-byte 0 (omega arith), same-byte 1 (omega arith), same-byte 2 (omega arith)) (facts .form .mark);
         known = ⊎-elim (λ (e : version s ≡ 1). inl (same-version ∙ e)) (λ (e : version s ≡ 2). inr (same-version ∙ e)) (facts .form .known);
       }

@@ -23,10 +23,11 @@ use Rattle.best_page.proofs.BestPageLaws.{best-page}
 use Rattle.best_search.specs.Call.{bestRefusal, bestBuffer}
 use Rattle.best_search.proofs.CallLaws.{best-unrefused}
 use Rattle.pas.specs.Calls.{yesNumber, BestPageGiven}
-use Rattle.demands.specs.Demands.{Owed, DemandOne, BestRight, DemandTwo, DemandThree, RequestThree}
+use Rattle.demands.specs.Demands.{Owed, DemandOne, BestRight, DemandTwo, DemandThree, RequestThree, RequestFour}
 use Rattle.demands.proofs.PlayLaws.{played-number, played-right}
 use Rattle.demands.proofs.HonestLaws.{honest-demand}
 use Rattle.demands.proofs.AnswerLaws.{answered-in-order}
+use Rattle.demands.proofs.TickLaws.{request-four-holds}
 
 -- what stands in lent memory is what stood there, or the result
 owed : {A : Type 0} (number first : ℕ) (given before after : A) → number ≡ first → after ≡ unlessRefused first given before →
@@ -90,3 +91,7 @@ demand-three = honest-demand
 -- Request S-3: the number of an answer says which tests pass and which fails.
 pub request-three : RequestThree
 request-three = record { step = answered-in-order; sentence = eligible-sentence }
+
+-- Request S-4: the tick, in the facts of acceptance and in the refusals of the gain call.
+pub request-four : RequestFour
+request-four = request-four-holds

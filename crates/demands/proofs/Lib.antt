@@ -2,4 +2,5 @@
 pub mod PlayLaws
 pub mod HonestLaws
 pub mod AnswerLaws
+pub mod TickLaws
 pub mod Demands

@@ -44,7 +44,7 @@ use Rattle.sheet.specs.Refusal.{
   refusalOf,
   Accepted,
 }
-use Rattle.sheet.proofs.HeaderLaws.{start-two, start-other, start-least}
+use Rattle.sheet.proofs.HeaderLaws.{start-two, start-other}
 use Rattle.sheet.specs.Accepted.{Form, Counts, EffectAccepted, BidAccepted, ConstraintAccepted, AcceptedSheet}
 
 -- 1 to 3, and 1 again
@@ -62,8 +62,8 @@ version-known s known =
     (λ (e : version s ≡ 2). or-right (eqb (version s) 1) (eq-eqb (version s) 2 e))
     known
 
-whole-header : (s : List ℕ) → 9 ≤ length s → (eqb (version s) 2 && ltb (length s) 13) ≡ false → effectsStart s ≤ length s
-whole-header s nine e =
+start-within : (s : List ℕ) → 9 ≤ length s → (eqb (version s) 2 && ltb (length s) 13) ≡ false → effectsStart s ≤ length s
+start-within s nine e =
     ⊎-elim
     (λ (v : version s ≡ 2).
     let start = start-two s v in
@@ -72,8 +72,8 @@ whole-header s nine e =
     (λ (h : version s ≡ 2 → ⊥). let start = start-other s h in omega arith)
     (same-or-not (version s) 2)
 
-header-whole : (s : List ℕ) → effectsStart s ≤ length s → (eqb (version s) 2 && ltb (length s) 13) ≡ false
-header-whole s enough =
+within-start : (s : List ℕ) → effectsStart s ≤ length s → (eqb (version s) 2 && ltb (length s) 13) ≡ false
+within-start s enough =
     ⊎-elim
     (λ (v : version s ≡ 2).
     let start = start-two s v in
@@ -89,7 +89,8 @@ form-accepted s e =
     let three = when-none 2 (not (eqb (version s) 1 || eqb (version s) 2)) _ (two .1) in
     let again = when-none 0 (eqb (version s) 2 && ltb (length s) 13) 0 (three .1) in
     record {
-      header = whole-header s (ltb-false (length s) 9 (one .0)) (again .0);
+      header = ltb-false (length s) 9 (one .0);
+      whole-header = start-within s (ltb-false (length s) 9 (one .0)) (again .0);
       mark = not-false (marked s) (two .0);
       known = known-version s (not-false (eqb (version s) 1 || eqb (version s) 2) (three .0));
     }
@@ -97,9 +98,7 @@ form-accepted s e =
 form-back : (s : List ℕ) → Form s → formRefusal s ≡ 0
 unfolding formRefusal
 form-back s f =
-    let least = start-least s in
-    let header = f .header in
-    simp (le-ltb (length s) 9 (omega arith), f .mark, version-known s (f .known), header-whole s (f .header))
+    simp (le-ltb (length s) 9 (f .header), f .mark, version-known s (f .known), within-start s (f .whole-header))
 
 -- 4 to 6, 26 and 7
 positive : (x : ℕ) → eqb x 0 ≡ false → 0 < x
@@ -306,7 +305,7 @@ accepted-sheet s e =
       form = form-accepted s (a .0);
       counts = counts-accepted s (b .0);
       effects = from-one (EffectAccepted s) (slotCount s) (λ k l. effect-of s (suc k) (first-none (λ k. effectRefusal s (suc k)) (slotCount s) (c .0) k l));
-      bids = from-one (BidAccepted s) (bidderCount s) 
+      bids = from-one (BidAccepted s) (bidderCount s)
           (λ i l.
           bid-of s (suc i)
           (first-none (λ i. bidRefusal s (suc i)) (bidderCount s) (d .0) i l)

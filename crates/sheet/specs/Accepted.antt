@@ -26,7 +26,8 @@ use Rattle.sheet.specs.Refusal.{marked, effectBefore}
 
 -- 1 to 3, and 1 again: the header's length, the mark and the version
 pub record Form (s : List ℕ) : Type 0 where
-  pub header : effectsStart s ≤ length s
+  pub header : 9 ≤ length s
+  pub whole-header : effectsStart s ≤ length s
   pub mark : marked s ≡ true
   pub known : (version s ≡ 1) ⊎ (version s ≡ 2)
 

@@ -1,4 +1,4 @@
--- The right-hand sides of the calls' contracts give, for every worked round, what document 01 says of it: the antt kernel computes them from
+-- The right-hand sides of the calls' contracts give, for every worked round, what documents 01 and 02 say of it: the antt kernel computes them from
 -- the sheets' bytes, the best pages by trying every page. So too the answers of the eligibility step.
 -- Assumes nothing.
 use mathlib.Core.List.{map}
@@ -7,12 +7,14 @@ use Rattle.basis.specs.Bytes.{word16At, word32At, bytes32}
 use Rattle.basis.specs.First.{firstOver, unlessRefused}
 use Rattle.basis.specs.Rows.{row, padded, joined}
 use Rattle.basis.specs.Tests.{anyBelow, allBelow, least}
-use Rattle.sheet.specs.Sheet.{effectField, bidField, ownerField, ownSlotField, otherField, otherSlotField}
+use Rattle.sheet.specs.Sheet.{tickField, effectsStart, effectField, bidField, ownerField, ownSlotField, otherField, otherSlotField}
 use Rattle.sheet.specs.Refusal.{
   formRefusal,
   countsRefusal,
   effectRefusal,
   bidRefusal,
+  tickRefusal,
+  legalBid,
   inRange,
   fieldsRefusal,
   constraintRefusal,
@@ -22,7 +24,7 @@ use Rattle.sheet.specs.Round.{kindOf, constraintField, roundOf, constraintAt, b
 use Rattle.choice.specs.Winner.{ranksNoLower, wins, winner}
 use Rattle.auction.specs.Page.{at, put, emptyPage, placed}
 use Rattle.auction.specs.Broken.{ownHolds, otherHolds, broken, breaks, breaksOwn}
-use Rattle.sheet.specs.Encoded.{words, quads, sheetOf}
+use Rattle.sheet.specs.Encoded.{words, quads, countBytes, bodyBytes, sheetOf, sheetInTicks}
 use Rattle.auction.specs.Eligible.{breaksEarlier, firstFailed, failedTest, eligible}
 use Rattle.auction.specs.Greedy.{winnerAt, fillSlot, pageUpTo, greedyPage}
 use Rattle.auction.specs.Price.{withBid, winsWith, priceFor, price}
@@ -34,14 +36,14 @@ use Rattle.auction.specs.Allowed.{totalUpTo, total}
 use Rattle.best_page.specs.BestPage.{nobodyTwice, isAllowed, keep, eachChoice, tryAll, bestPage}
 use Rattle.best_search.specs.Call.{boundsRefusal, bestRefusal, bestBuffer, chosenFor}
 use Rattle.play.specs.Play.{playRefusal, slotEntry, playedBuffer}
-use Rattle.test_worked_rounds.specs.Sheets.{A, B, C, D, E, F, F-true, F-version-2, F-eight-bytes, G, H, H-longer, earlier-winner, earlier-winner-and-own, placed-and-own, overbid, overbid-barred, nine-bidders, two-faults}
+use Rattle.test_worked_rounds.specs.Sheets.{A, B, C, D, E, F, F-true, F-version-3, F-eight-bytes, F-in-ticks, F-off-tick, F-tick-0, F-twelve-bytes, F-without-tick, G, H, H-longer, earlier-winner, earlier-winner-and-own, placed-and-own, overbid, overbid-barred, tie-in-ticks, lower-number-in-ticks, tick-above-bids, too-high-and-off-tick, nine-bidders, two-faults}
 use Rattle.test_worked_rounds.specs.Worked.{Worked, lent, givenByPlay, givenByBest, given, entries, rounds, Candidate, givenByStep, candidates}
 
 pub rounds-hold : map given rounds ≡ map (λ (w : Worked). w .said) rounds
-unfolding word16At word32At bytes32 firstOver unlessRefused row padded joined anyBelow allBelow least effectField bidField ownerField ownSlotField otherField otherSlotField formRefusal countsRefusal effectRefusal bidRefusal inRange fieldsRefusal constraintRefusal refusalOf kindOf constraintField roundOf ranksNoLower wins winner at put emptyPage placed ownHolds otherHolds broken constraintAt bidOf effectOf breaksEarlier firstFailed eligible winnerAt fillSlot pageUpTo greedyPage withBid winsWith priceFor price ownSlot oneLower sameKind listHas asksLower downward testRefusal testedFor testedOf slotOf gainIf gainAt gainOf laterRefusal gainRefusal gainedFor gainedOf breaks breaksOwn totalUpTo total nobodyTwice isAllowed keep eachChoice tryAll bestPage boundsRefusal bestRefusal bestBuffer chosenFor playRefusal slotEntry playedBuffer words quads sheetOf A B C D E F F-true F-version-2 F-eight-bytes G H H-longer earlier-winner overbid overbid-barred nine-bidders two-faults lent givenByPlay givenByBest given entries rounds
+unfolding word16At word32At bytes32 firstOver unlessRefused row padded joined anyBelow allBelow least tickField effectsStart effectField bidField ownerField ownSlotField otherField otherSlotField formRefusal countsRefusal effectRefusal bidRefusal tickRefusal legalBid inRange fieldsRefusal constraintRefusal refusalOf kindOf constraintField roundOf ranksNoLower wins winner at put emptyPage placed ownHolds otherHolds broken constraintAt bidOf effectOf breaksEarlier firstFailed eligible winnerAt fillSlot pageUpTo greedyPage withBid winsWith priceFor price ownSlot oneLower sameKind listHas asksLower downward testRefusal testedFor testedOf slotOf gainIf gainAt gainOf laterRefusal gainRefusal gainedFor gainedOf breaks breaksOwn totalUpTo total nobodyTwice isAllowed keep eachChoice tryAll bestPage boundsRefusal bestRefusal bestBuffer chosenFor playRefusal slotEntry playedBuffer words quads countBytes bodyBytes sheetOf sheetInTicks A B C D E F F-true F-version-3 F-eight-bytes F-in-ticks F-off-tick F-tick-0 F-twelve-bytes F-without-tick G H H-longer earlier-winner overbid overbid-barred tie-in-ticks lower-number-in-ticks tick-above-bids too-high-and-off-tick nine-bidders two-faults lent givenByPlay givenByBest given entries rounds
 rounds-hold = refl
 
 -- The answers of the eligibility step, candidate by candidate.
 pub candidates-hold : map givenByStep candidates ≡ map (λ (c : Candidate). failedTest (c .said)) candidates
-unfolding word16At word32At bytes32 row padded anyBelow effectField bidField ownerField ownSlotField otherField otherSlotField kindOf constraintField roundOf ranksNoLower wins winner at put emptyPage placed ownHolds otherHolds broken breaksOwn constraintAt bidOf breaksEarlier firstFailed failedTest eligible winnerAt fillSlot pageUpTo words quads sheetOf A C D H earlier-winner earlier-winner-and-own placed-and-own givenByStep candidates firstOver allBelow
+unfolding word16At word32At bytes32 row padded anyBelow tickField effectsStart effectField bidField ownerField ownSlotField otherField otherSlotField kindOf constraintField roundOf ranksNoLower wins winner at put emptyPage placed ownHolds otherHolds broken breaksOwn constraintAt bidOf breaksEarlier firstFailed failedTest eligible winnerAt fillSlot pageUpTo words quads countBytes bodyBytes sheetOf A C D H earlier-winner earlier-winner-and-own placed-and-own givenByStep candidates firstOver allBelow
 candidates-hold = refl

@@ -1,7 +1,7 @@
--- The worked rounds of document 01 as sheets, byte for byte.
+-- The worked rounds of documents 01 and 02 as sheets, byte for byte.
 use Prim.Native.Nat.{ℕ}
-use mathlib.Core.List.{List, [], _∷_}
-use Rattle.sheet.specs.Encoded.{on, sheetOf}
+use mathlib.Core.List.{List, [], _∷_, _++_}
+use Rattle.sheet.specs.Encoded.{on, sheetOf, sheetInTicks}
 
 -- bids 30, 20, 10; effects 10, 9; (1,0,2,1)
 unfoldable pub A : List ℕ
@@ -78,9 +78,52 @@ unfoldable pub overbid-barred : List ℕ
 unfolding sheetOf
 overbid-barred = sheetOf (5 ∷ 3 ∷ []) (1 ∷ []) (on 1 1 0 0 ∷ [])
 
--- F with version 2 in its header
-unfoldable pub F-version-2 : List ℕ
-F-version-2 = 0x50 ∷ 0x41 ∷ 0x53 ∷ 2 ∷ 0 ∷ 2 ∷ 1 ∷ 0 ∷ 0 ∷ 1 ∷ 0 ∷ 0 ∷ 0 ∷ 5 ∷ 0 ∷ 0 ∷ 0 ∷ 6 ∷ 0 ∷ 0 ∷ 0 ∷ []
+-- F in version 2 with tick 3 and bids 3 and 6: "charges 6"
+unfoldable pub F-in-ticks : List ℕ
+unfolding sheetInTicks
+F-in-ticks = sheetInTicks 3 (3 ∷ 6 ∷ []) (1 ∷ []) ([])
+
+-- tick 5, bids 10, 10, 5; effects 3, 2: a tie, which the lower number wins, and which costs no tick
+unfoldable pub tie-in-ticks : List ℕ
+unfolding sheetInTicks
+tie-in-ticks = sheetInTicks 5 (10 ∷ 10 ∷ 5 ∷ []) (3 ∷ 2 ∷ []) ([])
+
+-- tick 10, bids 20, 30, 10; effects 3, 2: 2 pays a tick more than the lower-numbered 1 bids, and 1 as much as the higher-numbered 3 bids
+unfoldable pub lower-number-in-ticks : List ℕ
+unfolding sheetInTicks
+lower-number-in-ticks = sheetInTicks 10 (20 ∷ 30 ∷ 10 ∷ []) (3 ∷ 2 ∷ []) ([])
+
+-- tick 1,000,000,000, above both bids, which are 0; effects 1, 1; (1,1,0,0)
+unfoldable pub tick-above-bids : List ℕ
+unfolding sheetInTicks
+tick-above-bids = sheetInTicks 1_000_000_000 (0 ∷ 0 ∷ []) (1 ∷ 1 ∷ []) (on 1 1 0 0 ∷ [])
+
+-- F in version 2 with tick 3, where the last bid is no multiple
+unfoldable pub F-off-tick : List ℕ
+unfolding sheetInTicks
+F-off-tick = sheetInTicks 3 (3 ∷ 7 ∷ []) (1 ∷ []) ([])
+
+-- tick 3, where the first bid is no multiple and the last, which is one, is too high: 9 goes over all bids before 27
+unfoldable pub too-high-and-off-tick : List ℕ
+unfolding sheetInTicks
+too-high-and-off-tick = sheetInTicks 3 (4 ∷ 1_000_000_002 ∷ []) (1 ∷ []) ([])
+
+-- F in version 2 with tick 0, and a byte too many
+unfoldable pub F-tick-0 : List ℕ
+unfolding sheetInTicks
+F-tick-0 = sheetInTicks 0 (3 ∷ 6 ∷ []) (1 ∷ []) ([]) ++ (0 ∷ [])
+
+-- the first 12 bytes of F in version 2
+unfoldable pub F-twelve-bytes : List ℕ
+F-twelve-bytes = 0x50 ∷ 0x41 ∷ 0x53 ∷ 2 ∷ 0 ∷ 2 ∷ 1 ∷ 0 ∷ 0 ∷ 3 ∷ 0 ∷ 0 ∷ []
+
+-- F with version 2 in its header, and no tick: four bytes are missing
+unfoldable pub F-without-tick : List ℕ
+F-without-tick = 0x50 ∷ 0x41 ∷ 0x53 ∷ 2 ∷ 0 ∷ 2 ∷ 1 ∷ 0 ∷ 0 ∷ 1 ∷ 0 ∷ 0 ∷ 0 ∷ 5 ∷ 0 ∷ 0 ∷ 0 ∷ 6 ∷ 0 ∷ 0 ∷ 0 ∷ []
+
+-- F with version 3 in its header
+unfoldable pub F-version-3 : List ℕ
+F-version-3 = 0x50 ∷ 0x41 ∷ 0x53 ∷ 3 ∷ 0 ∷ 2 ∷ 1 ∷ 0 ∷ 0 ∷ 1 ∷ 0 ∷ 0 ∷ 0 ∷ 5 ∷ 0 ∷ 0 ∷ 0 ∷ 6 ∷ 0 ∷ 0 ∷ 0 ∷ []
 
 -- the first 8 bytes of F
 unfoldable pub F-eight-bytes : List ℕ

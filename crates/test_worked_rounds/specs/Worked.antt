@@ -1,5 +1,5 @@
--- "Rounds worked by hand": what is asked of each round, and what document 01 says; and candidates for a place, with the answer of the eligibility
--- step (document 02, S-3).
+-- "Rounds worked by hand": what is asked of each round, and what documents 01 and 02 say; and candidates for a place, with the answer of the
+-- eligibility step (document 02, S-3).
 use Prim.Native.Nat.{ℕ, _*_, _-_}
 use mathlib.Core.Bool.{Bool, true, false}
 use mathlib.Core.List.{List, [], _∷_}
@@ -28,8 +28,13 @@ use Rattle.test_worked_rounds.specs.Sheets.{
   E,
   F,
   F-true,
-  F-version-2,
+  F-version-3,
   F-eight-bytes,
+  F-in-ticks,
+  F-off-tick,
+  F-tick-0,
+  F-twelve-bytes,
+  F-without-tick,
   G,
   H,
   H-longer,
@@ -38,6 +43,10 @@ use Rattle.test_worked_rounds.specs.Sheets.{
   placed-and-own,
   overbid,
   overbid-barred,
+  tie-in-ticks,
+  lower-number-in-ticks,
+  tick-above-bids,
+  too-high-and-off-tick,
   nine-bidders,
   two-faults,
 }
@@ -152,9 +161,11 @@ worked sheet truth bidder worth page prices monotonic gain best total =
 
 -- A to H as document 01 has them, with the gains and the best page that it names (the other gains and best pages are ours); then the round
 -- that only an earlier winner's condition decides, H with its fourth place (the only full page has 553340), and the rounds that show that
--- demand 3 needs a worth of at least the bid. Last come calls that are refused: by the truth sheet (version 2; another m; another n), by the
--- bidder (0, though the worth is too high as well; 3 of 2), by the worth, by 9 bidders for the best page alone, by a sheet of 8 bytes, and by
--- a sheet whose first faulty condition breaks a later rule than its second.
+-- demand 3 needs a worth of at least the bid. Then rounds of version 2: F with tick 3, also with a truth sheet of another tick, a tie, a lower-numbered
+-- rival, and a tick above every bid. Last come calls that are refused: by the truth sheet (version 3; a bid off its tick; another m; another n), by the
+-- bidder (0, though the worth is too high as well; 3 of 2), by the worth, by 9 bidders for the best page alone, by a sheet of 8 bytes and one of version 2
+-- of 12, by a sheet whose first faulty condition breaks a later rule than its second, and by the rules of version 2: tick 0 though the length is wrong
+-- too, the length, a bid above the limit though an earlier one is off the tick, and the last bid off the tick.
 unfoldable pub rounds : List Worked
 rounds =
     worked A A 1 30 (1 ∷ 2 ∷ []) (20 ∷ 10 ∷ []) true (pos 100) (1 ∷ 2 ∷ []) 480
@@ -170,7 +181,13 @@ rounds =
     ∷ worked earlier-winner earlier-winner 1 2 (1 ∷ 0 ∷ []) (1 ∷ 0 ∷ []) true (pos 1) (2 ∷ 1 ∷ []) 3
     ∷ worked overbid overbid 1 2 (1 ∷ []) (3 ∷ []) true (negsuc 0) (1 ∷ []) 5
     ∷ worked overbid-barred overbid 1 2 (2 ∷ []) (0 ∷ []) true (pos 0) (2 ∷ []) 3
-    ∷ calls F F-version-2 2 6 0 (plays (2 ∷ []) (6 ∷ [])) (tells true) (gainsNot 14) (finds (2 ∷ []) 6)
+    ∷ worked F-in-ticks F-in-ticks 2 6 (2 ∷ []) (6 ∷ []) true (pos 0) (2 ∷ []) 6
+    ∷ worked F-in-ticks F 2 7 (2 ∷ []) (6 ∷ []) true (pos 1) (2 ∷ []) 6
+    ∷ worked tie-in-ticks tie-in-ticks 2 12 (1 ∷ 2 ∷ []) (10 ∷ 5 ∷ []) true (pos 14) (1 ∷ 2 ∷ []) 50
+    ∷ worked lower-number-in-ticks lower-number-in-ticks 1 20 (2 ∷ 1 ∷ []) (30 ∷ 10 ∷ []) true (pos 20) (2 ∷ 1 ∷ []) 130
+    ∷ worked tick-above-bids tick-above-bids 1 5 (2 ∷ 1 ∷ []) (0 ∷ 0 ∷ []) false (pos 5) (0 ∷ 0 ∷ []) 0
+    ∷ calls F F-version-3 2 6 0 (plays (2 ∷ []) (6 ∷ [])) (tells true) (gainsNot 14) (finds (2 ∷ []) 6)
+    ∷ calls F-in-ticks F-off-tick 2 6 0 (plays (2 ∷ []) (6 ∷ [])) (tells true) (gainsNot 14) (finds (2 ∷ []) 6)
     ∷ calls F earlier-winner 2 6 0 (plays (2 ∷ []) (6 ∷ [])) (tells true) (gainsNot 15) (finds (2 ∷ []) 6)
     ∷ calls earlier-winner A 1 2 0 (plays (1 ∷ 0 ∷ []) (1 ∷ 0 ∷ [])) (tells true) (gainsNot 15) (finds (2 ∷ 1 ∷ []) 3)
     ∷ calls F F 0 1_000_000_001 0 (plays (2 ∷ []) (6 ∷ [])) (tellsNot 16) (gainsNot 16) (finds (2 ∷ []) 6)
@@ -178,7 +195,12 @@ rounds =
     ∷ calls F F 2 1_000_000_001 0 (plays (2 ∷ []) (6 ∷ [])) (tells true) (gainsNot 17) (finds (2 ∷ []) 6)
     ∷ calls nine-bidders nine-bidders 1 9 0 (plays (1 ∷ []) (8 ∷ [])) (tells true) (gains (pos 1)) (findsNot 18 1)
     ∷ calls F-eight-bytes F 2 6 1 (playsNot 1 1) (tellsNot 1) (gainsNot 1) (findsNot 1 1)
+    ∷ calls F-twelve-bytes F 2 6 1 (playsNot 1 1) (tellsNot 1) (gainsNot 1) (findsNot 1 1)
     ∷ calls two-faults F 1 3 12 (playsNot 12 2) (tellsNot 12) (gainsNot 12) (findsNot 12 2)
+    ∷ calls F-tick-0 F 2 6 26 (playsNot 26 1) (tellsNot 26) (gainsNot 26) (findsNot 26 1)
+    ∷ calls F-without-tick F 2 6 7 (playsNot 7 1) (tellsNot 7) (gainsNot 7) (findsNot 7 1)
+    ∷ calls too-high-and-off-tick F 2 6 9 (playsNot 9 1) (tellsNot 9) (gainsNot 9) (findsNot 9 1)
+    ∷ calls F-off-tick F 2 6 27 (playsNot 27 1) (tellsNot 27) (gainsNot 27) (findsNot 27 1)
     ∷ []
 
 -- a sheet, a place, a candidate for it, and what the eligibility step answers (document 02, S-3) with the places before it filled

@@ -69,9 +69,8 @@ cast-slots c =
 
 tick-of-requires : tie.Need-tick-of-requires
 tick-of-requires c κs =
-    let least = start-least (c .before .before .before .before .before .before .before .before .before .args .sheet .now) in
-    let header = accepted-sheet (c .before .before .before .before .before .before .before .before .before .args .sheet .now) (c .before .before .before .before .before .before .before .before .before .pre) .form .header in
-    (omega arith, header)
+    let form = accepted-sheet (c .before .before .before .before .before .before .before .before .before .args .sheet .now) (c .before .before .before .before .before .before .before .before .before .pre) .form in
+    (form .header, form .whole-header)
 
 slice-aggregate-fill : tie.Need-slice-aggregate-fill
 slice-aggregate-fill c = search needs

@@ -20,23 +20,19 @@ returns c = by-form _ _ (c .before .form-refusal .ensures) (c .if1 .taken)
 effects-start-requires : tie.Need-effects-start-requires
 effects-start-requires c κs =
     let s = c .before .before .before .args .sheet .now in
-    let header = form-accepted s (sym (c .before .form-refusal .ensures) ∙ c .if1 .left) .header in
-    let least = start-least s in
-    omega arith
+    form-accepted s (sym (c .before .form-refusal .ensures) ∙ c .if1 .left) .header
 
 tick-of-requires : tie.Need-tick-of-requires
 tick-of-requires c κs =
     let s = c .before .before .before .before .args .sheet .now in
-    let header = form-accepted s (sym (c .before .before .form-refusal .ensures) ∙ c .before .if1 .left) .header in
-    let least = start-least s in
-    (omega arith, header)
+    let form = form-accepted s (sym (c .before .before .form-refusal .ensures) ∙ c .before .if1 .left) in
+    (form .header, form .whole-header)
 
 counts-refusal-requires : tie.Need-counts-refusal-requires
 counts-refusal-requires c κs =
     let s = c .before .before .before .before .before .args .sheet .now in
-    let header = form-accepted s (sym (c .before .before .before .form-refusal .ensures) ∙ c .before .before .if1 .left) .header in
-    let least = start-least s in
-    (omega arith, c .before .effects-start .ensures, c .tick-of .ensures)
+    let form = form-accepted s (sym (c .before .before .before .form-refusal .ensures) ∙ c .before .before .if1 .left) in
+    (form .header, c .before .effects-start .ensures, c .tick-of .ensures)
 
 returns-2 : tie.Need-returns-2
 returns-2 c = by-counts _ (sym (c .before .before .before .before .before .form-refusal .ensures) ∙ c .before .before .before .before .if1 .left) _ (c .before .counts-refusal .ensures) (c .if2 .taken)
