@@ -23,7 +23,7 @@ boundsRefusal s out =
     19 when ltb (length out) (slotCount s) otherwise
     0
 
--- 1 to 13, then 18, then 19
+-- the check's numbers, then 18, then 19
 unfoldable pub bestRefusal : List ℕ → List ℕ → ℕ
 bestRefusal s out = orElse (refusalOf s) (boundsRefusal s out)
 

@@ -202,7 +202,7 @@ fn write_page(page: Page, slots: usize, result: &mut [u8])
     }
 }
 
-// The number of the first rule that the call breaks, 1 to 13, 18 or 19, with every byte of the buffer as it was; or 0 and the total of the
+// The number of the first rule that the call breaks, the check's, 18 or 19, with every byte of the buffer as it was; or 0 and the total of the
 // best page, with the page's bidder numbers in the buffer, one byte a slot, and every later byte as it was.
 pub fn best(sheet: &[u8], result: &mut [u8]) -> Chosen
     ensures { λ r. ⌜ BestGiven (now (sheet .entry)) (now (result .entry)) r (now (result .exit)) ⌝ }

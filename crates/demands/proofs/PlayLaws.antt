@@ -149,11 +149,11 @@ module _ (s out out′ : List ℕ) (number : ℕ) (ok : Accepted s) (room : 5 * 
         wins = λ h other other′ number′ room′ again.
             let written : Accepted (writeBid s w p)
             = subst (λ (x : ℕ). Accepted (writeBid s w x)) (sym pays) (price-written s ok w k l (sym who) (omega arith) (omega arith)) in (
-          replay-number s ok w k l (sym who) (omega arith) p (omega arith) written other other′ number′ room′ again,
-          replay-says s ok w k l (sym who) (omega arith) p (omega arith) written other other′ number′ room′ again
-              ∙ ap (λ (x : ℕ). at (greedyPage (withBid (roundOf s) w x)) (suc k)) pays
-              ∙ price-replayed s ok w k l (sym who) (omega arith),
-        );
+              replay-number s ok w k l (sym who) (omega arith) p (omega arith) written other other′ number′ room′ again,
+              replay-says s ok w k l (sym who) (omega arith) p (omega arith) written other other′ number′ room′ again
+                  ∙ ap (λ (x : ℕ). at (greedyPage (withBid (roundOf s) w x)) (suc k)) pays
+                  ∙ price-replayed s ok w k l (sym who) (omega arith),
+            );
         smaller-loses = λ x less written other other′ number′ room′ again.
             let h : bidderSaid out′ (suc k) ≡ 0 → ⊥ = (λ z. absurd (let e = nothing z in omega arith)) in (
               replay-number s ok w k l (sym who) (omega arith) x (omega arith) written other other′ number′ room′ again,

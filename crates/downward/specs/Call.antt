@@ -10,7 +10,7 @@ use Rattle.sheet.specs.Round.{roundOf}
 use Rattle.downward.specs.Downward.{downward}
 use Rattle.downward.specs.declared.Tested.{Tested}
 
--- 1 to 13, and then 16. The bidder named in the call is 0 or above n.
+-- the check's numbers, and then 16. The bidder named in the call is 0 or above n.
 unfoldable pub testRefusal : List ℕ → ℕ → ℕ
 testRefusal s i = orElse (refusalOf s) (16 when eqb i 0 || ltb (bidderCount s) i otherwise 0)
 

@@ -138,7 +138,7 @@ fn is_downward(sheet: &[u8], bidder: Bidder) -> bool
     !any_missing(&listed[..16 * bidders + 17], slots)
 }
 
-// The number of the first rule that the call breaks, 1 to 13 or 16; or 0 and the test's answer.
+// The number of the first rule that the call breaks, the check's or 16; or 0 and the test's answer.
 pub fn test(sheet: &[u8], bidder: u32) -> Tested
     ensures { λ r. ⌜ r ≡ testedOf (now (sheet .entry)) bidder ⌝ }
 {

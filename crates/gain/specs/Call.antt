@@ -11,7 +11,7 @@ use Rattle.sheet.specs.Round.{roundOf}
 use Rattle.gain.specs.Gain.{gainOf}
 use Rattle.gain.specs.declared.Gained.{Gained}
 
--- 14. The truth sheet breaks any of 1 to 13.  15. The truth sheet has another n or m.
+-- 14. The truth sheet breaks any of the check's rules (1 to 13, 26 and 27).  15. The truth sheet has another n or m.
 -- 16. The bidder named in the call is 0 or above n.  17. The worth is above 1,000,000,000.
 unfoldable pub laterRefusal : List ℕ → List ℕ → ℕ → ℕ → ℕ
 laterRefusal s t i worth =
@@ -21,7 +21,7 @@ laterRefusal s t i worth =
     17 when ltb 1_000_000_000 worth otherwise
     0
 
--- 1 to 13 of the played sheet, and then 14 to 17
+-- the check's numbers of the played sheet, and then 14 to 17
 unfoldable pub gainRefusal : List ℕ → List ℕ → ℕ → ℕ → ℕ
 gainRefusal s t i worth = orElse (refusalOf s) (laterRefusal s t i worth)
 

@@ -141,7 +141,7 @@ fn later_refusal(played: &[u8], truth: &[u8], bidder: u32, worth: u32) -> u32
     0
 }
 
-// The number of the first rule that the call breaks, 1 to 17; or 0 and the bidder's gain from the played sheet at a worth per click,
+// The number of the first rule that the call breaks, the check's or 14 to 17; or 0 and the bidder's gain from the played sheet at a worth per click,
 // by its constraints in the truth sheet.
 pub fn gain(played: &[u8], truth: &[u8], bidder: u32, worth: u32) -> Gained
     ensures { λ r. ⌜ r ≡ gainedOf (now (played .entry)) (now (truth .entry)) bidder worth ⌝ }

@@ -5,12 +5,23 @@ use Rattle.basis.specs.Bytes.{word16At, word32At}
 use Rattle.basis.specs.First.{firstOver}
 use Rattle.basis.specs.Rows.{row, padded, joined}
 use Rattle.basis.specs.Tests.{anyBelow, allBelow, least}
-use Rattle.sheet.specs.Sheet.{effectField, bidField, ownerField, ownSlotField, otherField, otherSlotField}
+use Rattle.sheet.specs.Sheet.{
+  tickField,
+  effectsStart,
+  effectField,
+  bidField,
+  ownerField,
+  ownSlotField,
+  otherField,
+  otherSlotField,
+}
 use Rattle.sheet.specs.Refusal.{
   formRefusal,
   countsRefusal,
   effectRefusal,
   bidRefusal,
+  tickRefusal,
+  legalBid,
   inRange,
   fieldsRefusal,
   constraintRefusal,
@@ -29,5 +40,5 @@ use Rattle.page_job.specs.PageText.{slotLine, textFor, pageText}
 use Rattle.page_job.specs.Printed.{TextsPrinted}
 
 pub texts-printed : TextsPrinted
-unfolding word16At word32At firstOver row padded joined anyBelow allBelow least effectField bidField ownerField ownSlotField otherField otherSlotField formRefusal countsRefusal effectRefusal bidRefusal inRange fieldsRefusal constraintRefusal refusalOf kindOf constraintField roundOf ranksNoLower wins winner at put emptyPage placed ownHolds otherHolds broken constraintAt bidOf breaksOwn breaksEarlier firstFailed eligible winnerAt fillSlot pageUpTo greedyPage withBid winsWith priceFor price digitsWithin decimal field line refusedLine slotLine textFor pageText
+unfolding word16At word32At firstOver row padded joined anyBelow allBelow least tickField effectsStart effectField bidField ownerField ownSlotField otherField otherSlotField formRefusal countsRefusal effectRefusal bidRefusal tickRefusal legalBid inRange fieldsRefusal constraintRefusal refusalOf kindOf constraintField roundOf ranksNoLower wins winner at put emptyPage placed ownHolds otherHolds broken constraintAt bidOf breaksOwn breaksEarlier firstFailed eligible winnerAt fillSlot pageUpTo greedyPage withBid winsWith priceFor price digitsWithin decimal field line refusedLine slotLine textFor pageText
 texts-printed = refl

@@ -25,6 +25,6 @@ textFor (suc k) r = refusedLine (suc k)
 unfoldable pub pageText : List ℕ → List ℕ
 pageText s = textFor (refusalOf s) (roundOf s)
 
--- An input prints what its first bytes print, if these are 4,426 or more: no accepted sheet has more than 4,425.
+-- An input prints what its first bytes print, if these are 4,430 or more: no accepted sheet has more than 4,429.
 abbrev pub FirstBytesDecide : Type 0
-FirstBytesDecide = (room : ℕ) (s : List ℕ) → 4426 ≤ room → pageText (take room s) ≡ pageText s
+FirstBytesDecide = (room : ℕ) (s : List ℕ) → 4430 ≤ room → pageText (take room s) ≡ pageText s

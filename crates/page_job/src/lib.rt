@@ -14,8 +14,8 @@ use sheet::MAX_BIDDERS;
 use sheet::MAX_CONSTRAINTS;
 use sheet::MAX_SLOTS;
 
-// One byte more than the longest sheet, of version 2, 13 + 4 × (16 + 64 + 1,024). A longer input is refused by its first bytes as it is by all
-// of them, so what follows them is left unread.
+// One byte more than the longest sheet, one of version 2: 13 + 4 × (16 + 64 + 1,024). A longer input is refused by its first bytes as it
+// is by all of them, so what follows them is left unread.
 const SHEET_ROOM: usize = 13 + 4 * (MAX_SLOTS + MAX_BIDDERS + MAX_CONSTRAINTS) + 1;
 // "5 bytes a place".
 const RESULT_ROOM: usize = 5 * MAX_SLOTS;

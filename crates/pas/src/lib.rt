@@ -7,7 +7,7 @@ ghost use Rattle.sheet.specs.Refusal.{refusalOf};
 ghost use Rattle.play.specs.Play.{Played};
 ghost use Rattle.pas.specs.Calls.{DownwardGiven, GainGiven, BestPageGiven, yesNumber};
 
-// 1 to 13, or 0 for an accepted sheet.
+// 1 to 13, 26 or 27, or 0 for an accepted sheet.
 #[no_mangle]
 pub extern "C" fn pas_check(sheet: &[u8]) -> u32
     ensures { λ r. ⌜ r ≡ refusalOf (now (sheet .entry)) ⌝ }
@@ -15,7 +15,7 @@ pub extern "C" fn pas_check(sheet: &[u8]) -> u32
     sheet_check::check(sheet)
 }
 
-// 1 to 13 or 19; or 0, with 5 bytes a slot in the buffer, the bidder and the price low byte first, and every later byte as it was.
+// The check's numbers or 19; or 0, with 5 bytes a slot in the buffer, the bidder and the price low byte first, and every later byte as it was.
 #[no_mangle]
 pub extern "C" fn pas_play(sheet: &[u8], result: &mut [u8]) -> u32
     ensures { λ r. ⌜ Played (now (sheet .entry)) (now (result .entry)) r (now (result .exit)) ⌝ }
@@ -33,7 +33,7 @@ fn yes_number(yes: bool) -> u8
     0
 }
 
-// 1 to 13 or 16; or 0, with 1 in the answer where the bidder's list is downward monotonic and 0 where it is not.
+// The check's numbers or 16; or 0, with 1 in the answer where the bidder's list is downward monotonic and 0 where it is not.
 #[no_mangle]
 pub extern "C" fn pas_downward(sheet: &[u8], bidder: u32, answer: &mut u8) -> u32
     ensures { λ r. ⌜ DownwardGiven (now (sheet .entry)) bidder (now (answer .entry)) r (now (answer .exit)) ⌝ }
@@ -48,7 +48,7 @@ pub extern "C" fn pas_downward(sheet: &[u8], bidder: u32, answer: &mut u8) -> u3
     0
 }
 
-// 1 to 17; or 0, with the bidder's gain from the played sheet at a worth per click, by its constraints in the truth sheet.
+// The check's numbers or 14 to 17; or 0, with the bidder's gain from the played sheet at a worth per click, by its constraints in the truth sheet.
 #[no_mangle]
 pub extern "C" fn pas_gain(
     played: &[u8],
@@ -69,7 +69,7 @@ pub extern "C" fn pas_gain(
     0
 }
 
-// 1 to 13, 18 or 19; or 0, with the best page's bidder numbers in the buffer, one byte a slot, every later byte as it was, and the
+// The check's numbers, 18 or 19; or 0, with the best page's bidder numbers in the buffer, one byte a slot, every later byte as it was, and the
 // page's total.
 #[no_mangle]
 pub extern "C" fn pas_best(sheet: &[u8], result: &mut [u8], total: &mut u64) -> u32

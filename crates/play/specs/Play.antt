@@ -15,7 +15,7 @@ use Rattle.auction.specs.Page.{at}
 use Rattle.auction.specs.Greedy.{greedyPage}
 use Rattle.auction.specs.Price.{price}
 
--- 1 to 13, and then 19. The result buffer is shorter than the bytes to be written.
+-- the check's numbers, and then 19. The result buffer is shorter than the bytes to be written.
 unfoldable pub playRefusal : List ℕ → List ℕ → ℕ
 playRefusal s out = orElse (refusalOf s) (19 when ltb (length out) (5 * slotCount s) otherwise 0)
 

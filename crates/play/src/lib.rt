@@ -9,7 +9,7 @@ ghost use Rattle.play.specs.Play.{Played};
 ghost use Rattle.play.specs.EngineEntries.{entryIn};
 use greedy::Outcome;
 
-// The number of the first rule that the call breaks, 1 to 13 or 19, with every byte of the buffer as it was; or 0, with 5 bytes a
+// The number of the first rule that the call breaks, the check's or 19, with every byte of the buffer as it was; or 0, with 5 bytes a
 // slot in the buffer, the bidder and the price low byte first, and every later byte as it was.
 pub fn play(sheet: &[u8], result: &mut [u8]) -> u32
     ensures { λ r. ⌜ Played (now (sheet .entry)) (now (result .entry)) r (now (result .exit)) ⌝ }

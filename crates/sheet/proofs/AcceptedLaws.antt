@@ -305,7 +305,7 @@ accepted-sheet s e =
       form = form-accepted s (a .0);
       counts = counts-accepted s (b .0);
       effects = from-one (EffectAccepted s) (slotCount s) (λ k l. effect-of s (suc k) (first-none (λ k. effectRefusal s (suc k)) (slotCount s) (c .0) k l));
-      bids = from-one (BidAccepted s) (bidderCount s) 
+      bids = from-one (BidAccepted s) (bidderCount s)
           (λ i l.
           bid-of s (suc i)
           (first-none (λ i. bidRefusal s (suc i)) (bidderCount s) (d .0) i l)

@@ -1,8 +1,8 @@
 // The check of a sheet of any version, part by part.
 ghost use mathlib.Core.Path.{_≡_};
 ghost use Rattle.sheet.specs.Refusal.{refusalOf};
-use basis::word16;
 use crate::refusals;
+use basis::word16;
 
 // The number of the first rule that the sheet breaks, or 0 for an accepted sheet.
 pub fn refusal(sheet: &[u8]) -> u32

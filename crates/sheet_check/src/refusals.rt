@@ -74,13 +74,11 @@ pub fn counts_refusal(sheet: &[u8], start: usize, tick: u32) -> u32
     if MAX_CONSTRAINTS < constraints {
         return 6;
     }
-    if tick == 0 {
+    let length = start + 4 * (slots + bidders + constraints);
+    if (tick == 0) | (MAX_TICK < tick) {
         return 26;
     }
-    if MAX_TICK < tick {
-        return 26;
-    }
-    if sheet.len() != start + 4 * (slots + bidders + constraints) {
+    if sheet.len() != length {
         return 7;
     }
     0
@@ -147,11 +145,11 @@ fn any_bid_off_tick(sheet: &[u8], start: usize, bidders: usize, tick: u32) -> bo
     ensures { λ r. ⌜ r ≡ anyBelow (λ i. not (eqb (bidField (now (sheet .entry)) (suc i) % tickField (now (sheet .entry))) 0)) bidders ⌝ }
 {
     let mut found = false;
-    let mut i = 0;
-    while i < bidders {
-        let bid = word32(sheet, start + 4 * i);
+    let mut tested = 0;
+    while tested < bidders {
+        let bid = word32(sheet, start + 4 * tested);
         found = found | (bid % tick != 0);
-        i += 1;
+        tested += 1;
     }
     found
 }

@@ -1,8 +1,9 @@
-// The edges of document 01's calls and its rounds worked by hand: a script comes in, and goes out again with the answer of each call.
+// The edges of document 01's calls, with document 02's version 2 of the sheet, and the rounds worked by hand: a script comes in, and goes out again
+// with the answer of each call.
 //
 // The file `stdin` is the script. A line whose first word is one of `sheets` writes on the sheet in hand, one whose first word is one of
 // `calls` makes a call, and any other is there for the reader. Of the rest of a line only its numbers count, so that a line can be a
-// sentence in the document's words. The file `stdout` has the answers that the document asks for.
+// sentence in the documents' words. The file `stdout` has the answers that the documents ask for.
 use test_edge_sheets::build;
 use test_edge_sheets::line;
 

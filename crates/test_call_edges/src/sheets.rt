@@ -7,12 +7,23 @@ fn small(words: &[u8], index: u16) -> u8 {
     build::low(script::number(words, index))
 }
 
+// "sheet N M C": a right sheet of these counts, bidders first, and its length. "sheet N M C T": the same of version 2 with this tick.
+fn new_sheet(words: &[u8], sheet: &mut [u8]) -> usize {
+    let bidders = small(words, 1);
+    let slots = small(words, 2);
+    let constraints = (script::number(words, 3) % 65536) as u16;
+    if script::count(words) < 4 {
+        return build::base(sheet, bidders, slots, constraints);
+    }
+    let tick = script::number(words, 4);
+    build::base_in_ticks(sheet, tick, bidders, slots, constraints)
+}
+
 // What a line writes on the sheet, and the sheet's length after it. A line of any other word writes nothing.
-// "sheet N M C": a right sheet of these counts, bidders first. "length L": that many bytes are lent, whatever the counts say.
+// "length L": that many bytes are lent, whatever the counts say.
 pub fn write(words: &[u8], sheet: &mut [u8], length: usize) -> usize {
     if script::begins(words, b"sheet") {
-        let constraints = script::number(words, 3) % 65536;
-        return build::base(sheet, small(words, 1), small(words, 2), constraints as u16);
+        return new_sheet(words, sheet);
     }
     if script::begins(words, b"length") {
         return script::number(words, 1) as usize;

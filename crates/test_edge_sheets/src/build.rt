@@ -1,10 +1,10 @@
-// Sheets built by document 01's table alone: nothing here comes from the crate under test.
-// A fault is written over a right sheet. Effects, bids and constraints are counted from 1 and stand where the header's counts
-// say, so a wrong count is written last.
-ghost use Prim.Native.Nat.{_<_};
+// Sheets built by document 01's table and what document 02 adds to it alone: nothing here comes from the crate under test.
+// A fault is written over a right sheet. Effects, bids and constraints are counted from 1 and stand where the header's version and
+// counts say, so a wrong version or count is written last.
+ghost use Prim.Native.Nat.{_<_, _≤_};
 use basis::wide;
 
-// Room for the longest sheet here, 9 + 4 x (16 + 64 + 1,025) bytes.
+// Room for the longest sheet here, 13 + 4 x (16 + 64 + 1,025) bytes. The longest that is right has 4,429.
 pub const ROOM: usize = 4608;
 
 // One byte, where the buffer reaches it.
@@ -56,7 +56,7 @@ fn set_mark(buf: &mut [u8]) {
     set_byte(buf, 2, 0x53);
 }
 
-// 2 bytes: "version, 1"
+// 2 bytes: "version", 1 or 2
 pub fn set_version(buf: &mut [u8], version: u32) {
     set_half(buf, 3, version);
 }
@@ -76,50 +76,76 @@ pub fn set_constraint_count(buf: &mut [u8], constraints: u32) {
     set_half(buf, 7, constraints);
 }
 
-// A sheet that is right where its counts are, and its length. Each effect is 1,000, each bid 5, each constraint (1,1,0,0).
-pub fn base(buf: &mut [u8], bidders: u8, slots: u8, constraints: u16) -> usize {
-    let bids = 9 + 4 * (slots as usize);
-    let rest = bids + 4 * (bidders as usize);
-    set_mark(buf);
-    set_version(buf, 1);
-    set_bidder_count(buf, bidders);
-    set_slot_count(buf, slots);
-    set_constraint_count(buf, constraints as u32);
-    set_words(buf, 9, slots as u32, 1000);
-    set_words(buf, bids, bidders as u32, 5);
-    set_words(buf, rest, constraints as u32, 0x0101);
-    rest + 4 * (constraints as usize)
+// 4 bytes in version 2: "a 4-byte tick after the condition count"
+pub fn set_tick(buf: &mut [u8], tick: u32) {
+    set_word(buf, 9, tick);
 }
 
-// A count of the header, n at 5 or m at 6.
-fn count(buf: &[u8], at: usize) -> u32
+// A byte of the header: the version's low one at 3, n at 5, m at 6.
+fn header(buf: &[u8], at: usize) -> u32
     ensures { λ r. ⌜ r < 256 ⌝ }
 {
     if at < buf.len() { wide(buf[at]) } else { 0 }
 }
 
-// Where a field of four bytes starts, of those after the header's 9 bytes, counted from 1.
-fn start(field: u32) -> usize
+// Where a field of four bytes starts, of those after the header, counted from 1. The header has 9 bytes, and in version 2 the tick's 4 more.
+fn start(buf: &[u8], field: u32) -> usize
     requires { ⌜ field < 70000 ⌝ }
+    ensures { λ r. ⌜ r ≤ 280009 ⌝ }
 {
+    if header(buf, 3) == 2 {
+        return (13 + 4 * field - 4) as usize;
+    }
     (9 + 4 * field - 4) as usize
+}
+
+// All of a sheet but its version and tick, which stand there before: right where the counts are. Its length is the answer. Each effect is
+// 1,000, each constraint (1,1,0,0).
+fn fill(buf: &mut [u8], bidders: u8, slots: u8, constraints: u16, bid: u32) -> usize {
+    set_mark(buf);
+    set_bidder_count(buf, bidders);
+    set_slot_count(buf, slots);
+    set_constraint_count(buf, constraints as u32);
+    let effects = start(buf, 1);
+    let bids = effects + 4 * (slots as usize);
+    let rest = bids + 4 * (bidders as usize);
+    set_words(buf, effects, slots as u32, 1000);
+    set_words(buf, bids, bidders as u32, bid);
+    set_words(buf, rest, constraints as u32, 0x0101);
+    rest + 4 * (constraints as usize)
+}
+
+// A sheet of version 1 that is right where its counts are, and its length. Each bid is 5.
+pub fn base(buf: &mut [u8], bidders: u8, slots: u8, constraints: u16) -> usize {
+    set_version(buf, 1);
+    fill(buf, bidders, slots, constraints, 5)
+}
+
+// The same of version 2, right where its tick is too. Each bid is one tick.
+pub fn base_in_ticks(buf: &mut [u8], tick: u32, bidders: u8, slots: u8, constraints: u16) -> usize {
+    set_version(buf, 2);
+    set_tick(buf, tick);
+    fill(buf, bidders, slots, constraints, tick)
 }
 
 // 4 bytes each: "effect of places 1 to m", all of them.
 pub fn set_effects(buf: &mut [u8], value: u32) {
-    let slots = count(buf, 6);
-    set_words(buf, 9, slots, value);
+    let slots = header(buf, 6);
+    let at = start(buf, 1);
+    set_words(buf, at, slots, value);
 }
 
 // The same, one of them.
 pub fn set_effect(buf: &mut [u8], slot: u8, value: u32) {
-    set_word(buf, start(wide(slot)), value);
+    let at = start(buf, wide(slot));
+    set_word(buf, at, value);
 }
 
 // 4 bytes each: "bid of bidders 1 to n", one of them.
 pub fn set_bid(buf: &mut [u8], bidder: u8, value: u32) {
-    let slots = count(buf, 6);
-    set_word(buf, start(slots + wide(bidder)), value);
+    let slots = header(buf, 6);
+    let at = start(buf, slots + wide(bidder));
+    set_word(buf, at, value);
 }
 
 // Four bytes in a row.
@@ -134,6 +160,7 @@ fn set_fields(buf: &mut [u8], at: usize, fields: [u8; 4]) {
 
 // 4 bytes each: "condition: owner, own place, other bidder, other's place, one byte each", one of them.
 pub fn set_constraint(buf: &mut [u8], constraint: u16, fields: [u8; 4]) {
-    let before = count(buf, 6) + count(buf, 5);
-    set_fields(buf, start(before + constraint as u32), fields);
+    let before = header(buf, 6) + header(buf, 5);
+    let at = start(buf, before + constraint as u32);
+    set_fields(buf, at, fields);
 }

@@ -1,4 +1,4 @@
-// Rules 8 and 9: effects and bids.
+// Rules 8 and 9: effects and bids, one among many in both versions.
 use crate::show;
 use test_edge_sheets::build;
 use test_edge_sheets::line;
@@ -33,6 +33,10 @@ fn effect(slot: u8, value: u32, rest: u32) {
     line::number(b" of 16 is ", value as u64);
     line::number(b", the others ", rest as u64);
     show::verdict(buf, length);
+    let longer = build::base_in_ticks(buf, 1, 1, 16, 0);
+    build::set_effects(buf, rest);
+    build::set_effect(buf, slot, value);
+    show::case(b"  in version 2 with tick 1", buf, longer);
 }
 
 // "8. An effect is 0, above 1,000,000 or above the one before it." The low bytes of 65,536 are 0, those of 16,777,217 are 1.
@@ -73,7 +77,7 @@ fn effects_in_order() {
     effect(16, 1001, 1000);
 }
 
-// Sixty-four bidders, whose bids are all 5 but one.
+// Sixty-four bidders, whose bids are all 5 but one, in version 2 all 1.
 fn bid(bidder: u8, value: u32) {
     let mut space = [0u8; build::ROOM];
     let buf: &mut [u8] = &mut space;
@@ -82,6 +86,9 @@ fn bid(bidder: u8, value: u32) {
     line::byte(b"bid ", bidder);
     line::number(b" of 64 is ", value as u64);
     show::verdict(buf, length);
+    let longer = build::base_in_ticks(buf, 1, 64, 1, 0);
+    build::set_bid(buf, bidder, value);
+    show::case(b"  in version 2 with tick 1", buf, longer);
 }
 
 // "9. A bid is above 1,000,000,000." The low bytes of 1,073,741,824 are 0.

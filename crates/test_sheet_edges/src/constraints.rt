@@ -12,13 +12,16 @@ pub fn report() {
     each_rule_at(1024);
 }
 
-// The one constraint of a sheet.
+// The one constraint of a sheet, in version 1 and in version 2.
 fn alone(name: &[u8], bidders: u8, slots: u8, fields: [u8; 4]) {
     let mut space = [0u8; build::ROOM];
     let buf: &mut [u8] = &mut space;
     let length = build::base(buf, bidders, slots, 1);
     build::set_constraint(buf, 1, fields);
     show::case(name, buf, length);
+    let longer = build::base_in_ticks(buf, 1, bidders, slots, 1);
+    build::set_constraint(buf, 1, fields);
+    show::case(b"  in version 2 with tick 1", buf, longer);
 }
 
 // Among 3 bidders and 4 slots, so that a slot may have a number that no bidder has.

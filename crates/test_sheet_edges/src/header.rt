@@ -56,16 +56,19 @@ fn version(number: u16) {
     show::verdict(buf, length);
 }
 
-// "3. The version is not 1."
+// "Refusal 3 is now for versions other than 1 and 2". One byte of 257, 258 and 512 alone is 1 or 2.
 fn versions() {
     version(0);
     version(1);
-    version(2);
+    version(3);
     version(256);
     version(257);
+    version(258);
+    version(512);
+    version(65535);
 }
 
-// A whole sheet of the counts.
+// A whole sheet of the counts, in version 1 and in version 2.
 fn whole(bidders: u8, slots: u8, constraints: u16) {
     let mut space = [0u8; build::ROOM];
     let buf: &mut [u8] = &mut space;
@@ -74,6 +77,8 @@ fn whole(bidders: u8, slots: u8, constraints: u16) {
     line::byte(b", places ", slots);
     line::number(b", conditions ", constraints as u64);
     show::verdict(buf, length);
+    let longer = build::base_in_ticks(buf, 1, bidders, slots, constraints);
+    show::case(b"  in version 2 with tick 1", buf, longer);
 }
 
 // "4. n is 0 or above 64."

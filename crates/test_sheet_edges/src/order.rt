@@ -7,6 +7,8 @@ pub fn report() {
     counts_and_form();
     counts();
     counts_and_fields();
+    header_in_ticks();
+    fields_in_ticks();
     within_one_constraint();
     sheet_order();
 }
@@ -22,7 +24,7 @@ fn form() {
     right(buf);
     build::set_byte(buf, 0, b'Q');
     show::case(b"1 and 2, 8 bytes with a wrong mark", buf, 8);
-    build::set_version(buf, 2);
+    build::set_version(buf, 3);
     show::case(b"2 and 3, mark and version wrong", buf, 37);
 }
 
@@ -31,8 +33,8 @@ fn counts_and_form() {
     let buf: &mut [u8] = &mut space;
     right(buf);
     build::set_bidder_count(buf, 0);
-    build::set_version(buf, 2);
-    show::case(b"3 and 4, version 2 and no bidder", buf, 37);
+    build::set_version(buf, 3);
+    show::case(b"3 and 4, version 3 and no bidder", buf, 37);
     build::set_version(buf, 1);
     build::set_slot_count(buf, 0);
     show::case(b"4 and 5, no bidder and no place", buf, 37);
@@ -63,6 +65,36 @@ fn counts_and_fields() {
     build::set_bid(buf, 2, 1000000001);
     build::set_constraint(buf, 1, [0, 1, 0, 0]);
     show::case(b"9 and 10, bid 2 too large and an owner 0", buf, 37);
+}
+
+// A sheet of version 2 with the same counts and tick 5 has 41 bytes. Its second 1, for a header that is too short, stands between 3 and 4.
+fn header_in_ticks() {
+    let mut space = [0u8; build::ROOM];
+    let buf: &mut [u8] = &mut space;
+    build::base_in_ticks(buf, 5, 2, 3, 2);
+    build::set_tick(buf, 0);
+    show::case(b"26 and 27, a tick of 0 and bids of 5", buf, 41);
+    show::case(b"26 and 7, a tick of 0 and a byte too many", buf, 42);
+    build::set_constraint_count(buf, 1025);
+    show::case(b"6 and 26, 1025 conditions and a tick of 0", buf, 41);
+    build::set_bidder_count(buf, 0);
+    show::case(b"1 and 4, 12 bytes of version 2 and no bidder", buf, 12);
+    build::set_byte(buf, 0, b'Q');
+    show::case(b"2 and 1, 12 bytes of version 2 with a wrong mark", buf, 12);
+    show::case(b"1 and 2, 8 bytes of version 2 with a wrong mark", buf, 8);
+}
+
+fn fields_in_ticks() {
+    let mut space = [0u8; build::ROOM];
+    let buf: &mut [u8] = &mut space;
+    build::base_in_ticks(buf, 5, 2, 3, 2);
+    build::set_bid(buf, 1, 6);
+    build::set_constraint(buf, 1, [0, 1, 0, 0]);
+    show::case(b"27 and 10, bid 1 off the tick and an owner 0", buf, 41);
+    build::set_bid(buf, 2, 1000000005);
+    show::case(b"9 and 27, bid 1 off the tick and bid 2 too large", buf, 41);
+    build::set_effect(buf, 3, 0);
+    show::case(b"8 and 27, effect 3 is 0 and bid 1 off the tick", buf, 41);
 }
 
 // Both constraints of the sheet.

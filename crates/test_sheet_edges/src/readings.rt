@@ -1,9 +1,12 @@
-// What is read of a small and a full sheet, and that nothing is of a refused one. The bytes of each longer number differ, so that their
-// order shows.
+// What is read of a small and a full sheet of each version, and that nothing is of a refused one. The bytes of each longer number differ, so
+// that their order shows.
 use sheet::Kind;
 use sheet::Round;
 use test_edge_sheets::build;
 use test_edge_sheets::line;
+
+// A tick, which each bid of version 2 here is a multiple of.
+const TICK: u32 = 0x01020304;
 
 pub fn report() {
     refused();
@@ -11,11 +14,12 @@ pub fn report() {
     full();
 }
 
-// A round's counts.
+// A round's counts and its tick.
 fn counts(round: Round) {
     line::number(b"  bidders ", round.bidders as u64);
     line::number(b", places ", round.slots as u64);
     line::number(b", conditions used ", round.used as u64);
+    line::number(b", tick ", round.tick as u64);
     line::text(b"\n");
 }
 
@@ -131,36 +135,45 @@ fn refused() {
     reading(b"reading a refused sheet", buf, length);
 }
 
-// Five bidders, three slots and 0x0102 constraints.
-fn build_small(buf: &mut [u8]) -> usize {
-    let length = build::base(buf, 5, 3, 0x0102);
+// On a sheet of five bidders, three slots and 0x0102 constraints: the effects, the first and the last bid, a constraint of each kind and the
+// last one.
+fn set_small(buf: &mut [u8], first_bid: u32, last_bid: u32) {
     build::set_effect(buf, 1, 0x010203);
     build::set_effect(buf, 2, 0x0201);
     build::set_effect(buf, 3, 0x0102);
-    build::set_bid(buf, 1, 0x01020304);
-    build::set_bid(buf, 5, 0x04030201);
-    length
-}
-
-// The same with a constraint of each kind, and the last one set.
-fn small() {
-    let mut space = [0u8; build::ROOM];
-    let buf: &mut [u8] = &mut space;
-    let length = build_small(buf);
+    build::set_bid(buf, 1, first_bid);
+    build::set_bid(buf, 5, last_bid);
     build::set_constraint(buf, 1, [2, 3, 4, 1]);
     build::set_constraint(buf, 2, [3, 0, 1, 2]);
     build::set_constraint(buf, 3, [4, 2, 0, 0]);
     build::set_constraint(buf, 0x0102, [5, 1, 4, 3]);
-    reading(b"reading a small sheet", buf, length);
 }
 
-// The largest counts, with the last field of each kind set.
+fn small() {
+    let mut space = [0u8; build::ROOM];
+    let buf: &mut [u8] = &mut space;
+    let length = build::base(buf, 5, 3, 0x0102);
+    set_small(buf, 0x01020304, 0x04030201);
+    reading(b"reading a small sheet", buf, length);
+    let longer = build::base_in_ticks(buf, TICK, 5, 3, 0x0102);
+    set_small(buf, 3 * TICK, 57 * TICK);
+    reading(b"reading a small sheet of version 2", buf, longer);
+}
+
+// On a sheet of the largest counts: the last field of each kind.
+fn set_full(buf: &mut [u8], last_bid: u32) {
+    build::set_effect(buf, 16, 0x0102);
+    build::set_bid(buf, 64, last_bid);
+    build::set_constraint(buf, 1024, [64, 16, 63, 15]);
+}
+
 fn full() {
     let mut space = [0u8; build::ROOM];
     let buf: &mut [u8] = &mut space;
     let length = build::base(buf, 64, 16, 1024);
-    build::set_effect(buf, 16, 0x0102);
-    build::set_bid(buf, 64, 0x01020304);
-    build::set_constraint(buf, 1024, [64, 16, 63, 15]);
+    set_full(buf, 0x01020304);
     reading(b"reading a full sheet", buf, length);
+    let longer = build::base_in_ticks(buf, TICK, 64, 16, 1024);
+    set_full(buf, 57 * TICK);
+    reading(b"reading a full sheet of version 2", buf, longer);
 }

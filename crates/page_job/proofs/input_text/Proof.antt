@@ -1,4 +1,4 @@
--- `page_job::input_text` meets its contract: the text of the bytes kept is written, and since the room has 4,426 bytes or more, that is
+-- `page_job::input_text` meets its contract: the text of the bytes kept is written, and since the room has 4,430 bytes or more, that is
 -- the whole input's. Assumes nothing.
 use Prim.Native.Nat.{ℕ}
 use mathlib.Core.List.{List}

@@ -35,7 +35,7 @@ shared-slice-read-slots c =
     let ok : Accepted (args .sheet .now)
     = answer-accepted (args .sheet .now) _ (c .before .before .before .play .last .1 .0) (c .before .before .before .play .result) refl (c .before .before .before .play .ensures) (c .before .if1 .left) in
     let facts = accepted-sheet (args .sheet .now) ok in
-    let header = facts .form .header in
+    let known = facts .counts in
     omega arith
 
 cast-slots : tie.Need-cast-slots

@@ -14,10 +14,10 @@ use Rattle.sheet_check.proofs.refusals.any_bid_off_tick.Statement.{stat
 use Rattle.sheet_check.proofs.refusals.any_bid_off_tick.Tie as tie
 
 abbrev Inv-loop : tie.InvT-loop
-Inv-loop sheet start bidders tick found₀ i₀ found i = (i ≤ bidders) × (found ≡ anyBelow (bidOff sheet) i)
+Inv-loop sheet start bidders tick found₀ tested₀ found tested = (tested ≤ bidders) × (found ≡ anyBelow (bidOff sheet) tested)
 
 abbrev μ-loop : tie.MeasureT-loop
-μ-loop sheet start bidders tick found₀ i₀ found i = bidders - i
+μ-loop sheet start bidders tick found₀ tested₀ found tested = bidders - tested
 
 loop-holds : tie.Need-loop-holds Inv-loop μ-loop
 unfolding anyBelow
@@ -35,8 +35,8 @@ word32-requires c κs = omega arith
 rem-found : tie.Need-rem-found Inv-loop μ-loop
 rem-found c = c .before .before .before .before .pre .3
 
-add-i : tie.Need-add-i Inv-loop μ-loop
-add-i c = omega arith
+add-tested : tie.Need-add-tested Inv-loop μ-loop
+add-tested c = omega arith
 
 loop-less : tie.Need-loop-less Inv-loop μ-loop
 loop-less c = omega arith
@@ -45,14 +45,14 @@ loop-again : tie.Need-loop-again Inv-loop μ-loop
 unfolding anyBelow bidField
 loop-again c =
     let enter = c .before .before .before .before in
-    let i = c .before .before .loop .i in
+    let i = c .before .before .loop .tested in
     let bid = c .word32 .ensures ∙ ap (λ (start : ℕ). word32At (enter .args .sheet .now) (start + 4 * i)) (enter .pre .0) in
     (omega arith, rw add-one (ap₂ _||_ (c .before .before .loop .inv .1) (ap₂ (λ (x t : ℕ). not (eqb (x % t) 0)) bid (enter .pre .2))))
 
 returns : tie.Need-returns Inv-loop μ-loop
 returns c =
     let v = c .before .loop .inv in
-    let all : c .before .loop .i ≡ c .before .before .before .args .bidders = omega arith in
+    let all : c .before .loop .tested ≡ c .before .before .before .args .bidders = omega arith in
     v .1 ∙ ap (anyBelow (bidOff _)) all
 
 pub any-bid-off-tick-spec : {M : Type 1} → statement M
@@ -66,7 +66,7 @@ any-bid-off-tick-spec =
     add-word32
     word32-requires
     rem-found
-    add-i
+    add-tested
     loop-less
     loop-again
     returns)

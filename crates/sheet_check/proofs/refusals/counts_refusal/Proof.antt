@@ -1,14 +1,23 @@
 -- `sheet_check::refusals::counts_refusal` meets its contract: each way out rewrites the definition with the tests that led there.
 -- Assumes nothing.
+use Prim.Native.Nat.{ℕ}
 use borrow.Author.Tests.{eq-eqb, ne-eqb, lt-ltb, le-ltb}
+use mathlib.Core.Bool.{Bool, _||_}
+use mathlib.Core.Path.{_≡_, sym, _∙_, ap}
 use native.Mathlib.Omega.{arith}
+use lib.Dec.{eqb, ltb}
 use lib.ListN.{length}
-use Rattle.sheet.specs.Sheet.{bidderCount, slotCount, constraintCount, tickField, sheetLength}
+use Rattle.sheet.specs.Sheet.{bidderCount, slotCount, constraintCount, sheetLength}
 use Rattle.sheet.specs.Refusal.{countsRefusal}
 use Rattle.sheet.proofs.HeaderLaws.{start-most}
 use borrow.Author.Needs.{needs}
 use Rattle.sheet_check.proofs.refusals.counts_refusal.Statement.{statement}
 use Rattle.sheet_check.proofs.refusals.counts_refusal.Tie as tie
+
+-- the test of a tick that is the sheet's
+same-tick : {tick field : ℕ} {found : Bool} → tick ≡ field → (eqb tick 0 || ltb 1_000_000_000 tick) ≡ found →
+    (eqb field 0 || ltb 1_000_000_000 field) ≡ found
+same-tick e t = sym (ap (λ (x : ℕ). eqb x 0 || ltb 1_000_000_000 x) e) ∙ t
 
 shared-slice-read-wide : tie.Need-shared-slice-read-wide
 shared-slice-read-wide c = search needs
@@ -54,33 +63,29 @@ returns-5 : tie.Need-returns-5
 unfolding countsRefusal
 returns-5 c = let s = c .before .before .before .before .before .before .before .before .before .before .before .args .sheet .now in simp (ne-eqb (bidderCount s) 0 (omega arith), le-ltb 64 (bidderCount s) (omega arith), ne-eqb (slotCount s) 0 (omega arith), le-ltb 16 (slotCount s) (omega arith), lt-ltb 1024 (constraintCount s) (omega arith))
 
+add-length : tie.Need-add-length
+add-length c = search needs
+
+add-length-2 : tie.Need-add-length-2
+add-length-2 c = search needs
+
+mul-length : tie.Need-mul-length
+mul-length c = search needs
+
+add-length-3 : tie.Need-add-length-3
+add-length-3 c = let most = start-most (c .before .before .before .before .before .before .before .before .before .before .before .args .sheet .now) in omega arith
+
 returns-6 : tie.Need-returns-6
 unfolding countsRefusal
-returns-6 c = let s = c .before .before .before .before .before .before .before .before .before .before .before .before .args .sheet .now in simp (ne-eqb (bidderCount s) 0 (omega arith), le-ltb 64 (bidderCount s) (omega arith), ne-eqb (slotCount s) 0 (omega arith), le-ltb 16 (slotCount s) (omega arith), le-ltb 1024 (constraintCount s) (omega arith), eq-eqb (tickField s) 0 (omega arith))
+returns-6 c = let s = c .before .before .before .before .before .before .before .before .before .before .before .before .args .sheet .now in simp (ne-eqb (bidderCount s) 0 (omega arith), le-ltb 64 (bidderCount s) (omega arith), ne-eqb (slotCount s) 0 (omega arith), le-ltb 16 (slotCount s) (omega arith), le-ltb 1024 (constraintCount s) (omega arith), same-tick (c .before .before .before .before .before .before .before .before .before .before .before .before .pre .2) (c .if6 .taken))
 
 returns-7 : tie.Need-returns-7
 unfolding countsRefusal
-returns-7 c = let s = c .before .before .before .before .before .before .before .before .before .before .before .before .before .args .sheet .now in simp (ne-eqb (bidderCount s) 0 (omega arith), le-ltb 64 (bidderCount s) (omega arith), ne-eqb (slotCount s) 0 (omega arith), le-ltb 16 (slotCount s) (omega arith), le-ltb 1024 (constraintCount s) (omega arith), ne-eqb (tickField s) 0 (omega arith), lt-ltb 1_000_000_000 (tickField s) (omega arith))
-
-add-if8 : tie.Need-add-if8
-add-if8 c = search needs
-
-add-if8-2 : tie.Need-add-if8-2
-add-if8-2 c = search needs
-
-mul-if8 : tie.Need-mul-if8
-mul-if8 c = search needs
-
-add-if8-3 : tie.Need-add-if8-3
-add-if8-3 c = let most = start-most (c .before .before .before .before .before .before .before .before .before .before .before .before .before .args .sheet .now) in omega arith
+returns-7 c = let s = c .before .before .before .before .before .before .before .before .before .before .before .before .before .args .sheet .now in simp (ne-eqb (bidderCount s) 0 (omega arith), le-ltb 64 (bidderCount s) (omega arith), ne-eqb (slotCount s) 0 (omega arith), le-ltb 16 (slotCount s) (omega arith), le-ltb 1024 (constraintCount s) (omega arith), same-tick (c .before .before .before .before .before .before .before .before .before .before .before .before .before .pre .2) (c .before .if6 .left), ne-eqb (length s) (sheetLength s) (omega arith))
 
 returns-8 : tie.Need-returns-8
 unfolding countsRefusal
-returns-8 c = let s = c .before .before .before .before .before .before .before .before .before .before .before .before .before .before .args .sheet .now in simp (ne-eqb (bidderCount s) 0 (omega arith), le-ltb 64 (bidderCount s) (omega arith), ne-eqb (slotCount s) 0 (omega arith), le-ltb 16 (slotCount s) (omega arith), le-ltb 1024 (constraintCount s) (omega arith), ne-eqb (tickField s) 0 (omega arith), le-ltb 1_000_000_000 (tickField s) (omega arith), ne-eqb (length s) (sheetLength s) (omega arith))
-
-returns-9 : tie.Need-returns-9
-unfolding countsRefusal
-returns-9 c = let s = c .before .before .before .before .before .before .before .before .before .before .before .before .before .before .args .sheet .now in simp (ne-eqb (bidderCount s) 0 (omega arith), le-ltb 64 (bidderCount s) (omega arith), ne-eqb (slotCount s) 0 (omega arith), le-ltb 16 (slotCount s) (omega arith), le-ltb 1024 (constraintCount s) (omega arith), ne-eqb (tickField s) 0 (omega arith), le-ltb 1_000_000_000 (tickField s) (omega arith), eq-eqb (length s) (sheetLength s) (omega arith))
+returns-8 c = let s = c .before .before .before .before .before .before .before .before .before .before .before .before .before .args .sheet .now in simp (ne-eqb (bidderCount s) 0 (omega arith), le-ltb 64 (bidderCount s) (omega arith), ne-eqb (slotCount s) 0 (omega arith), le-ltb 16 (slotCount s) (omega arith), le-ltb 1024 (constraintCount s) (omega arith), same-tick (c .before .before .before .before .before .before .before .before .before .before .before .before .before .pre .2) (c .before .if6 .left), eq-eqb (length s) (sheetLength s) (omega arith))
 
 pub counts-refusal-spec : {M : Type 1} → statement M
 counts-refusal-spec =
@@ -99,11 +104,10 @@ counts-refusal-spec =
     returns-3
     returns-4
     returns-5
+    add-length
+    add-length-2
+    mul-length
+    add-length-3
     returns-6
     returns-7
-    add-if8
-    add-if8-2
-    mul-if8
-    add-if8-3
-    returns-8
-    returns-9)
+    returns-8)
