@@ -43,27 +43,26 @@ pub const ABOVE_GREEDY: u32 = 150;
 
 pub const DAMAGED: u32 = 151;
 
-// At the largest sizes, by the sheet's own header: the sheets, those of version 2, and the pages and gains that both engines answered on
-// them.
+// At the largest sizes, by the sheet's own header: the sheets, and the pages and gains that both engines answered on them.
 pub const LARGEST: u32 = 152;
 
-pub const LONGEST: u32 = 153;
+pub const LARGEST_PAGES: u32 = 153;
 
-pub const LARGEST_PAGES: u32 = 154;
-
-pub const LARGEST_GAINS: u32 = 155;
+pub const LARGEST_GAINS: u32 = 154;
 
 // The largest that the best page is sought on.
-pub const EIGHT: u32 = 156;
+pub const EIGHT: u32 = 155;
 
-pub const EIGHT_PAGES: u32 = 157;
+pub const EIGHT_PAGES: u32 = 156;
 
-pub const EIGHT_GAINS: u32 = 158;
+pub const EIGHT_GAINS: u32 = 157;
 
-pub const EIGHT_BEST: u32 = 159;
+pub const EIGHT_BEST: u32 = 158;
 
-// By the sheet's own header too: version 2, and of these the sheets with a tick above 1.
-pub const VERSION_TWO: u32 = 160;
+// By the sheet's own header too: version 2, the largest of these, which no sheet is longer than, and those with a tick above 1.
+pub const VERSION_TWO: u32 = 159;
+
+pub const LONGEST: u32 = 160;
 
 pub const STEPPED: u32 = 161;
 

@@ -87,7 +87,6 @@ fn largest_sizes(tally: &[u64]) {
         b"accepted sheets with n = 64, m = 16, c = 1024",
         counts::LARGEST,
     );
-    test_tally::count_line(tally, b"of these, of version 2", counts::LONGEST);
     test_tally::count_line(tally, b"pages on these", counts::LARGEST_PAGES);
     test_tally::count_line(tally, b"gains on these", counts::LARGEST_GAINS);
     test_tally::count_line(tally, b"accepted sheets with n = 8, m = 8", counts::EIGHT);
@@ -99,6 +98,11 @@ fn largest_sizes(tally: &[u64]) {
 // What the headers say of versions and ticks.
 fn versions(tally: &[u64]) {
     test_tally::count_line(tally, b"accepted sheets of version 2", counts::VERSION_TWO);
+    test_tally::count_line(
+        tally,
+        b"accepted sheets of version 2 with n = 64, m = 16, c = 1024",
+        counts::LONGEST,
+    );
     test_tally::count_line(
         tally,
         b"accepted sheets with a tick above 1",
