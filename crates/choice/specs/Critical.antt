@@ -6,7 +6,7 @@ use mathlib.Core.Bool.{Bool, cond, not, _&&_}
 use mathlib.Core.Path.{_≡_}
 use lib.Dec.{eqb, ltb}
 
--- bids that are multiples of a tick
+-- a tick of 1 to 1,000,000,000, and bids up to 1,000,000,000 that are multiples of it
 pub record InTicks (tick : ℕ) (bid : ℕ → ℕ) : Type 0 where
   pub some-tick : 0 < tick
   pub most-tick : tick ≤ 1_000_000_000

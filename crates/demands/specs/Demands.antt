@@ -1,17 +1,19 @@
 -- The three demands, over the contracts of the five calls that programs link (pas/src/lib.rt), and then what the requests of document 02 that have
 -- landed add. Each call promises one record or equation, for every input; here is what follows for a reader, and the proofs are in proofs/Demands.antt. Lists of
 -- numbers are bytes; s is a sheet, out and out′ are a result buffer before and after a call, `number` is what a call returns.
-use Prim.Native.Nat.{ℕ, suc, _*_, _%_, _<_, _≤_}
+use Prim.Native.Nat.{ℕ, suc, _+_, _*_, _%_, _<_, _≤_}
 use mathlib.Core.Bool.{true, false, not, _&&_, _||_}
 use mathlib.Core.List.{List, _++_}
+use mathlib.Core.Logic.{_⊎_}
 use mathlib.Core.Path.{_≡_}
 use lib.IntN.{ℤ}
 use lib.ListN.{length, drop}
 use lib.Signed.{_≤ℤ_}
+use Rattle.basis.specs.Bytes.{word32At}
 use Rattle.basis.specs.Rows.{row}
 use Rattle.sheet.specs.declared.Page.{Page}
 use Rattle.sheet.specs.declared.Round.{Round}
-use Rattle.sheet.specs.Sheet.{version, bidderCount, slotCount, tickField, bidField}
+use Rattle.sheet.specs.Sheet.{version, bidderCount, slotCount, constraintCount, tickField, bidField}
 use Rattle.sheet.specs.Refusal.{refusalOf, Accepted}
 use Rattle.sheet.specs.Round.{roundOf}
 use Rattle.auction.specs.declared.Eligibility.{Eligibility}
@@ -140,6 +142,12 @@ pub record RequestThree : Type 0 where
 pub record RequestFour : Type 0 where
   -- version 1 means tick 1; so, in demand 3, one sheet may be of version 1 and the other of version 2 with tick 1
   pub version-one : (s : List ℕ) → version s ≡ 1 → tickField s ≡ 1
+  -- in version 2 the tick is the 4 bytes after the condition count
+  pub version-two : (s : List ℕ) → version s ≡ 2 → tickField s ≡ word32At s 9
+  -- an accepted sheet is of one of the two versions, and in version 2 "every length grows by 4"
+  pub lengths : (s : List ℕ) → Accepted s →
+      ((version s ≡ 1) × (length s ≡ 9 + 4 * (slotCount s + bidderCount s + constraintCount s)))
+      ⊎ ((version s ≡ 2) × (length s ≡ 13 + 4 * (slotCount s + bidderCount s + constraintCount s)))
   -- an accepted sheet of either version has a tick of 1 to 1,000,000,000, of which every bid is a multiple
   pub in-ticks : (s : List ℕ) → Accepted s →
       (0 < tickField s) × (tickField s ≤ 1_000_000_000) × ((i : ℕ) → 0 < i → i ≤ bidderCount s → bidField s i % tickField s ≡ 0)

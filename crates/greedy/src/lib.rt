@@ -6,7 +6,7 @@
 // `held`, and to `barred` the owners' keys along its chain.
 //
 // What depends on the constraints (`greedy_links::link_all`) stands apart from what depends on the bids (`fill`). A sheet is lent on for its
-// constraints, which start at `start`; its own bids are not read: those handed on count.
+// constraints, which start at `start`; its own bids and tick are not read there: those handed on count.
 ghost use mathlib.Core.Path.{_≡_};
 ghost use Prim.Native.Nat.{ℕ, _+_, _-_, _<_, _≤_};
 ghost use lib.Dec.{eqb};

@@ -37,7 +37,7 @@ formRefusal s =
     0
 
 -- 4. n is 0 or above 64.  5. m is 0 or above 16.  6. c is above 1,024.  26. The tick is 0 or above 1,000,000,000.
--- 7. The length is not 9 + 4 × (m + n + c), and 4 more in version 2.
+-- 7. The length is not 9 + 4 × (m + n + c), or in version 2 not 4 more.
 unfoldable pub countsRefusal : List ℕ → ℕ
 countsRefusal s =
     4 when eqb (bidderCount s) 0 || ltb 64 (bidderCount s) otherwise

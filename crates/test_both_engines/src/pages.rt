@@ -47,8 +47,8 @@ fn is_bid_after(sheet: &[u8], bidder: u32, bid: u32) -> bool {
     false
 }
 
-// Whether the price is a rival's bid and a tick. A rival with a higher number than the winner's asks for no more than its own bid, so that
-// any other price above 0 is asked for by one with a lower number.
+// Whether the price can only be a rival's bid and a tick: it is above 0, and no bidder with a higher number than the winner's bids it. Such
+// a rival asks for no more than its own bid; where one bids the price, it is not counted.
 fn is_raised(sheet: &[u8], result: &[u8], start: u32, slot: u32) -> bool {
     let bidder = parts::byte(result, bidder_at(start, slot, true));
     let price = parts::word(result, price_at(start, slot));

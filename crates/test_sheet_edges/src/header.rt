@@ -56,7 +56,7 @@ fn version(number: u16) {
     show::verdict(buf, length);
 }
 
-// "Refusal 3 is now for versions other than 1 and 2". One byte of 257, 258 and 512 alone is 1 or 2.
+// "Refusal 3 is now for versions other than 1 and 2". A single byte of 256, 257, 258 or 512 would read as 1 or 2.
 fn versions() {
     version(0);
     version(1);

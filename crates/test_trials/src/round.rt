@@ -14,7 +14,7 @@ struct Kind {
     fault: u32,
 }
 
-// The sheet with another version or tick, and its length.
+// The sheet with a version and a tick drawn anew, with other bids in its ticks, and its length.
 fn retick(state: &mut u64, sheet: &mut [u8]) -> usize {
     let steps = rounds::any_steps(state);
     rounds::retick(state, sheet, steps)

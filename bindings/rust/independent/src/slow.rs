@@ -11,7 +11,7 @@ pub type Constraint = [u8; 4];
 /// A round as it stands in an accepted sheet.
 #[derive(Clone, Debug, PartialEq)]
 pub struct Round {
-    /// What version 2 writes after the counts; none in version 1, "which means tick 1".
+    /// What version 2 writes after the counts; none in version 1: "version 1 means tick 1".
     pub tick: Option<u32>,
     /// By slot, the first at 0.
     pub effects: Vec<u32>,
