@@ -1,13 +1,14 @@
 -- Part by part: a part that gives a number gives the sheet's, and one that gives none leaves it to the next. And what the first bytes of a sheet
 -- of version 1 say of its header. Assumes nothing.
-use Prim.Native.Nat.{ℕ, suc, _%_, _<_, _≤_}
+use Prim.Native.Nat.{ℕ, suc, _-_, _%_, _<_, _≤_}
 use borrow.Author.Tests.{eq-eqb, ne-eqb, le-ltb}
 use mathlib.Core.List.{List}
 use mathlib.Core.Path.{_≡_, sym, _∙_, ap}
 use native.Mathlib.Nat.{mod-one}
 use native.Mathlib.Omega.{arith}
 use lib.Dec.{eqb}
-use lib.ListN.{length}
+use lib.ListN.{length, take}
+use lib.Seq.{take-all}
 use Rattle.basis.specs.Bytes.{byteAt, word16At, word32At}
 use Rattle.basis.specs.First.{orElse, firstOver}
 use Rattle.basis.proofs.BytesLaws.{word-bytes}
@@ -62,6 +63,10 @@ module _ (s : List ℕ) where
 
           pub by-constraints : ticksNumber s ≡ 0 → (k : ℕ) → k ≡ constraintsNumber s → k ≡ refusalOf s
           by-constraints ticks k e = e ∙ sym (after-bids ∙ orElse-right (ticksNumber s) _ ticks)
+
+-- the part of a sheet from the first byte on is the sheet
+pub whole-sheet : (s : List ℕ) → take (length s - 0) s ≡ s
+whole-sheet s = take-all (length s - 0) s (omega arith)
 
 -- every bid is a multiple of 1
 pub no-ticks : (s : List ℕ) (n : ℕ) → tickField s ≡ 1 → firstOver (λ i. tickRefusal s (suc i)) n ≡ 0

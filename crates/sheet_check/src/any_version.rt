@@ -35,5 +35,7 @@ pub fn refusal(sheet: &[u8]) -> u32
         return ticks;
     }
     let constraints_start = bids_start + 4 * (bidders as usize);
-    refusals::constraints_refusal(sheet, constraints_start, bidders, slots, constraints)
+    // Made anew for the call, as in `check`.
+    let whole = &sheet[0..];
+    refusals::constraints_refusal(whole, constraints_start, bidders, slots, constraints)
 }

@@ -1,11 +1,9 @@
 -- `sheet_check::check` meets its contract: where the first bytes say version 1, the effects start at byte 9 and the tick is 1, and a part that gives
 -- a number gives the sheet's. Assumes nothing.
-use Prim.Native.Nat.{ℕ, suc, _-_, _<_}
+use Prim.Native.Nat.{ℕ, _<_}
 use mathlib.Core.List.{List}
 use mathlib.Core.Path.{_≡_, sym, _∙_, ap, ap₂}
 use native.Mathlib.Omega.{arith}
-use lib.ListN.{length, take}
-use lib.Seq.{take-all}
 use Rattle.basis.specs.Bytes.{byteAt}
 use Rattle.basis.specs.First.{firstOver}
 use Rattle.sheet.specs.Sheet.{version, tickField, effectsStart}
@@ -13,13 +11,9 @@ use Rattle.sheet.specs.Refusal.{constraintRefusal, refusalOf}
 use Rattle.sheet.proofs.HeaderLaws.{start-other, tick-other}
 use Rattle.sheet.proofs.AcceptedLaws.{counts-accepted}
 use borrow.Author.Needs.{needs}
-use Rattle.sheet_check.proofs.PartLaws.{by-counts, by-effects, by-bids, by-constraints, no-ticks, version-one, form-one}
+use Rattle.sheet_check.proofs.PartLaws.{by-counts, by-effects, by-bids, by-constraints, no-ticks, version-one, form-one, whole-sheet}
 use Rattle.sheet_check.proofs.check.Statement.{statement}
 use Rattle.sheet_check.proofs.check.Tie as tie
-
--- the part from the first byte on is the sheet
-whole-sheet : (s : List ℕ) → take (length s - 0) s ≡ s
-whole-sheet s = take-all (length s - 0) s (omega arith)
 
 -- the header of version 1
 start-one : (s : List ℕ) → version s ≡ 1 → effectsStart s ≡ 9

@@ -1,13 +1,15 @@
 -- `sheet_check::any_version::refusal` meets its contract: a part that gives a number gives the sheet's, and one that gives none leaves it to the
 -- next. The counts that a part accepts keep the next within the sheet. Assumes nothing.
-use mathlib.Core.Path.{sym, _∙_, ap}
+use Prim.Native.Nat.{ℕ}
+use mathlib.Core.List.{List}
+use mathlib.Core.Path.{sym, _∙_, ap₂}
 use native.Mathlib.Omega.{arith}
 use Rattle.basis.specs.First.{firstOver}
 use Rattle.sheet.specs.Refusal.{constraintRefusal}
 use Rattle.sheet.proofs.HeaderLaws.{start-least}
 use Rattle.sheet.proofs.AcceptedLaws.{form-accepted, counts-accepted}
 use borrow.Author.Needs.{needs}
-use Rattle.sheet_check.proofs.PartLaws.{by-form, by-counts, by-effects, by-bids, by-ticks, by-constraints}
+use Rattle.sheet_check.proofs.PartLaws.{by-form, by-counts, by-effects, by-bids, by-ticks, by-constraints, whole-sheet}
 use Rattle.sheet_check.proofs.any_version.refusal.Statement.{statement}
 use Rattle.sheet_check.proofs.any_version.refusal.Tie as tie
 
@@ -170,18 +172,27 @@ add-constraints-start c =
     let start = c .before .before .before .before .before .before .before .before .before .before .before .before .effects-start .ensures in
     omega arith
 
+sub-whole : tie.Need-sub-whole
+sub-whole c = search needs
+
+part-whole-start : tie.Need-part-whole-start
+part-whole-start c = search needs
+
+part-whole-end : tie.Need-part-whole-end
+part-whole-end c = search needs
+
 constraints-refusal-requires : tie.Need-constraints-refusal-requires
 constraints-refusal-requires c κs =
-    let s = c .before .before .before .before .before .before .before .before .before .before .before .before .before .before .before .before .args .sheet .now in
-    let known = counts-accepted s (sym (c .before .before .before .before .before .before .before .before .before .before .counts-refusal .ensures) ∙ c .before .before .before .before .before .before .before .before .before .if2 .left) in
+    let s = c .before .before .before .before .before .before .before .before .before .before .before .before .before .before .before .before .before .args .sheet .now in
+    let known = counts-accepted s (sym (c .before .before .before .before .before .before .before .before .before .before .before .counts-refusal .ensures) ∙ c .before .before .before .before .before .before .before .before .before .before .if2 .left) in
     let least = start-least s in
-    let start = c .before .before .before .before .before .before .before .before .before .before .before .before .effects-start .ensures in
-    omega arith
+    let start = c .before .before .before .before .before .before .before .before .before .before .before .before .before .effects-start .ensures in
+    rw (whole-sheet s) (omega arith)
 
 returns-6 : tie.Need-returns-6
 returns-6 c =
-    by-constraints _ (sym (c .before .before .before .before .before .before .before .before .before .before .before .before .before .before .before .form-refusal .ensures) ∙ c .before .before .before .before .before .before .before .before .before .before .before .before .before .before .if1 .left) (sym (c .before .before .before .before .before .before .before .before .before .before .before .counts-refusal .ensures) ∙ c .before .before .before .before .before .before .before .before .before .before .if2 .left) (sym (c .before .before .before .before .before .before .effects-refusal .ensures) ∙ c .before .before .before .before .before .if3 .left) (sym (c .before .before .before .before .bids-refusal .ensures) ∙ c .before .before .before .if4 .left) (sym (c .before .before .ticks-refusal .ensures) ∙ c .before .if5 .left) _
-    (c .constraints-refusal .ensures ∙ ap (firstOver (constraintRefusal _)) (c .before .before .before .before .before .before .before .word16 .ensures .0))
+    by-constraints _ (sym (c .before .before .before .before .before .before .before .before .before .before .before .before .before .before .before .before .form-refusal .ensures) ∙ c .before .before .before .before .before .before .before .before .before .before .before .before .before .before .before .if1 .left) (sym (c .before .before .before .before .before .before .before .before .before .before .before .before .counts-refusal .ensures) ∙ c .before .before .before .before .before .before .before .before .before .before .before .if2 .left) (sym (c .before .before .before .before .before .before .before .effects-refusal .ensures) ∙ c .before .before .before .before .before .before .if3 .left) (sym (c .before .before .before .before .before .bids-refusal .ensures) ∙ c .before .before .before .before .if4 .left) (sym (c .before .before .before .ticks-refusal .ensures) ∙ c .before .before .if5 .left) _
+    (c .constraints-refusal .ensures ∙ ap₂ (λ (l : List ℕ) (n : ℕ). firstOver (constraintRefusal l) n) (whole-sheet _) (c .before .before .before .before .before .before .before .before .word16 .ensures .0))
 
 pub refusal-spec : {M : Type 1} → statement M
 refusal-spec =
@@ -212,5 +223,8 @@ refusal-spec =
     cast-constraints-start
     mul-constraints-start
     add-constraints-start
+    sub-whole
+    part-whole-start
+    part-whole-end
     constraints-refusal-requires
     returns-6)
