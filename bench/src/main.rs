@@ -50,7 +50,7 @@ fn show_times() {
         let (library, rust) = (shown(times.library), shown(times.rust));
         println!("{} {library:>29} | {rust:>28} | {ratio:>14.2} | {noise:>16.2} |", title(row.part, &row));
     }
-    for row in rows::rows().iter().filter(|row| row.call == Call::Best && !row.part.starts_with("grows")) {
+    for row in rows::rows().iter().filter(|row| row.call == Call::Best && row.tick.is_none() && !row.part.starts_with("grows")) {
         let [library, rust] = timing::slowest(row);
         let ratio = library / rust;
         println!("{} {library:>29.0} | {rust:>28.0} | {ratio:>14.2} | {:>16} |", title("slowest of 2k", row), "");

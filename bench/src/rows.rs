@@ -13,10 +13,11 @@ fn size(bidders: usize, slots: usize, constraints: usize) -> Size {
 pub fn rows() -> Vec<Row> {
     let mut rows = sizes("sizes", None);
     rows.extend(kinds());
-    rows.extend(best_sizes());
+    rows.extend(best_sizes("sizes", None));
     rows.extend(best_kinds());
     rows.extend(growth());
     rows.extend(sizes("version 2", TICK));
+    rows.extend(best_sizes("version 2", TICK));
     rows
 }
 
@@ -39,9 +40,9 @@ fn kinds() -> Vec<Row> {
 }
 
 /// The best page by size, with pairs.
-fn best_sizes() -> Vec<Row> {
+fn best_sizes(part: &'static str, tick: Option<u32>) -> Vec<Row> {
     let sizes = [size(4, 4, 8), size(6, 6, 24), size(8, 8, 0), size(8, 8, 64), size(8, 8, 512), size(8, 8, 1024)];
-    sizes.map(|size| Row { part: "sizes", call: Call::Best, size, manner: Manner::Pairs, tick: None }).to_vec()
+    sizes.map(|size| Row { part, call: Call::Best, size, manner: Manner::Pairs, tick }).to_vec()
 }
 
 /// The best page by kind of constraint. 196 constraints are the whole chain of 8 bidders in 8 slots; an exclusion is 8 constraints.
