@@ -20,6 +20,7 @@ withBid r (suc i) x =
       slots = r .slots;
       used = r .used;
       tick = r .tick;
+      version = r .version;
       effects = r .effects;
       bids = set (r .bids) i x;
       constraints = r .constraints;

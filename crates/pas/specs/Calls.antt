@@ -1,5 +1,5 @@
 -- The calls by the C convention: what each returns, and all that it leaves in what it was lent. `pas_check` has the check's own
--- equation and `pas_play` the record of play; the other three write their answer to memory that the caller lends, `before` and `after` the call.
+-- equation and `pas_play` the record of play; the other four write their answer to memory that the caller lends, `before` and `after` the call.
 use Prim.Native.Nat.{ℕ}
 use mathlib.Core.Bool.{Bool, cond}
 use mathlib.Core.List.{List}
@@ -14,6 +14,7 @@ use Rattle.gain.specs.Call.{gainRefusal}
 use Rattle.auction.specs.Allowed.{total}
 use Rattle.best_page.specs.BestPage.{bestPage}
 use Rattle.best_search.specs.Call.{bestRefusal, bestBuffer}
+use Rattle.owner_part.specs.OwnerPart.{partRefusal, bytesBefore, partLength}
 
 -- 1 yes, 0 no
 unfoldable pub yesNumber : Bool → ℕ
@@ -34,3 +35,9 @@ pub record BestPageGiven (s out : List ℕ) (before returned : ℕ) (out′ : Li
   pub number : returned ≡ bestRefusal s out
   pub buffer : out′ ≡ unlessRefused (bestRefusal s out) (bestBuffer (roundOf s) out) out
   pub written : after ≡ unlessRefused (bestRefusal s out) (total (roundOf s) (bestPage (roundOf s))) before
+
+-- where the part of bidder i is: the bytes of the sheet before it, and its own
+pub record PartGiven (s : List ℕ) (i start size returned start′ size′ : ℕ) : Type 0 where
+  pub number : returned ≡ partRefusal s i
+  pub starts : start′ ≡ unlessRefused (partRefusal s i) (bytesBefore s i) start
+  pub sized : size′ ≡ unlessRefused (partRefusal s i) (partLength s i) size

@@ -1,13 +1,13 @@
-// The five calls by the C convention, for programs that link the static library (include/pas.h is their manual).
+// The six calls by the C convention, for programs that link the static library (include/pas.h is their manual).
 //
 // Each returns 0 or the number of the first rule that the call breaks. On a refusal nothing lent changes, the answer's own memory
 // included.
 ghost use mathlib.Core.Path.{_≡_};
 ghost use Rattle.sheet.specs.Refusal.{refusalOf};
 ghost use Rattle.play.specs.Play.{Played};
-ghost use Rattle.pas.specs.Calls.{DownwardGiven, GainGiven, BestPageGiven, yesNumber};
+ghost use Rattle.pas.specs.Calls.{DownwardGiven, GainGiven, BestPageGiven, PartGiven, yesNumber};
 
-// 1 to 13, 26 or 27, or 0 for an accepted sheet.
+// 1 to 13 or 26 to 28, or 0 for an accepted sheet.
 #[no_mangle]
 pub extern "C" fn pas_check(sheet: &[u8]) -> u32
     ensures { λ r. ⌜ r ≡ refusalOf (now (sheet .entry)) ⌝ }
@@ -81,5 +81,25 @@ pub extern "C" fn pas_best(sheet: &[u8], result: &mut [u8], total: &mut u64) -> 
         return refusal;
     }
     *total = chosen.total;
+    0
+}
+
+// The check's numbers, 29 or 16; or 0, with how many bytes of the sheet stand before the part with the bidder's constraints, and how many it has.
+#[no_mangle]
+pub extern "C" fn pas_owner_part(
+    sheet: &[u8],
+    bidder: u32,
+    start: &mut usize,
+    length: &mut usize,
+) -> u32
+    ensures { λ r. ⌜ PartGiven (now (sheet .entry)) bidder (now (start .entry)) (now (length .entry)) r (now (start .exit)) (now (length .exit)) ⌝ }
+{
+    let found = owner_part::bounds(sheet, bidder);
+    let refusal = found.refusal;
+    if refusal != 0 {
+        return refusal;
+    }
+    *start = found.start;
+    *length = found.length;
     0
 }

@@ -1,7 +1,7 @@
 -- The laws' own: proved from the definitions, and nothing here need be believed.
 -- All that is true of an accepted sheet, rule by rule. That an accepted sheet has these facts, and that a sheet with them is accepted,
 -- are laws (proofs/AcceptedLaws.antt): a new rule is a new field here.
-use Prim.Native.Nat.{ℕ, _%_, _<_, _≤_}
+use Prim.Native.Nat.{ℕ, suc, _+_, _*_, _%_, _<_, _≤_}
 use mathlib.Core.Bool.{true}
 use mathlib.Core.List.{List}
 use mathlib.Core.Logic.{_⊎_}
@@ -66,6 +66,14 @@ pub record ConstraintAccepted (n m owner own other others : ℕ) : Type 0 where
   pub together-back : others ≡ 0 → other ≡ 0
   pub not-empty : own ≡ 0 → other ≡ 0 → ⊥
 
+-- a condition's four fields as one number, the owner first: where each is below 256, the order of the conditions is that of their numbers
+-- (proofs/OrderLaws.antt)
+abbrev pub fieldsNumber : (owner own other others : ℕ) → ℕ
+fieldsNumber owner own other others = 16777216 * owner + 65536 * own + 256 * other + others
+
+unfoldable pub orderNumber : List ℕ → ℕ → ℕ
+orderNumber s k = fieldsNumber (ownerField s k) (ownSlotField s k) (otherField s k) (otherSlotField s k)
+
 -- All that acceptance means.
 pub record AcceptedSheet (s : List ℕ) : Type 0 where
   pub form : Form s
@@ -74,3 +82,5 @@ pub record AcceptedSheet (s : List ℕ) : Type 0 where
   pub bids : (i : ℕ) → 0 < i → i ≤ bidderCount s → BidAccepted s i
   pub constraints : (k : ℕ) → k < constraintCount s →
       ConstraintAccepted (bidderCount s) (slotCount s) (ownerField s k) (ownSlotField s k) (otherField s k) (otherSlotField s k)
+  -- 28: in version 2 each condition is above the one before it
+  pub rising : version s ≡ 2 → (k : ℕ) → suc k < constraintCount s → orderNumber s k < orderNumber s (suc k)

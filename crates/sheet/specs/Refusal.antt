@@ -1,6 +1,6 @@
--- "Numbers of a refused call, in checking order", 1 to 13 with 26 and 27 among them, and 0 for an accepted sheet.
+-- "Numbers of a refused call, in checking order", 1 to 13 with 26 to 28 among them, and 0 for an accepted sheet.
 use Prim.Native.Nat.{ℕ, zero, suc, _%_}
-use mathlib.Core.Bool.{Bool, not, _&&_, _||_}
+use mathlib.Core.Bool.{Bool, true, not, _&&_, _||_}
 use mathlib.Core.List.{List}
 use mathlib.Core.Path.{_≡_}
 use lib.Dec.{eqb, ltb}
@@ -88,12 +88,41 @@ fieldsRefusal n m owner own other others =
     13 when eqb own 0 && (eqb other 0 && eqb others 0) otherwise
     0
 
-unfoldable pub constraintRefusal : List ℕ → ℕ → ℕ
-constraintRefusal s k =
+unfoldable pub termsRefusal : List ℕ → ℕ → ℕ
+termsRefusal s k =
     fieldsRefusal (bidderCount s) (slotCount s) (ownerField s k) (ownSlotField s k) (otherField s k) (otherSlotField s k)
 
+-- "rising order of owner, own place, other bidder, other's place": of two conditions the first of the four in which they differ decides which is
+-- above
+unfoldable pub fieldsBelow : (owner own other others owner′ own′ other′ others′ : ℕ) → Bool
+fieldsBelow owner own other others owner′ own′ other′ others′ =
+    ltb owner owner′
+    || (eqb owner owner′ && (ltb own own′
+    || (eqb own own′ && (ltb other other′
+    || (eqb other other′ && ltb others others′)))))
+
+-- the condition at index j of the sheet stands below the one at index k in that order
+unfoldable pub constraintBelow : List ℕ → ℕ → ℕ → Bool
+constraintBelow s j k =
+    fieldsBelow
+    (ownerField s j) (ownSlotField s j) (otherField s j) (otherSlotField s j)
+    (ownerField s k) (ownSlotField s k) (otherField s k) (otherSlotField s k)
+
+-- the condition at index k is above the one before it; before the first stands none
+unfoldable pub aboveBefore : List ℕ → ℕ → Bool
+aboveBefore s zero = true
+aboveBefore s (suc k) = constraintBelow s k (suc k)
+
+-- 28. A condition of a sheet of version 2 is not above the one before it.
+unfoldable pub orderRefusal : List ℕ → ℕ → ℕ
+orderRefusal s k = 28 when eqb (version s) 2 && not (aboveBefore s k) otherwise 0
+
+-- a condition's number: 28 is "tested for each condition after its 13"
+unfoldable pub constraintRefusal : List ℕ → ℕ → ℕ
+constraintRefusal s k = orElse (termsRefusal s k) (orderRefusal s k)
+
 -- The first number that applies: effects of slots 1 to m; bids of bidders 1 to n, all of them for 9 and then all for 27. "Conditions are taken in
--- sheet order, each through 10 to 13."
+-- sheet order, each through 10 to 13", and then 28.
 unfoldable pub refusalOf : List ℕ → ℕ
 refusalOf s =
     orElse (formRefusal s)

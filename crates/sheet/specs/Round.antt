@@ -5,6 +5,7 @@ use mathlib.Core.Path.{_≡_}
 use lib.ListN.{getD}
 use Rattle.basis.specs.Rows.{padded}
 use Rattle.sheet.specs.Sheet.{
+  version,
   bidderCount,
   slotCount,
   constraintCount,
@@ -45,7 +46,7 @@ constraintField s k =
 abbrev pub blank : Constraint
 blank = record { owner = bidder 0; kind = OwnSlot (slot 0) }
 
--- n, m, c, the tick, the effects, the bids and the constraints in sheet order, with 0 and blank ones after them
+-- n, m, c, the tick, the version, the effects, the bids and the constraints in sheet order, with 0 and blank ones after them
 unfoldable pub roundOf : List ℕ → Round
 roundOf s =
     record {
@@ -53,6 +54,7 @@ roundOf s =
       slots = slotCount s;
       used = constraintCount s;
       tick = tickField s;
+      version = version s;
       effects = padded (λ k. effectField s (suc k)) (slotCount s) 16 0;
       bids = padded (λ i. bidField s (suc i)) (bidderCount s) 64 0;
       constraints = padded (constraintField s) (constraintCount s) 1024 blank;

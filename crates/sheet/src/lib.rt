@@ -38,12 +38,13 @@ pub struct Constraint {
 }
 
 // A round in memory: the sheet's numbers, and its constraints in sheet order. `used` counts them; the rest are blank. Every bid is a multiple of
-// the tick.
+// the tick; in version 2 the constraints rise.
 pub struct Round {
     pub bidders: usize,
     pub slots: usize,
     pub used: usize,
     pub tick: u32,
+    pub version: u32,
     pub effects: [u32; 16],
     pub bids: [u32; 64],
     pub constraints: [Constraint; 1024],

@@ -152,6 +152,7 @@ pub fn accepted_round(sheet: &[u8]) -> Round
         slots,
         used,
         tick,
+        version: word16(sheet, 3),
         effects,
         bids,
         constraints: [blank_constraint(); 1024],
