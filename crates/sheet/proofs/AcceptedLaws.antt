@@ -1,7 +1,7 @@
 -- What acceptance means: an accepted sheet has every fact of specs/Accepted.antt, and a sheet with these facts is accepted. Rule by rule,
 -- a test that fails says its fact, and a fact makes its test fail. Assumes nothing.
 use Prim.Native.Nat.{ℕ, zero, suc, _%_, _<_, _≤_}
-use borrow.Author.Tests.{eqb-true, eqb-false, ltb-false, eq-eqb, ne-eqb, le-ltb, not-true, not-false}
+use borrow.Author.Tests.{eqb-true, eqb-false, ltb-true, ltb-false, eq-eqb, ne-eqb, lt-ltb, le-ltb, not-true, not-false}
 use mathlib.Core.Bool.{Bool, true, false, not, _&&_, _||_, and-false, false≢true}
 use mathlib.Core.List.{List}
 use mathlib.Core.Logic.{_⊎_, inl, inr, ⊎-elim}
@@ -40,12 +40,16 @@ use Rattle.sheet.specs.Refusal.{
   legalBid,
   inRange,
   fieldsRefusal,
+  termsRefusal,
+  aboveBefore,
+  orderRefusal,
   constraintRefusal,
   refusalOf,
   Accepted,
 }
 use Rattle.sheet.proofs.HeaderLaws.{start-two, start-other}
-use Rattle.sheet.specs.Accepted.{Form, Counts, EffectAccepted, BidAccepted, ConstraintAccepted, AcceptedSheet}
+use Rattle.sheet.proofs.OrderLaws.{SmallFields, constraint-below, order-free, order-kept, order-above}
+use Rattle.sheet.specs.Accepted.{Form, Counts, EffectAccepted, BidAccepted, ConstraintAccepted, orderNumber, AcceptedSheet}
 
 -- 1 to 3, and 1 again
 known-version : (s : List ℕ) → (eqb (version s) 1 || eqb (version s) 2) ≡ true → (version s ≡ 1) ⊎ (version s ≡ 2)
@@ -276,16 +280,54 @@ fields-back n m owner own other others f =
     ))
     (same-or-not other 0)
 
-constraint-of : (s : List ℕ) (k : ℕ) → constraintRefusal s k ≡ 0 →
+terms-of : (s : List ℕ) (k : ℕ) → termsRefusal s k ≡ 0 →
     ConstraintAccepted (bidderCount s) (slotCount s) (ownerField s k) (ownSlotField s k) (otherField s k) (otherSlotField s k)
-unfolding constraintRefusal
-constraint-of s k e = fields-of (bidderCount s) (slotCount s) (ownerField s k) (ownSlotField s k) (otherField s k) (otherSlotField s k) e
+unfolding termsRefusal
+terms-of s k e = fields-of (bidderCount s) (slotCount s) (ownerField s k) (ownSlotField s k) (otherField s k) (otherSlotField s k) e
 
-constraint-back : (s : List ℕ) (k : ℕ) →
+terms-back : (s : List ℕ) (k : ℕ) →
     ConstraintAccepted (bidderCount s) (slotCount s) (ownerField s k) (ownSlotField s k) (otherField s k) (otherSlotField s k) →
-    constraintRefusal s k ≡ 0
+    termsRefusal s k ≡ 0
+unfolding termsRefusal
+terms-back s k f = fields-back (bidderCount s) (slotCount s) (ownerField s k) (ownSlotField s k) (otherField s k) (otherSlotField s k) f
+
+-- 28: the fields of an accepted condition are small, so that its place in the order is that of its number
+small-fields : (s : List ℕ) (k : ℕ) → Counts s →
+    ConstraintAccepted (bidderCount s) (slotCount s) (ownerField s k) (ownSlotField s k) (otherField s k) (otherSlotField s k) → SmallFields s k
+small-fields s k c f =
+    let n = c .most-bidders in
+    let m = c .most-slots in
+    record {
+      own = (let h = f .most-own in omega arith);
+      other = (let h = f .most-other in omega arith);
+      others = (let h = f .most-others in omega arith);
+    }
+
+rising-of : (s : List ℕ) (k : ℕ) → SmallFields s k → SmallFields s (suc k) → version s ≡ 2 → orderRefusal s (suc k) ≡ 0 → orderNumber s k < orderNumber s (suc k)
+unfolding aboveBefore
+rising-of s k p q v e =
+    ltb-true (orderNumber s k) (orderNumber s (suc k)) (sym (constraint-below s k (suc k) p q) ∙ order-above s (suc k) v e)
+
+order-back : (s : List ℕ) (k : ℕ) → ((j : ℕ) → j ≤ k → SmallFields s j) → (version s ≡ 2 → (j : ℕ) → suc j ≤ k → orderNumber s j < orderNumber s (suc j)) → orderRefusal s k ≡ 0
+unfolding aboveBefore
+order-back s zero small rising = order-kept s zero refl
+order-back s (suc k) small rising =
+    ⊎-elim
+    (λ (v : version s ≡ 2).
+    order-kept s (suc k)
+    (constraint-below s k (suc k) (small k (omega arith)) (small (suc k) (omega arith))
+    ∙ lt-ltb (orderNumber s k) (orderNumber s (suc k)) (rising v k (omega arith))))
+    (order-free s (suc k))
+    (same-or-not (version s) 2)
+
+-- a condition gives no number where neither its terms nor its place in the order do
+both-none : (s : List ℕ) (k : ℕ) → constraintRefusal s k ≡ 0 → (termsRefusal s k ≡ 0) × (orderRefusal s k ≡ 0)
 unfolding constraintRefusal
-constraint-back s k f = fields-back (bidderCount s) (slotCount s) (ownerField s k) (ownSlotField s k) (otherField s k) (otherSlotField s k) f
+both-none s k e = orElse-none (termsRefusal s k) (orderRefusal s k) e
+
+none-both : (s : List ℕ) (k : ℕ) → termsRefusal s k ≡ 0 → orderRefusal s k ≡ 0 → constraintRefusal s k ≡ 0
+unfolding constraintRefusal
+none-both s k e f = orElse-right (termsRefusal s k) (orderRefusal s k) e ∙ f
 
 -- what holds of each number below n, counted from 1, holds of each from 1 to n
 from-one : (P : ℕ → Type 0) (n : ℕ) → ((i : ℕ) → i < n → P (suc i)) → (k : ℕ) → 0 < k → k ≤ n → P k
@@ -301,16 +343,21 @@ accepted-sheet s e =
     let c = orElse-none (firstOver (λ k. effectRefusal s (suc k)) (slotCount s)) _ (b .1) in
     let d = orElse-none (firstOver (λ i. bidRefusal s (suc i)) (bidderCount s)) _ (c .1) in
     let t = orElse-none (firstOver (λ i. tickRefusal s (suc i)) (bidderCount s)) _ (d .1) in
+    let counts : Counts s = counts-accepted s (b .0) in
+    let none : (k : ℕ) → k < constraintCount s → (termsRefusal s k ≡ 0) × (orderRefusal s k ≡ 0) =
+    (λ k l. both-none s k (first-none (constraintRefusal s) (constraintCount s) (t .1) k l)) in
+    let small : (k : ℕ) → k < constraintCount s → SmallFields s k = (λ k l. small-fields s k counts (terms-of s k (none k l .0))) in
     record {
       form = form-accepted s (a .0);
-      counts = counts-accepted s (b .0);
+      counts = counts;
       effects = from-one (EffectAccepted s) (slotCount s) (λ k l. effect-of s (suc k) (first-none (λ k. effectRefusal s (suc k)) (slotCount s) (c .0) k l));
       bids = from-one (BidAccepted s) (bidderCount s)
           (λ i l.
           bid-of s (suc i)
           (first-none (λ i. bidRefusal s (suc i)) (bidderCount s) (d .0) i l)
           (first-none (λ i. tickRefusal s (suc i)) (bidderCount s) (t .0) i l));
-      constraints = λ k l. constraint-of s k (first-none (constraintRefusal s) (constraintCount s) (t .1) k l);
+      constraints = λ k l. terms-of s k (none k l .0);
+      rising = λ v k l. rising-of s k (small k (omega arith)) (small (suc k) l) v (none (suc k) l .1);
     }
 
 -- and a sheet with the facts is accepted.
@@ -325,4 +372,10 @@ sheet-accepted s f =
     (first-all-none (λ i. bidRefusal s (suc i)) (bidderCount s) (λ i l. bid-back s (suc i) (f .bids (suc i) (omega arith) l)))
     ∙ orElse-right (firstOver (λ i. tickRefusal s (suc i)) (bidderCount s)) _
     (first-all-none (λ i. tickRefusal s (suc i)) (bidderCount s) (λ i l. tick-back s (suc i) (f .bids (suc i) (omega arith) l)))
-    ∙ first-all-none (constraintRefusal s) (constraintCount s) (λ k l. constraint-back s k (f .constraints k l))
+    ∙ first-all-none (constraintRefusal s) (constraintCount s)
+    (λ k l.
+    none-both s k
+    (terms-back s k (f .constraints k l))
+    (order-back s k
+    (λ j m. small-fields s j (f .counts) (f .constraints j (omega arith)))
+    (λ v j m. f .rising v j (omega arith))))

@@ -8,6 +8,7 @@ use native.Mathlib.Omega.{arith}
 use Rattle.basis.proofs.RowLaws.{length-padded, getD-padded, getD-padded-after}
 use Rattle.sheet.specs.declared.Constraint.{Constraint}
 use Rattle.sheet.specs.Sheet.{
+  version,
   bidderCount,
   slotCount,
   constraintCount,
@@ -22,8 +23,9 @@ use Rattle.sheet.specs.Sheet.{
 use Rattle.sheet.specs.Refusal.{Accepted}
 use Rattle.sheet.specs.Round.{kindOf, constraintField, blank, roundOf, bidOf, effectOf, constraintAt, Has, SheetHas}
 use Rattle.sheet.proofs.AcceptedLaws.{accepted-sheet}
-use Rattle.sheet.specs.Accepted.{ConstraintAccepted, AcceptedSheet}
-use Rattle.sheet.specs.Proper.{ProperKind, Proper, ProperRound}
+use Rattle.sheet.proofs.OrderLaws.{rising-over}
+use Rattle.sheet.specs.Accepted.{ConstraintAccepted, fieldsNumber, orderNumber, AcceptedSheet}
+use Rattle.sheet.specs.Proper.{ProperKind, Proper, kindNumber, constraintNumber, ProperRound}
 use Rattle.basis.proofs.NumberLaws.{below-or-not}
 
 proper-kind : (n m owner own other others : ℕ) → n ≤ 64 → m ≤ 16 → ConstraintAccepted n m owner own other others →
@@ -48,7 +50,15 @@ proper-kind n m owner (suc own) (suc other) others x y a = (
   (let h = a .most-own in omega arith),
 )
 
--- the round's counts and its tick are the sheet's
+-- the number of a constraint in the round is that of its fields
+kind-number : (n m owner own other others : ℕ) → ConstraintAccepted n m owner own other others →
+    kindNumber owner (kindOf own other others) ≡ fieldsNumber owner own other others
+unfolding kindOf
+kind-number n m owner own zero others a = let none = a .together refl in omega arith
+kind-number n m owner zero (suc other) others a = refl
+kind-number n m owner (suc own) (suc other) others a = refl
+
+-- the round's counts, its tick and its version are the sheet's
 pub round-bidders : (s : List ℕ) → roundOf s .bidders ≡ bidderCount s
 unfolding roundOf
 round-bidders s = refl
@@ -60,6 +70,10 @@ round-slots s = refl
 pub round-tick : (s : List ℕ) → roundOf s .tick ≡ tickField s
 unfolding roundOf
 round-tick s = refl
+
+pub round-version : (s : List ℕ) → roundOf s .version ≡ version s
+unfolding roundOf
+round-version s = refl
 
 module _ (s : List ℕ) (ok : Accepted s) where
   facts : AcceptedSheet s
@@ -143,6 +157,21 @@ module _ (s : List ℕ) (ok : Accepted s) where
             (facts .counts .most-bidders) (facts .counts .most-slots) a;
       }
 
+  round-number : (i : ℕ) → i < constraintCount s → constraintNumber (constraintAt (roundOf s) i) ≡ orderNumber s i
+  unfolding constraintNumber constraintField orderNumber
+  round-number i l =
+      ap constraintNumber (round-constraint i l)
+      ∙ kind-number (bidderCount s) (slotCount s) (ownerField s i) (ownSlotField s i) (otherField s i) (otherSlotField s i) (facts .constraints i l)
+
+  -- in version 2 the constraints rise
+  numbers-rise : version s ≡ 2 → (i j : ℕ) → i < j → j < constraintCount s →
+      constraintNumber (constraintAt (roundOf s) i) < constraintNumber (constraintAt (roundOf s) j)
+  numbers-rise v i j l m =
+      let e = round-number i (omega arith) in
+      let e′ = round-number j m in
+      let h = rising-over (orderNumber s) (constraintCount s) (facts .rising v) i j l m in
+      omega arith
+
   pub round-proper : ProperRound (roundOf s)
   unfolding roundOf
   round-proper =
@@ -162,6 +191,7 @@ module _ (s : List ℕ) (ok : Accepted s) where
         most-effect = low-effect;
         no-rise = effects-fall;
         proper = λ q h. subst Proper (sym (round-constraint (h .0) (h .1)) ∙ h .2) (field-proper (h .0) (h .1));
+        rising = numbers-rise;
       }
 
   -- what the sheet has is what its round has
