@@ -90,10 +90,7 @@ pub fn before(sheet: &[u8], bidder: u32) -> Before
 {
     let refusal = refusal_of(sheet, bidder);
     if refusal != 0 {
-        return Before {
-            refusal,
-            bytes: 0,
-        };
+        return Before { refusal, bytes: 0 };
     }
     let start = sheet_read::constraints_start(sheet);
     let first = first_from(sheet, start, sheet_read::constraint_count(sheet), bidder);
