@@ -32,7 +32,7 @@ use Rattle.sheet.specs.Sheet.{
   otherSlotField,
 }
 use Rattle.sheet.specs.Refusal.{effectBefore, legalBid, Accepted}
-use Rattle.sheet.specs.Accepted.{Form, Counts, EffectAccepted, BidAccepted, ConstraintAccepted, AcceptedSheet}
+use Rattle.sheet.specs.Accepted.{Form, Counts, EffectAccepted, BidAccepted, ConstraintAccepted, orderNumber, AcceptedSheet}
 use Rattle.sheet.specs.Round.{bidder, kindOf, constraintField, blank, roundOf}
 use Rattle.sheet.proofs.HeaderLaws.{start-least, start-same, tick-same}
 use Rattle.sheet.proofs.AcceptedLaws.{accepted-sheet, sheet-accepted, legal-parts, parts-legal}
@@ -142,6 +142,15 @@ module _ (s : List ℕ) (ok : Accepted s) (i x : ℕ) (most : i < bidderCount s)
         kind = kindOf (same-own-slot k j) (same-other k j) (same-other-slot k j);
       }
 
+  same-order : (k : ℕ) → orderNumber (written s i x) k ≡ orderNumber s k
+  unfolding orderNumber
+  same-order k =
+      let owner = same-owner k in
+      let own = same-own-slot k in
+      let other = same-other k in
+      let others = same-other-slot k in
+      omega arith
+
   -- The bid written reads back.
   own-bid : bidField (written s i x) (suc i) ≡ x
   unfolding bidField
@@ -206,6 +215,13 @@ module _ (s : List ℕ) (ok : Accepted s) (i x : ℕ) (most : i < bidderCount s)
   constraint-written k l =
       rw (same-bidders, same-slots, same-owner k, same-own-slot k, same-other k, same-other-slot k) (facts .constraints k l)
 
+  rising-written : version s ≡ 2 → (k : ℕ) → suc k < constraintCount s → orderNumber (written s i x) k < orderNumber (written s i x) (suc k)
+  rising-written two k l =
+      let here = same-order k in
+      let next = same-order (suc k) in
+      let h = facts .rising two k l in
+      omega arith
+
   facts-written : legalBid (tickField s) x ≡ true → AcceptedSheet (written s i x)
   facts-written legal =
       record {
@@ -214,6 +230,7 @@ module _ (s : List ℕ) (ok : Accepted s) (i x : ℕ) (most : i < bidderCount s)
         effects = λ k some l. effect-written k some (subst (λ (m : ℕ). k ≤ m) same-slots l);
         bids = λ b some l. bid-written legal b some (subst (λ (n : ℕ). b ≤ n) same-bidders l);
         constraints = λ k l. constraint-written k (subst (λ (c : ℕ). k < c) same-used l);
+        rising = λ two k l. rising-written (sym same-version ∙ two) k (subst (λ (c : ℕ). suc k < c) same-used l);
       }
 
   -- and where the sheet is accepted, the bid is legal.
@@ -247,6 +264,7 @@ module _ (s : List ℕ) (ok : Accepted s) (i x : ℕ) (most : i < bidderCount s)
         slots = same-slots j;
         used = same-used j;
         tick = same-tick j;
+        version = same-version j;
         effects = effects j;
         bids = bids j;
         constraints = constraints j;

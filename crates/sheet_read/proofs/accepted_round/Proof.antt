@@ -13,7 +13,7 @@ use Rattle.basis.specs.Rows.{padded}
 use Rattle.basis.proofs.RowLaws.{padded-none, padded-next}
 use Rattle.sheet.specs.declared.Constraint.{Constraint}
 use Rattle.sheet.specs.declared.Round.{Round}
-use Rattle.sheet.specs.Sheet.{bidderCount, slotCount, constraintCount, tickField, effectField, bidField}
+use Rattle.sheet.specs.Sheet.{version, bidderCount, slotCount, constraintCount, tickField, effectField, bidField}
 use Rattle.sheet.specs.Round.{blank, constraintField, roundOf}
 use Rattle.sheet_read.proofs.RoomLaws.{room}
 use Rattle.sheet_read.proofs.WordLaws.{word-constraint}
@@ -28,6 +28,7 @@ roundWith s constraints =
       slots = slotCount s;
       used = constraintCount s;
       tick = tickField s;
+      version = version s;
       effects = padded (λ k. effectField s (suc k)) (slotCount s) 16 0;
       bids = padded (λ i. bidField s (suc i)) (bidderCount s) 64 0;
       constraints = constraints;
@@ -93,32 +94,36 @@ read-effects-requires c κs = omega (arith, room _ (c .before .before .before .b
 read-bids-requires : tie.Need-read-bids-requires Inv-loop μ-loop
 read-bids-requires c κs = omega (arith, room _ (c .before .before .before .before .before .before .before .pre))
 
+word16-requires-2 : tie.Need-word16-requires-2 Inv-loop μ-loop
+word16-requires-2 c κs = omega (arith, room _ (c .before .before .before .before .before .before .before .before .pre))
+
 blank-constraint-requires : tie.Need-blank-constraint-requires Inv-loop μ-loop
 blank-constraint-requires c κs = search needs
 
 loop-holds : tie.Need-loop-holds Inv-loop μ-loop
 loop-holds c =
-    let s = c .before .before .before .before .before .before .before .before .before .args .sheet .now in (
+    let s = c .before .before .before .before .before .before .before .before .before .before .args .sheet .now in (
       omega arith,
       λ i. record {
         bidders = bidderCount s;
         slots = slotCount s;
-        used = (c .before .before .before .before .before .word16 .ensures .0) i;
-        tick = (c .before .before .before .tick-of .ensures) i;
-        effects = (c .before .before .read-effects .ensures) i;
-        bids = (c .before .read-bids .ensures) i;
+        used = (c .before .before .before .before .before .before .word16 .ensures .0) i;
+        tick = (c .before .before .before .before .tick-of .ensures) i;
+        version = (c .before .word162 .ensures .0) i;
+        effects = (c .before .before .before .read-effects .ensures) i;
+        bids = (c .before .before .read-bids .ensures) i;
         constraints = (ap (replicate 1024) (c .blank-constraint .ensures) ∙ sym (padded-none (constraintField s) 1024 blank)) i;
       },
     )
 
 mul-word32 : tie.Need-mul-word32 Inv-loop μ-loop
-mul-word32 c = omega (arith, room _ (c .before .before .before .before .before .before .before .before .before .before .before .pre))
+mul-word32 c = omega (arith, room _ (c .before .before .before .before .before .before .before .before .before .before .before .before .pre))
 
 add-word32 : tie.Need-add-word32 Inv-loop μ-loop
-add-word32 c = omega (arith, room _ (c .before .before .before .before .before .before .before .before .before .before .before .pre))
+add-word32 c = omega (arith, room _ (c .before .before .before .before .before .before .before .before .before .before .before .before .pre))
 
 word32-requires : tie.Need-word32-requires Inv-loop μ-loop
-word32-requires c κs = omega (arith, room _ (c .before .before .before .before .before .before .before .before .before .before .before .pre))
+word32-requires c κs = omega (arith, room _ (c .before .before .before .before .before .before .before .before .before .before .before .before .pre))
 
 cast-kind-of : tie.Need-cast-kind-of Inv-loop μ-loop
 cast-kind-of c = search needs
@@ -136,10 +141,10 @@ cast-t33 : tie.Need-cast-t33 Inv-loop μ-loop
 cast-t33 c = search needs
 
 mul-t23 : tie.Need-mul-t23 Inv-loop μ-loop
-mul-t23 c = omega (arith, room _ (c .before .before .before .before .before .before .before .before .before .before .before .before .before .pre))
+mul-t23 c = omega (arith, room _ (c .before .before .before .before .before .before .before .before .before .before .before .before .before .before .pre))
 
 element-set-from-round : tie.Need-element-set-from-round Inv-loop μ-loop
-element-set-from-round c = omega (arith, room _ (c .before .before .before .before .before .before .before .before .before .before .before .before .before .pre))
+element-set-from-round c = omega (arith, room _ (c .before .before .before .before .before .before .before .before .before .before .before .before .before .before .pre))
 
 add-k : tie.Need-add-k Inv-loop μ-loop
 add-k c = omega arith
@@ -149,11 +154,11 @@ loop-less c = omega arith
 
 loop-again : tie.Need-loop-again Inv-loop μ-loop
 loop-again c =
-    let s = c .before .before .before .before .before .before .before .before .before .before .before .before .before .args .sheet .now in
+    let s = c .before .before .before .before .before .before .before .before .before .before .before .before .before .before .args .sheet .now in
     let k = c .before .before .before .loop .k in
-    let counts = room s (c .before .before .before .before .before .before .before .before .before .before .before .before .before .pre) in
-    let low : (i : ℕ) → byteAt s i < 256 = λ i. omega (arith, c .before .before .before .before .before .before .before .before .before .before .before .before .shared-slice-known .given i) in
-    let from = ap (λ (start : ℕ). start + 4 * slotCount s + 4 * bidderCount s) (c .before .before .before .before .before .before .before .before .effects-start .ensures) in
+    let counts = room s (c .before .before .before .before .before .before .before .before .before .before .before .before .before .before .pre) in
+    let low : (i : ℕ) → byteAt s i < 256 = λ i. omega (arith, c .before .before .before .before .before .before .before .before .before .before .before .before .before .shared-slice-known .given i) in
+    let from = ap (λ (start : ℕ). start + 4 * slotCount s + 4 * bidderCount s) (c .before .before .before .before .before .before .before .before .before .effects-start .ensures) in
     let read = word-constraint s low _ _ k _ from (c .before .word32 .ensures) (c .kind-of .ensures) in (
       omega arith,
       rw (c .before .before .before .loop .inv .1, add-one k) (one-more s k _ (omega arith) read),
@@ -163,8 +168,8 @@ returns : tie.Need-returns Inv-loop μ-loop
 unfolding roundOf
 returns c =
     let v = c .before .loop .inv in
-    let s = c .before .before .before .before .before .before .before .before .before .before .before .args .sheet .now in
-    v .1 ∙ ap (readTo s) (le-antisymm (v .0) (c .loop-test .left) ∙ c .before .before .before .before .before .before .before .word16 .ensures .0)
+    let s = c .before .before .before .before .before .before .before .before .before .before .before .before .args .sheet .now in
+    v .1 ∙ ap (readTo s) (le-antisymm (v .0) (c .loop-test .left) ∙ c .before .before .before .before .before .before .before .before .word16 .ensures .0)
 
 pub accepted-round-spec : {M : Type 1} → statement M
 accepted-round-spec =
@@ -186,6 +191,7 @@ accepted-round-spec =
     tick-of-requires
     read-effects-requires
     read-bids-requires
+    word16-requires-2
     blank-constraint-requires
     loop-holds
     mul-word32
