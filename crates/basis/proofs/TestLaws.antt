@@ -113,6 +113,52 @@ module _ (f : ℕ → Bool) where
       least-step n l h false true = omega arith
       least-step n l h false false = omega arith
 
+  -- the least number as its definition finds it: below n, at n, or n + 1
+  least-cases : (n : ℕ) → ((ltb (least f n) n ≡ true) × (least f (suc n) ≡ least f n))
+      ⊎ ((n ≤ least f n) × (((f n ≡ true) × (least f (suc n) ≡ n)) ⊎ ((f n ≡ false) × (least f (suc n) ≡ suc n))))
+  unfolding least
+  least-cases n =
+      ⊎-elim
+      (λ (h : ltb (least f n) n ≡ true). inl (h, ap (λ (t : Bool). cond t (least f n) (cond (f n) n (suc n))) h))
+      (λ (h : ltb (least f n) n ≡ false).
+      let e = ap (λ (t : Bool). cond t (least f n) (cond (f n) n (suc n))) h in
+      inr
+      (ltb-false (least f n) n h,
+      ⊎-elim
+      (λ (u : f n ≡ true). inl (u, e ∙ ap (λ (t : Bool). cond t n (suc n)) u))
+      (λ (u : f n ≡ false). inr (u, e ∙ ap (λ (t : Bool). cond t n (suc n)) u))
+      (holds-or-fails (f n))))
+      (holds-or-fails (ltb (least f n) n))
+
+  -- nothing below the least number passes,
+  pub least-before : (n j : ℕ) → j < least f n → f j ≡ false
+  least-before zero j l = absurd (let e = least-at-most 0 in omega arith)
+  least-before (suc n) j l =
+      ⊎-elim
+      (λ h. let e = h .1 in least-before n j (omega arith))
+      (λ h.
+      let above = h .0 in
+      ⊎-elim
+      (λ u. let e = u .1 in least-before n j (omega arith))
+      (λ u.
+      let e = u .1 in
+      let within : j ≤ n = omega arith in
+      ⊎-elim
+      (λ (q : j ≡ n). ap f q ∙ u .0)
+      (λ (below : j < n). least-before n j (omega arith))
+      (eq-or-lt-of-le within))
+      (h .1))
+      (least-cases n)
+
+  -- and it passes itself, where there is one
+  pub least-passes : (n : ℕ) → least f n < n → f (least f n) ≡ true
+  least-passes zero l = absurd (omega arith)
+  least-passes (suc n) l =
+      ⊎-elim
+      (λ h. ap f (h .1) ∙ least-passes n (ltb-true (least f n) n (h .0)))
+      (λ h. ⊎-elim (λ u. ap f (u .1) ∙ u .0) (λ u. absurd (let e = u .1 in omega arith)) (h .1))
+      (least-cases n)
+
   -- the least number is the one that passes, with none that passes below it
   pub least-is : (n k : ℕ) → k ≤ n → ((j : ℕ) → j < k → f j ≡ false) → ((k < n) → f k ≡ true) → least f n ≡ k
   unfolding least

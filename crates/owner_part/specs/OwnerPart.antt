@@ -1,14 +1,15 @@
 -- Request S-5: "A new call hands back the part of the sheet with one bidder's conditions."
 use Prim.Native.Nat.{ℕ, zero, suc, _+_, _*_, _-_}
-use mathlib.Core.Bool.{not, _||_}
-use mathlib.Core.List.{List}
+use mathlib.Core.Bool.{cond, not, _||_}
+use mathlib.Core.List.{List, [], _∷_}
 use mathlib.Core.Path.{_≡_}
 use lib.Dec.{eqb, ltb}
 use lib.ListN.{take, drop}
 use denote.Ref.{RefT}
-use Rattle.basis.specs.First.{_when_otherwise_, orElse, unlessRefused}
+use Rattle.basis.specs.First.{_when_otherwise_, orElse}
+use Rattle.basis.specs.Rows.{joined}
 use Rattle.basis.specs.Tests.{least}
-use Rattle.sheet.specs.Sheet.{version, bidderCount, constraintCount, constraintsStart, ownerField}
+use Rattle.sheet.specs.Sheet.{version, bidderCount, constraintCount, constraintsStart, ownerField, ownSlotField, otherField, otherSlotField}
 use Rattle.sheet.specs.Refusal.{refusalOf}
 use Rattle.owner_part.specs.declared.Bounds.{Bounds}
 use Rattle.owner_part.specs.declared.Before.{Before}
@@ -50,6 +51,14 @@ beforeFor (suc k) s i = record { refusal = suc k; bytes = 0 }
 
 unfoldable pub beforeOf : List ℕ → ℕ → Before
 beforeOf s i = beforeFor (partRefusal s i) s i
+
+-- the four bytes of the condition at index k, as they stand in the sheet
+unfoldable pub conditionBytes : List ℕ → ℕ → List ℕ
+conditionBytes s k = ownerField s k ∷ ownSlotField s k ∷ otherField s k ∷ otherSlotField s k ∷ []
+
+-- "one bidder's conditions": those with the owner i, one after another in sheet order
+unfoldable pub conditionsOf : List ℕ → ℕ → List ℕ
+conditionsOf s i = joined (λ k. cond (eqb (ownerField s k) i) (conditionBytes s k) []) (constraintCount s)
 
 -- What is handed back of a lent sheet: the sheet's own memory, from so many bytes after its start, and so many bytes of it.
 pub record PartOf (sheet part : RefT (List ℕ)) (start size : ℕ) : Type 0 where

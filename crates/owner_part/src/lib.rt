@@ -62,7 +62,7 @@ fn first_from(sheet: &[u8], start: usize, constraints: usize, owner: u32) -> usi
 }
 
 // Where one bidder's part is.
-pub fn bounds(sheet: &[u8], bidder: u32) -> Bounds
+pub fn part_bounds(sheet: &[u8], bidder: u32) -> Bounds
     ensures { λ r. ⌜ r ≡ boundsOf (now (sheet .entry)) bidder ⌝ }
 {
     let refusal = refusal_of(sheet, bidder);
@@ -85,7 +85,7 @@ pub fn bounds(sheet: &[u8], bidder: u32) -> Bounds
 }
 
 // The call that only checks: the number of the first rule that the call breaks, or 0 and how many bytes of the sheet stand before the part.
-pub fn before(sheet: &[u8], bidder: u32) -> Before
+pub fn check_part(sheet: &[u8], bidder: u32) -> Before
     ensures { λ r. ⌜ r ≡ beforeOf (now (sheet .entry)) bidder ⌝ }
 {
     let refusal = refusal_of(sheet, bidder);
@@ -104,7 +104,7 @@ pub fn before(sheet: &[u8], bidder: u32) -> Before
 pub fn part(sheet: &[u8], bidder: u32) -> &[u8]
     ensures { λ r. ⌜ PartHanded (sheet .entry) bidder r ⌝ }
 {
-    let found = bounds(sheet, bidder);
+    let found = part_bounds(sheet, bidder);
     let start = found.start;
     let end = found.start + found.length;
     &sheet[start..end]

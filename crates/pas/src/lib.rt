@@ -94,7 +94,7 @@ pub extern "C" fn pas_owner_part(
 ) -> u32
     ensures { λ r. ⌜ PartGiven (now (sheet .entry)) bidder (now (start .entry)) (now (length .entry)) r (now (start .exit)) (now (length .exit)) ⌝ }
 {
-    let found = owner_part::bounds(sheet, bidder);
+    let found = owner_part::part_bounds(sheet, bidder);
     let refusal = found.refusal;
     if refusal != 0 {
         return refusal;
