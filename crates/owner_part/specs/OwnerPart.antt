@@ -14,14 +14,16 @@ use Rattle.sheet.specs.Refusal.{refusalOf}
 use Rattle.owner_part.specs.declared.Bounds.{Bounds}
 use Rattle.owner_part.specs.declared.Before.{Before}
 
--- the check's numbers; "29 where either call gets a version 1 sheet that is otherwise accepted, before 16"; 16. The bidder named in the call is 0 or
--- above n.
+-- "29 where either call gets a version 1 sheet that is otherwise accepted, before 16"; 16. The bidder named in the call is 0 or above n.
+unfoldable pub laterRefusal : (version n i : ℕ) → ℕ
+laterRefusal version n i =
+    29 when eqb version 1 otherwise
+    16 when eqb i 0 || ltb n i otherwise
+    0
+
+-- the check's numbers, and then these
 unfoldable pub partRefusal : List ℕ → ℕ → ℕ
-partRefusal s i =
-    orElse (refusalOf s)
-    (29 when eqb (version s) 1 otherwise
-    16 when eqb i 0 || ltb (bidderCount s) i otherwise
-    0)
+partRefusal s i = orElse (refusalOf s) (laterRefusal (version s) (bidderCount s) i)
 
 -- the index of the first condition whose owner is i or higher, and the number of conditions where there is none
 unfoldable pub firstFrom : List ℕ → ℕ → ℕ

@@ -3,10 +3,10 @@
 // Two searches by halves find where they start and where they end, so the part costs, besides the check, a number of steps that grows with the
 // logarithm of the conditions.
 ghost use mathlib.Core.Path.{_≡_};
-ghost use Prim.Native.Nat.{_≤_};
+ghost use Prim.Native.Nat.{_+_, _*_, _-_, _≤_};
 ghost use Rattle.sheet.specs.Sheet.{version, constraintCount, constraintsStart};
 ghost use Rattle.sheet.specs.Refusal.{Accepted};
-ghost use Rattle.owner_part.specs.OwnerPart.{partRefusal, firstFrom, beforeOf, boundsOf, PartHanded};
+ghost use Rattle.owner_part.specs.OwnerPart.{laterRefusal, partRefusal, firstFrom, beforeOf, boundsOf, PartHanded};
 use basis::wide;
 use basis::word16;
 
@@ -23,6 +23,19 @@ pub struct Before {
     pub bytes: usize,
 }
 
+// The call's own refusals: 29 for a sheet of version 1, then 16 for a bidder that the sheet has not.
+fn later_refusal(version: u32, bidders: u32, bidder: u32) -> u32
+    ensures { λ r. ⌜ r ≡ laterRefusal version bidders bidder ⌝ }
+{
+    if version == 1 {
+        return 29;
+    }
+    if (bidder == 0) | (bidders < bidder) {
+        return 16;
+    }
+    0
+}
+
 // The number of the first rule that the call breaks: the check's, 29 or 16; or 0.
 fn refusal_of(sheet: &[u8], bidder: u32) -> u32
     ensures { λ r. ⌜ r ≡ partRefusal (now (sheet .entry)) bidder ⌝ }
@@ -31,16 +44,7 @@ fn refusal_of(sheet: &[u8], bidder: u32) -> u32
     if refusal != 0 {
         return refusal;
     }
-    if word16(sheet, 3) == 1 {
-        return 29;
-    }
-    if bidder == 0 {
-        return 16;
-    }
-    if wide(sheet[5]) < bidder {
-        return 16;
-    }
-    0
+    later_refusal(word16(sheet, 3), wide(sheet[5]), bidder)
 }
 
 // How many constraints stand before the first whose owner is the bidder or a higher one.
@@ -61,6 +65,18 @@ fn first_from(sheet: &[u8], start: usize, constraints: usize, owner: u32) -> usi
     low
 }
 
+// The bytes from one constraint to another: where they start in the sheet, and how many they are.
+fn bounds_between(start: usize, first: usize, next: usize) -> Bounds
+    requires { ⌜ (start ≤ 1000) × (first ≤ next) × (next ≤ 1024) ⌝ }
+    ensures { λ r. ⌜ r ≡ record { refusal = 0; start = start + 4 * first; length = 4 * (next - first) } ⌝ }
+{
+    Bounds {
+        refusal: 0,
+        start: start + 4 * first,
+        length: 4 * (next - first),
+    }
+}
+
 // Where one bidder's part is.
 pub fn part_bounds(sheet: &[u8], bidder: u32) -> Bounds
     ensures { λ r. ⌜ r ≡ boundsOf (now (sheet .entry)) bidder ⌝ }
@@ -77,11 +93,7 @@ pub fn part_bounds(sheet: &[u8], bidder: u32) -> Bounds
     let constraints = sheet_read::constraint_count(sheet);
     let first = first_from(sheet, start, constraints, bidder);
     let next = first_from(sheet, start, constraints, bidder + 1);
-    Bounds {
-        refusal: 0,
-        start: start + 4 * first,
-        length: 4 * (next - first),
-    }
+    bounds_between(start, first, next)
 }
 
 // The call that only checks: the number of the first rule that the call breaks, or 0 and how many bytes of the sheet stand before the part.

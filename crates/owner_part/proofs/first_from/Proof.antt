@@ -60,10 +60,12 @@ loop-again c =
     let s = enter .args .sheet .now in
     let middle = l .low + (l .high - l .low) / 2 in
     let here = owner-read s (enter .args .start) middle (enter .pre .2) in
-    let count = enter .pre .3 in
-    (omega arith, omega arith,
+    let count = enter .pre .3 in (
+      omega arith,
+      omega arith,
       (λ j h. let up = owners-rise s (enter .pre .0) (enter .pre .1) j middle (omega arith) (omega arith) in omega arith),
-      l .inv .3)
+      l .inv .3,
+    )
 
 loop-less-2 : tie.Need-loop-less-2 Inv-loop μ-loop
 loop-less-2 c = omega arith
@@ -75,17 +77,21 @@ loop-again-2 c =
     let s = enter .args .sheet .now in
     let middle = l .low + (l .high - l .low) / 2 in
     let here = owner-read s (enter .args .start) middle (enter .pre .2) in
-    let count = enter .pre .3 in
-    (omega arith, omega arith, l .inv .2,
-      (λ j h m. let up = owners-rise s (enter .pre .0) (enter .pre .1) middle j (omega arith) (omega arith) in omega arith))
+    let count = enter .pre .3 in (
+      omega arith,
+      omega arith,
+      l .inv .2,
+      (λ j h m. let up = owners-rise s (enter .pre .0) (enter .pre .1) middle j (omega arith) (omega arith) in omega arith),
+    )
 
 returns : tie.Need-returns Inv-loop μ-loop
 returns c =
     let enter = c .before .before .before in
     let l = c .before .loop in
-    let count = enter .pre .3 in
-    (sym (first-is (enter .args .sheet .now) (enter .args .owner) (l .low) (omega arith) (l .inv .2) (λ j h m. l .inv .3 j (omega arith) (omega arith))),
-      omega arith)
+    let count = enter .pre .3 in (
+      sym (first-is (enter .args .sheet .now) (enter .args .owner) (l .low) (omega arith) (l .inv .2) (λ j h m. l .inv .3 j (omega arith) (omega arith))),
+      omega arith,
+    )
 
 pub first-from-spec : {M : Type 1} → statement M
 first-from-spec =
