@@ -122,12 +122,13 @@ module _ (f : ℕ → Bool) where
       (λ (h : ltb (least f n) n ≡ true). inl (h, ap (λ (t : Bool). cond t (least f n) (cond (f n) n (suc n))) h))
       (λ (h : ltb (least f n) n ≡ false).
       let e = ap (λ (t : Bool). cond t (least f n) (cond (f n) n (suc n))) h in
-      inr
-      (ltb-false (least f n) n h,
-      ⊎-elim
-      (λ (u : f n ≡ true). inl (u, e ∙ ap (λ (t : Bool). cond t n (suc n)) u))
-      (λ (u : f n ≡ false). inr (u, e ∙ ap (λ (t : Bool). cond t n (suc n)) u))
-      (holds-or-fails (f n))))
+      inr (
+        ltb-false (least f n) n h,
+        ⊎-elim
+            (λ (u : f n ≡ true). inl (u, e ∙ ap (λ (t : Bool). cond t n (suc n)) u))
+            (λ (u : f n ≡ false). inr (u, e ∙ ap (λ (t : Bool). cond t n (suc n)) u))
+            (holds-or-fails (f n)),
+      ))
       (holds-or-fails (ltb (least f n) n))
 
   -- nothing below the least number passes,
