@@ -17,7 +17,7 @@ use Rattle.sheet.proofs.AcceptedLaws.{accepted-sheet}
 use Rattle.owner_part.specs.declared.Bounds.{Bounds}
 use Rattle.owner_part.specs.declared.Before.{Before}
 use Rattle.owner_part.specs.OwnerPart.{
-  laterRefusal,
+  callRefusal,
   partRefusal,
   bytesBefore,
   partLength,
@@ -33,7 +33,7 @@ pub by-check : (s : List ℕ) (i k : ℕ) → k ≡ refusalOf s → (k ≡ 0 →
 unfolding partRefusal
 by-check s i k e h = e ∙ sym (orElse-left (refusalOf s) _ (λ z. h (e ∙ z)))
 
-pub by-call : (s : List ℕ) (i k : ℕ) → Accepted s → k ≡ laterRefusal (version s) (bidderCount s) i → k ≡ partRefusal s i
+pub by-call : (s : List ℕ) (i k : ℕ) → Accepted s → k ≡ callRefusal (version s) (bidderCount s) i → k ≡ partRefusal s i
 unfolding partRefusal
 by-call s i k ok e = e ∙ sym (orElse-right (refusalOf s) _ ok)
 
@@ -45,7 +45,7 @@ pub record Answered (s : List ℕ) (i : ℕ) : Type 0 where
   pub most : i ≤ bidderCount s
 
 pub answered : (s : List ℕ) (i : ℕ) → partRefusal s i ≡ 0 → Answered s i
-unfolding partRefusal laterRefusal
+unfolding partRefusal callRefusal
 answered s i e =
     let parts = orElse-none (refusalOf s) _ e in
     let one = when-none 28 (eqb (version s) 1) _ (parts .1) in

@@ -15,15 +15,15 @@ use Rattle.owner_part.specs.declared.Bounds.{Bounds}
 use Rattle.owner_part.specs.declared.Before.{Before}
 
 -- "29 where either call gets a version 1 sheet that is otherwise accepted, before 16"; 16. The bidder named in the call is 0 or above n.
-unfoldable pub laterRefusal : (version n i : ℕ) → ℕ
-laterRefusal version n i =
+unfoldable pub callRefusal : (version n i : ℕ) → ℕ
+callRefusal version n i =
     29 when eqb version 1 otherwise
     16 when eqb i 0 || ltb n i otherwise
     0
 
 -- the check's numbers, and then these
 unfoldable pub partRefusal : List ℕ → ℕ → ℕ
-partRefusal s i = orElse (refusalOf s) (laterRefusal (version s) (bidderCount s) i)
+partRefusal s i = orElse (refusalOf s) (callRefusal (version s) (bidderCount s) i)
 
 -- the index of the first condition whose owner is i or higher, and the number of conditions where there is none
 unfoldable pub firstFrom : List ℕ → ℕ → ℕ

@@ -6,7 +6,7 @@ ghost use mathlib.Core.Path.{_≡_};
 ghost use Prim.Native.Nat.{_+_, _*_, _-_, _≤_};
 ghost use Rattle.sheet.specs.Sheet.{version, constraintCount, constraintsStart};
 ghost use Rattle.sheet.specs.Refusal.{Accepted};
-ghost use Rattle.owner_part.specs.OwnerPart.{laterRefusal, partRefusal, firstFrom, beforeOf, boundsOf, PartHanded};
+ghost use Rattle.owner_part.specs.OwnerPart.{callRefusal, partRefusal, firstFrom, beforeOf, boundsOf, PartHanded};
 use basis::wide;
 use basis::word16;
 
@@ -24,8 +24,8 @@ pub struct Before {
 }
 
 // The call's own refusals: 29 for a sheet of version 1, then 16 for a bidder that the sheet has not.
-fn later_refusal(version: u32, bidders: u32, bidder: u32) -> u32
-    ensures { λ r. ⌜ r ≡ laterRefusal version bidders bidder ⌝ }
+fn call_refusal(version: u32, bidders: u32, bidder: u32) -> u32
+    ensures { λ r. ⌜ r ≡ callRefusal version bidders bidder ⌝ }
 {
     if version == 1 {
         return 29;
@@ -44,7 +44,7 @@ fn refusal_of(sheet: &[u8], bidder: u32) -> u32
     if refusal != 0 {
         return refusal;
     }
-    later_refusal(word16(sheet, 3), wide(sheet[5]), bidder)
+    call_refusal(word16(sheet, 3), wide(sheet[5]), bidder)
 }
 
 // How many constraints stand before the first whose owner is the bidder or a higher one.

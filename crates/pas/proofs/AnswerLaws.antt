@@ -16,7 +16,10 @@ use Rattle.auction.specs.Allowed.{total}
 use Rattle.best_page.specs.BestPage.{bestPage}
 use Rattle.best_search.specs.Call.{bestRefusal, chosenFor, BestGiven}
 use Rattle.best_search.specs.declared.Chosen.{Chosen}
-use Rattle.pas.specs.Calls.{yesNumber, DownwardGiven, GainGiven, BestPageGiven}
+use Rattle.owner_part.specs.OwnerPart.{partRefusal, bytesBefore, partLength, boundsFor, boundsOf}
+use Rattle.owner_part.specs.declared.Bounds.{Bounds}
+use Rattle.owner_part.proofs.CallLaws.{given-bounds}
+use Rattle.pas.specs.Calls.{yesNumber, DownwardGiven, GainGiven, BestPageGiven, PartGiven}
 
 -- an answered call's memory holds what is written there
 answered : {A : Type 0} (k n : ℕ) (answer before written : A) → n ≡ k → n ≡ 0 → (k ≡ 0 → written ≡ answer) → written ≡ unlessRefused k answer before
@@ -98,4 +101,30 @@ module _ (s out : List ℕ) (before : ℕ) (c : Chosen) (out′ : List ℕ) (giv
         number = sym z ∙ best-number;
         buffer = given .buffer;
         written = answered (bestRefusal s out) (c .refusal) (total (roundOf s) (bestPage (roundOf s))) before (c .total) best-number z best-answer;
+      }
+
+bounds-number : (k : ℕ) (s : List ℕ) (i : ℕ) → boundsFor k s i .refusal ≡ k
+unfolding boundsFor
+bounds-number zero s i = refl
+bounds-number (suc k) s i = refl
+
+module _ (s : List ℕ) (i start size : ℕ) (b : Bounds) (e : b ≡ boundsOf s i) where
+  part-number : b .refusal ≡ partRefusal s i
+  unfolding boundsOf
+  part-number = ap (λ (x : Bounds). x .refusal) e ∙ bounds-number (partRefusal s i) s i
+
+  pub part-refused : (b .refusal ≡ 0 → ⊥) → PartGiven s i start size (b .refusal) start size
+  part-refused h =
+      record {
+        number = part-number;
+        starts = refused-leaves (partRefusal s i) (b .refusal) (bytesBefore s i) start part-number h;
+        sized = refused-leaves (partRefusal s i) (b .refusal) (partLength s i) size part-number h;
+      }
+
+  pub part-answered : b .refusal ≡ 0 → PartGiven s i start size 0 (b .start) (b .length)
+  part-answered z =
+      record {
+        number = sym z ∙ part-number;
+        starts = answered (partRefusal s i) (b .refusal) (bytesBefore s i) start (b .start) part-number z (λ k. ap (λ (x : Bounds). x .start) (e ∙ given-bounds s i k));
+        sized = answered (partRefusal s i) (b .refusal) (partLength s i) size (b .length) part-number z (λ k. ap (λ (x : Bounds). x .length) (e ∙ given-bounds s i k));
       }

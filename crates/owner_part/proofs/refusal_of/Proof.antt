@@ -5,7 +5,7 @@ use native.Mathlib.Omega.{arith}
 use borrow.Author.Needs.{needs}
 use Rattle.sheet.specs.Refusal.{Accepted}
 use Rattle.sheet_read.proofs.RoomLaws.{room}
-use Rattle.owner_part.specs.OwnerPart.{laterRefusal}
+use Rattle.owner_part.specs.OwnerPart.{callRefusal}
 use Rattle.owner_part.proofs.CallLaws.{by-check, by-call}
 use Rattle.owner_part.proofs.refusal_of.Statement.{statement}
 use Rattle.owner_part.proofs.refusal_of.Tie as tie
@@ -29,15 +29,15 @@ shared-slice-read-wide c = omega (arith, room _ (none (c .before .before)))
 wide-requires : tie.Need-wide-requires
 wide-requires c κs = search needs
 
-later-refusal-requires : tie.Need-later-refusal-requires
-later-refusal-requires c κs = search needs
+call-refusal-requires : tie.Need-call-refusal-requires
+call-refusal-requires c κs = search needs
 
 returns-2 : tie.Need-returns-2
 returns-2 c =
     let bidder = c .before .before .before .before .before .before .before .args .bidder in
     by-call _ _ _ (none (c .before .before .before .before))
-    (c .later-refusal .ensures
-    ∙ ap₂ (λ (v n : ℕ). laterRefusal v n bidder) (c .before .before .before .word16 .ensures .0) (c .before .wide .ensures .0))
+    (c .call-refusal .ensures
+    ∙ ap₂ (λ (v n : ℕ). callRefusal v n bidder) (c .before .before .before .word16 .ensures .0) (c .before .wide .ensures .0))
 
 pub refusal-of-spec : {M : Type 1} → statement M
 refusal-of-spec =
@@ -48,5 +48,5 @@ refusal-of-spec =
     word16-requires
     shared-slice-read-wide
     wide-requires
-    later-refusal-requires
+    call-refusal-requires
     returns-2)
