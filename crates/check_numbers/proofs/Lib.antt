@@ -1,0 +1,2 @@
+-- Which number a fault of the effects or of the bids gives.
+pub mod RefusalLaws
