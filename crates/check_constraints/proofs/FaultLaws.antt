@@ -9,7 +9,8 @@ use Rattle.basis.specs.Bytes.{byteAt, word32At}
 use Rattle.basis.proofs.BytesLaws.{word-bytes}
 use Rattle.basis.proofs.TestLaws.{or-none}
 use Rattle.sheet.specs.Sheet.{bidderCount, slotCount, constraintsStart, ownerField, ownSlotField, otherField, otherSlotField}
-use Rattle.sheet.specs.Refusal.{inRange, fieldsRefusal, constraintRefusal}
+use Rattle.sheet.specs.Refusal.{inRange, fieldsRefusal, termsRefusal}
+use Rattle.sheet.specs.Accepted.{fieldsNumber, orderNumber}
 
 -- all that the quick pass tests of one constraint
 abbrev pub anyFault : (n m owner own other others : ℕ) → Bool
@@ -39,14 +40,24 @@ no-fault n m owner own other others e =
     let r = rest-none (eqb own 0) (eqb other 0) (eqb others 0) (b .1) (a .1) in
     simp (h .0, h .1, g .1, f .1, d .1, c .1, r .0, r .1)
 
--- a constraint read as one number is refused as its four fields are
-pub word-refusal : (s : List ℕ) → ((i : ℕ) → byteAt s i < 256) → (start n m w k : ℕ) →
-    start ≡ constraintsStart s → n ≡ bidderCount s → m ≡ slotCount s → w ≡ word32At s (start + 4 * k) →
-    fieldsRefusal n m (w % 256) (w / 256 % 256) (w / 65536 % 256) (w / 16777216) ≡ constraintRefusal s k
-unfolding constraintRefusal ownerField ownSlotField otherField otherSlotField word32At
-word-refusal s low start n m w k p q r e =
-    let at = start + 4 * k in
-    let bytes =
-    word-bytes (byteAt s at) (byteAt s (at + 1)) (byteAt s (at + 2)) (byteAt s (at + 3))
-    (low at) (low (at + 1)) (low (at + 2)) (low (at + 3)) in
-    rw (e, bytes .0, bytes .1 .0, bytes .1 .1 .0, bytes .1 .1 .1, p, q, r)
+-- A constraint read as one number w:
+module _ (s : List ℕ) (low : (i : ℕ) → byteAt s i < 256) (start w k : ℕ) (from : start ≡ constraintsStart s) (read : w ≡ word32At s (start + 4 * k)) where
+  -- its four fields are what divisions leave of w,
+  word-fields : (w % 256 ≡ ownerField s k) × ((w / 256 % 256 ≡ ownSlotField s k) × ((w / 65536 % 256 ≡ otherField s k) × (w / 16777216 ≡ otherSlotField s k)))
+  unfolding ownerField ownSlotField otherField otherSlotField word32At
+  word-fields =
+      let at = constraintsStart s + 4 * k in
+      rw (read, from) (
+      word-bytes (byteAt s at) (byteAt s (at + 1)) (byteAt s (at + 2)) (byteAt s (at + 3))
+      (low at) (low (at + 1)) (low (at + 2)) (low (at + 3)))
+
+  -- so it is refused as they are,
+  pub word-refusal : (n m : ℕ) → n ≡ bidderCount s → m ≡ slotCount s →
+      fieldsRefusal n m (w % 256) (w / 256 % 256) (w / 65536 % 256) (w / 16777216) ≡ termsRefusal s k
+  unfolding termsRefusal
+  word-refusal n m p q = rw (word-fields .0, word-fields .1 .0, word-fields .1 .1 .0, word-fields .1 .1 .1, p, q)
+
+  -- and its place in the order is theirs
+  pub word-number : fieldsNumber (w % 256) (w / 256 % 256) (w / 65536 % 256) (w / 16777216) ≡ orderNumber s k
+  unfolding orderNumber
+  word-number = rw (word-fields .0, word-fields .1 .0, word-fields .1 .1 .0, word-fields .1 .1 .1)

@@ -1,10 +1,9 @@
 // The refusals of the constraints: 10 to 13 and, in version 2, 28.
 ghost use mathlib.Core.Path.{_≡_};
 ghost use mathlib.Core.Bool.{false, not};
-ghost use Prim.Native.Nat.{suc, _+_, _*_, _/_, _%_, _<_, _≤_};
-ghost use lib.Dec.{eqb, ltb};
+ghost use Prim.Native.Nat.{_+_, _*_, _/_, _%_, _<_, _≤_};
+ghost use lib.Dec.{eqb};
 ghost use lib.ListN.{length};
-ghost use Rattle.basis.specs.Bytes.{byteAt};
 ghost use Rattle.basis.specs.First.{firstOver};
 ghost use Rattle.basis.specs.Tests.{anyBelow};
 ghost use Rattle.sheet.specs.Sheet.{version, bidderCount, slotCount, constraintsStart};
@@ -60,16 +59,26 @@ fn constraint_refusal(bidders: u8, slots: u8, owner: u8, own: u8, other: u8, oth
     0
 }
 
-// A constraint's four bytes as one number, the owner's first: of two constraints the one above has the larger number.
-fn order_number(sheet: &[u8], at: usize) -> u32
-    requires { ⌜ at + 4 ≤ length (now sheet) ⌝ }
-    ensures { λ r. ⌜ r ≡ fieldsNumber (byteAt (now (sheet .entry)) at) (byteAt (now (sheet .entry)) (at + 1)) (byteAt (now (sheet .entry)) (at + 2)) (byteAt (now (sheet .entry)) (at + 3)) ⌝ }
+// A constraint's four bytes, read as one number, turned round: the owner's comes first, and of two constraints the one above has the larger number.
+fn order_number(constraint: u32) -> u32
+    ensures { λ r. ⌜ r ≡ fieldsNumber (constraint % 256) (constraint / 256 % 256) (constraint / 65536 % 256) (constraint / 16777216) ⌝ }
 {
-    16777216 * wide(sheet[at]) + 65536 * wide(sheet[at + 1]) + 256 * wide(sheet[at + 2]) + wide(sheet[at + 3])
+    let owner = constraint % 256;
+    let own = constraint / 256 % 256;
+    let other = constraint / 65536 % 256;
+    let others = constraint / 16777216;
+    16777216 * owner + 65536 * own + 256 * other + others
 }
 
 // The first number over the constraints in sheet order: each through 10 to 13 and, where they must rise, 28.
-fn first_refusal(sheet: &[u8], start: usize, bidders: u8, slots: u8, constraints: usize, rising: bool) -> u32
+fn first_refusal(
+    sheet: &[u8],
+    start: usize,
+    bidders: u8,
+    slots: u8,
+    constraints: usize,
+    rising: bool,
+) -> u32
     requires { ⌜ (start ≡ constraintsStart (now sheet)) × (start + 4 * constraints ≤ length (now sheet)) ⌝ }
     requires { ⌜ (bidders ≡ bidderCount (now sheet)) × (slots ≡ slotCount (now sheet)) × (rising ≡ eqb (version (now sheet)) 2) ⌝ }
     ensures { λ r. ⌜ r ≡ firstOver (constraintRefusal (now (sheet .entry))) constraints ⌝ }
@@ -90,7 +99,7 @@ fn first_refusal(sheet: &[u8], start: usize, bidders: u8, slots: u8, constraints
         if refusal != 0 {
             return refusal;
         }
-        let number = order_number(sheet, at);
+        let number = order_number(word32(sheet, at));
         if rising & (number <= before) {
             return 28;
         }
@@ -138,30 +147,28 @@ fn any_faulty(sheet: &[u8], start: usize, bidders: u8, slots: u8, constraints: u
     found
 }
 
-// Whether any constraint is not above the one before it, again in a pass that none ends.
+// Whether any constraint is not above the one before it, where none breaks 10 to 13: again in a pass that none ends, with the number before
+// kept and not read twice.
 fn any_out_of_order(sheet: &[u8], start: usize, constraints: usize) -> bool
     requires { ⌜ (start ≡ constraintsStart (now sheet)) × (start + 4 * constraints ≤ length (now sheet)) ⌝ }
+    requires { ⌜ firstOver (termsRefusal (now sheet)) constraints ≡ 0 ⌝ }
     ensures { λ r. ⌜ r ≡ anyBelow (λ k. not (aboveBefore (now (sheet .entry)) k)) constraints ⌝ }
 {
     let mut found = false;
-    let mut k = 1;
+    let mut before: u32 = 0;
+    let mut k = 0;
     while k < constraints {
-        let at = start + 4 * k;
-        found = found | (order_number(sheet, at) <= order_number(sheet, at - 4));
+        let number = order_number(word32(sheet, start + 4 * k));
+        found = found | (number <= before);
+        before = number;
         k += 1;
     }
     found
 }
 
-// The constraints of version 1, which stand in any order: 10 to 13, each constraint in sheet order. An accepted sheet costs the quick pass alone; only
-// a fault has its number looked for.
-pub fn free_refusal(
-    sheet: &[u8],
-    start: usize,
-    bidders: u8,
-    slots: u8,
-    constraints: usize,
-) -> u32
+// The constraints of version 1, which stand in any order: 10 to 13, each constraint in sheet order. An accepted sheet costs the quick pass
+// alone; only a fault has its number looked for.
+pub fn free_refusal(sheet: &[u8], start: usize, bidders: u8, slots: u8, constraints: usize) -> u32
     requires { ⌜ (start ≡ constraintsStart (now sheet)) × (start + 4 * constraints ≤ length (now sheet)) ⌝ }
     requires { ⌜ (bidders ≡ bidderCount (now sheet)) × (slots ≡ slotCount (now sheet)) × (version (now sheet) ≡ 1) ⌝ }
     ensures { λ r. ⌜ r ≡ firstOver (constraintRefusal (now (sheet .entry))) constraints ⌝ }
@@ -173,13 +180,7 @@ pub fn free_refusal(
 }
 
 // The constraints of version 2, which rise: 10 to 13 and 28. Where none breaks 10 to 13, one out of order gives 28, whichever it is.
-pub fn rising_refusal(
-    sheet: &[u8],
-    start: usize,
-    bidders: u8,
-    slots: u8,
-    constraints: usize,
-) -> u32
+pub fn rising_refusal(sheet: &[u8], start: usize, bidders: u8, slots: u8, constraints: usize) -> u32
     requires { ⌜ (start ≡ constraintsStart (now sheet)) × (start + 4 * constraints ≤ length (now sheet)) ⌝ }
     requires { ⌜ (bidders ≡ bidderCount (now sheet)) × (slots ≡ slotCount (now sheet)) × (version (now sheet) ≡ 2) ⌝ }
     ensures { λ r. ⌜ r ≡ firstOver (constraintRefusal (now (sheet .entry))) constraints ⌝ }

@@ -9,14 +9,14 @@ use Rattle.basis.specs.Bytes.{byteAt}
 use Rattle.basis.specs.First.{firstOver}
 use Rattle.basis.proofs.FirstLaws.{first-next, first-ended}
 use Rattle.basis.proofs.TestLaws.{or-none}
-use Rattle.sheet.specs.Refusal.{constraintRefusal}
+use Rattle.sheet.specs.Refusal.{termsRefusal}
 use Rattle.check_constraints.proofs.FaultLaws.{word-refusal}
 use Rattle.check_constraints.proofs.any_faulty.Statement.{statement}
 use Rattle.check_constraints.proofs.any_faulty.Tie as tie
 
 abbrev Inv-loop : tie.InvT-loop
 Inv-loop sheet start bidders slots constraints most-bidder most-slot found₀ seen₀ found seen =
-    (seen ≤ constraints) × (found ≡ false → firstOver (constraintRefusal sheet) seen ≡ 0)
+    (seen ≤ constraints) × (found ≡ false → firstOver (termsRefusal sheet) seen ≡ 0)
 
 abbrev μ-loop : tie.MeasureT-loop
 μ-loop sheet start bidders slots constraints most-bidder most-slot found₀ seen₀ found seen = constraints - seen
@@ -59,12 +59,12 @@ loop-again c =
           let both = or-none (c .before .before .before .loop .found) (c .is-faulty .result) e in
           let none = c .before .before .before .loop .inv .1 (both .0) in
           let low : (i : ℕ) → byteAt s i < 256 = λ i. omega (arith, c .before .before .before .before .before .before .shared-slice-known .given i) in
-          let same = word-refusal s low _ _ _ _ k (start .pre .0 .0) (c .before .before .before .before .before .wide .ensures .0 ∙ start .pre .1 .0) (c .before .before .before .before .wide2 .ensures .0 ∙ start .pre .1 .1) (c .before .word32 .ensures) in
-          rw add-one (first-next (constraintRefusal s) k none (sym same ∙ c .is-faulty .ensures (both .1))),
+          let same = word-refusal s low _ _ k (start .pre .0 .0) (c .before .word32 .ensures) _ _ (c .before .before .before .before .before .wide .ensures .0 ∙ start .pre .1 .0) (c .before .before .before .before .wide2 .ensures .0 ∙ start .pre .1 .1) in
+          rw add-one (first-next (termsRefusal s) k none (sym same ∙ c .is-faulty .ensures (both .1))),
     )
 
 returns : tie.Need-returns Inv-loop μ-loop
-returns c = λ e. let v = c .before .loop .inv in sym (first-ended (constraintRefusal _) _ _ (v .0) (c .loop-test .left) (v .1 e))
+returns c = λ e. let v = c .before .loop .inv in sym (first-ended (termsRefusal _) _ _ (v .0) (c .loop-test .left) (v .1 e))
 
 pub any-faulty-spec : {M : Type 1} → statement M
 any-faulty-spec =
