@@ -1,4 +1,2 @@
--- Which number a field's fault gives, and what the quick pass over the constraints rests on.
-pub mod RefusalLaws
-pub mod FaultLaws
+-- What the parts of the check say together, and what a sheet's first bytes say of its header.
 pub mod PartLaws

@@ -1,20 +1,23 @@
--- Part by part: a part that gives a number gives the sheet's, and one that gives none leaves it to the next. And what the first bytes of a sheet
--- of version 1 say of its header. Assumes nothing.
-use Prim.Native.Nat.{ℕ, suc, _-_, _%_, _<_, _≤_}
-use borrow.Author.Tests.{eq-eqb, ne-eqb, le-ltb}
+-- Part by part: a part that gives a number gives the sheet's, and one that gives none leaves it to the next. And what a sheet's first bytes say of
+-- its version and its header. Assumes nothing.
+use Prim.Native.Nat.{ℕ, suc, _-_, _<_, _≤_}
+use borrow.Author.Tests.{eqb-true, eq-eqb, ne-eqb, le-ltb}
 use mathlib.Core.List.{List}
-use mathlib.Core.Path.{_≡_, sym, _∙_, ap}
-use native.Mathlib.Nat.{mod-one}
+use mathlib.Core.Logic.{⊎-elim}
+use mathlib.Core.Path.{_≡_, sym, _∙_}
 use native.Mathlib.Omega.{arith}
 use lib.Dec.{eqb}
 use lib.ListN.{length, take}
 use lib.Seq.{take-all}
 use Rattle.basis.specs.Bytes.{byteAt, word16At, word32At}
 use Rattle.basis.specs.First.{orElse, firstOver}
-use Rattle.basis.proofs.BytesLaws.{word-bytes}
-use Rattle.basis.proofs.FirstLaws.{orElse-left, orElse-right, first-all-none}
-use Rattle.sheet.specs.Sheet.{version, bidderCount, slotCount, constraintCount, tickField, bidField}
+use Rattle.basis.proofs.FirstLaws.{orElse-left, orElse-right}
+use Rattle.basis.proofs.TestLaws.{and-parts}
+use Rattle.sheet.specs.Sheet.{version, bidderCount, slotCount, constraintCount, tickField, effectsStart}
 use Rattle.sheet.specs.Refusal.{formRefusal, countsRefusal, effectRefusal, bidRefusal, tickRefusal, constraintRefusal, refusalOf}
+use Rattle.sheet.specs.Accepted.{Counts}
+use Rattle.sheet.proofs.HeaderLaws.{start-two, start-other, tick-other}
+use Rattle.sheet.proofs.AcceptedLaws.{form-accepted, counts-accepted}
 
 -- the numbers of the parts after the header
 abbrev pub effectsNumber : List ℕ → ℕ
@@ -68,14 +71,26 @@ module _ (s : List ℕ) where
 pub whole-sheet : (s : List ℕ) → take (length s - 0) s ≡ s
 whole-sheet s = take-all (length s - 0) s (omega arith)
 
--- every bid is a multiple of 1
-pub no-ticks : (s : List ℕ) (n : ℕ) → tickField s ≡ 1 → firstOver (λ i. tickRefusal s (suc i)) n ≡ 0
-unfolding tickRefusal
-no-ticks s n e =
-    first-all-none (λ i. tickRefusal s (suc i)) n
-    (λ i l. simp (eq-eqb (bidField s (suc i) % tickField s) 0 (ap (λ (t : ℕ). bidField s (suc i) % t) e ∙ mod-one (bidField s (suc i)))))
+-- the header of version 1
+pub start-one : (s : List ℕ) → version s ≡ 1 → effectsStart s ≡ 9
+start-one s e = start-other s (λ z. absurd (omega arith))
 
--- A sheet that begins with P A S and a version 1 has the form of a sheet.
+pub tick-one : (s : List ℕ) → version s ≡ 1 → tickField s ≡ 1
+tick-one s e = tick-other s (λ z. absurd (omega arith))
+
+-- What the header's tests leave for the parts after it: a sheet of version v, with its effects from a known byte.
+pub record Header (s : List ℕ) (v start : ℕ) : Type 0 where
+  pub form : formRefusal s ≡ 0
+  pub none : countsRefusal s ≡ 0
+  pub of-version : version s ≡ v
+  pub from : effectsStart s ≡ start
+  pub counts : Counts s
+
+pub header-two : (s : List ℕ) → version s ≡ 2 → formRefusal s ≡ 0 → countsRefusal s ≡ 0 → Header s 2 13
+header-two s two form none =
+    record { form = form; none = none; of-version = two; from = start-two s two; counts = counts-accepted s none }
+
+-- A sheet that begins with P A S and a version 1 has the form of a sheet,
 module _ (s : List ℕ) (low : (i : ℕ) → byteAt s i < 256) (letters : word32At s 0 ≡ 22233424) (fifth : byteAt s 4 ≡ 0) where
   first-four : (byteAt s 0 ≡ 80) × ((byteAt s 1 ≡ 65) × ((byteAt s 2 ≡ 83) × (byteAt s 3 ≡ 1)))
   unfolding word32At
@@ -101,3 +116,28 @@ module _ (s : List ℕ) (low : (i : ℕ) → byteAt s i < 256) (letters : word32
         eq-eqb (version s) 1 version-one,
         ne-eqb (version s) 2 (let e = version-one in λ z. absurd (omega arith)),
       )
+
+  pub header-one : 9 ≤ length s → countsRefusal s ≡ 0 → Header s 1 9
+  header-one l none =
+      record {
+        form = form-one l;
+        none = none;
+        of-version = version-one;
+        from = start-one s version-one;
+        counts = counts-accepted s none;
+      }
+
+-- and a sheet with the form of a sheet that does not begin so is of version 2.
+pub version-two : (s : List ℕ) → (9 ≤ length s → word32At s 0 ≡ 22233424 → byteAt s 4 ≡ 0 → ⊥) → formRefusal s ≡ 0 → version s ≡ 2
+unfolding word16At word32At
+version-two s other e =
+    let form = form-accepted s e in
+    let p = and-parts (eqb (byteAt s 0) 80) _ (form .mark) in
+    let q = and-parts (eqb (byteAt s 1) 65) (eqb (byteAt s 2) 83) (p .1) in
+    let first = eqb-true (byteAt s 0) 80 (p .0) in
+    let second = eqb-true (byteAt s 1) 65 (q .0) in
+    let third = eqb-true (byteAt s 2) 83 (q .1) in
+    ⊎-elim
+    (λ (one : version s ≡ 1). absurd (other (form .header) (omega arith) (omega arith)))
+    (λ (two : version s ≡ 2). two)
+    (form .known)

@@ -14,8 +14,8 @@ mod version_two;
 const FIRST_BYTES: u32 = 22233424;
 
 // The number of the first rule that the sheet breaks, 1 to 13 or 26 to 28, or 0 for an accepted sheet. A sheet of version 1 has its effects
-// at a known byte, and neither a tick nor an order to test; every other sheet goes the longer way. That way is called from three places so that it stays a call, and costs
-// version 1 no register.
+// at a known byte, and neither a tick nor an order to test; every other sheet goes the longer way. That way is called from three places so
+// that it stays a call, and costs version 1 no register.
 pub fn check(sheet: &[u8]) -> u32
     ensures { λ r. ⌜ r ≡ refusalOf (now (sheet .entry)) ⌝ }
 {

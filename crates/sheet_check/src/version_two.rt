@@ -16,6 +16,8 @@ pub fn refusal(sheet: &[u8]) -> u32
     requires { ⌜ (formRefusal (now sheet) ≡ 0 → version (now sheet) ≡ 2) ⌝ }
     ensures { λ r. ⌜ r ≡ refusalOf (now (sheet .entry)) ⌝ }
 {
+    // Made anew for the call, as in `check`.
+    let whole = &sheet[0..];
     let form = form_refusal(sheet);
     if form != 0 {
         return form;
@@ -42,5 +44,5 @@ pub fn refusal(sheet: &[u8]) -> u32
         return ticks;
     }
     let constraints_start = bids_start + 4 * (bidders as usize);
-    rising_refusal(sheet, constraints_start, bidders, slots, constraints)
+    rising_refusal(whole, constraints_start, bidders, slots, constraints)
 }
