@@ -1,20 +1,21 @@
--- The three demands, over the contracts of the five calls that programs link (pas/src/lib.rt), and then what the requests of document 02 that have
+-- The three demands, over the contracts of the six calls that programs link (pas/src/lib.rt), and then what the requests of document 02 that have
 -- landed add. Each call promises one record or equation, for every input; here is what follows for a reader, and the proofs are in proofs/Demands.antt. Lists of
 -- numbers are bytes; s is a sheet, out and out′ are a result buffer before and after a call, `number` is what a call returns.
 use Prim.Native.Nat.{ℕ, suc, _+_, _*_, _%_, _<_, _≤_}
 use mathlib.Core.Bool.{true, false, not, _&&_, _||_}
-use mathlib.Core.List.{List, _++_}
+use mathlib.Core.List.{List, [], _++_}
 use mathlib.Core.Logic.{_⊎_}
 use mathlib.Core.Path.{_≡_}
 use lib.IntN.{ℤ}
-use lib.ListN.{length, drop}
+use lib.ListN.{length, take, drop}
 use lib.Signed.{_≤ℤ_}
+use denote.Ref.{RefT}
 use Rattle.basis.specs.Bytes.{word32At}
 use Rattle.basis.specs.Rows.{row}
 use Rattle.sheet.specs.declared.Page.{Page}
 use Rattle.sheet.specs.declared.Round.{Round}
-use Rattle.sheet.specs.Sheet.{version, bidderCount, slotCount, constraintCount, tickField, bidField}
-use Rattle.sheet.specs.Refusal.{refusalOf, Accepted}
+use Rattle.sheet.specs.Sheet.{version, bidderCount, slotCount, constraintCount, constraintsStart, tickField, bidField, ownerField}
+use Rattle.sheet.specs.Refusal.{constraintBelow, termsRefusal, constraintRefusal, refusalOf, Accepted}
 use Rattle.sheet.specs.Round.{roundOf}
 use Rattle.auction.specs.declared.Eligibility.{Eligibility}
 use Rattle.auction.specs.declared.Eligibility.the-variants.{Eligible, Placed, EarlierWinners, Own}
@@ -33,7 +34,8 @@ use Rattle.best_page.specs.Best.{Best}
 use Rattle.best_page.specs.BestPage.{bestPage}
 use Rattle.best_search.specs.Call.{bestRefusal, bestBuffer}
 use Rattle.honesty.specs.Honesty.{DifferOnlyInList}
-use Rattle.pas.specs.Calls.{yesNumber, DownwardGiven, GainGiven, BestPageGiven}
+use Rattle.owner_part.specs.OwnerPart.{partRefusal, bytesBefore, partLength, beforeOf, conditionsOf, PartHanded}
+use Rattle.pas.specs.Calls.{yesNumber, DownwardGiven, GainGiven, BestPageGiven, PartGiven}
 
 -- DEMAND 1. "Every sheet or call that breaks a rule gets the first number that applies, and no lent byte changes; every other gets its full
 -- result."
@@ -45,7 +47,7 @@ pub record Owed (number first : ℕ) (unchanged result : Type 0) : Type 0 where
   pub answered : number ≡ 0 → result
 
 pub record DemandOne : Type 0 where
-  -- pas_check, 1 to 13, 26, 27: the contract itself, and an accepted sheet is one without a number
+  -- pas_check, 1 to 13, 26 to 28: the contract itself, and an accepted sheet is one without a number
   pub check : (s : List ℕ) (number : ℕ) → number ≡ refusalOf s → Owed number (refusalOf s) Unit (Accepted s)
   -- pas_play, those of pas_check, 19
   pub play : (s out out′ : List ℕ) (number : ℕ) → Played s out number out′ →
@@ -60,6 +62,9 @@ pub record DemandOne : Type 0 where
   pub best : (s out out′ : List ℕ) (before number after : ℕ) → BestPageGiven s out before number out′ after →
       Owed number (bestRefusal s out) ((out′ ≡ out) × (after ≡ before))
       ((out′ ≡ bestBuffer (roundOf s) out) × (after ≡ total (roundOf s) (bestPage (roundOf s))))
+  -- pas_owner_part, those of pas_check, 29, 16
+  pub owner-part : (s : List ℕ) (i start size number start′ size′ : ℕ) → PartGiven s i start size number start′ size′ →
+      Owed number (partRefusal s i) ((start′ ≡ start) × (size′ ≡ size)) ((start′ ≡ bytesBefore s i) × (size′ ≡ partLength s i))
 
 -- DEMAND 2. "The page is the greedy page. A price is the smallest bid with which its winner, all else unchanged, still wins that place. Up to 8
 -- bidders and 8 places, the best page breaks no condition and no other such page has a larger total." With request S-4 "a price becomes the smallest
@@ -161,3 +166,44 @@ pub record RequestFour : Type 0 where
   pub another-tick : (s t : List ℕ) (i worth : ℕ) (before : ℤ) (number : ℕ) (after : ℤ) → GainGiven s t i worth before number after →
       Accepted s → Accepted t → bidderCount t ≡ bidderCount s → slotCount t ≡ slotCount s → 0 < i → i ≤ bidderCount s → worth ≤ 1_000_000_000 →
       number ≡ 0
+
+-- REQUEST S-5. "In version 2 the conditions stand in strictly rising order of owner, own place, other bidder, other's place; version 1 stays free. A new
+-- call hands back the part of the sheet with one bidder's conditions, which is empty if it has none and then stands just before the first higher owner's,
+-- or at the sheet's end. A refused call hands back the empty part at the sheet's start, and a call that only checks gives the number, or else how many
+-- bytes of the sheet stand before the part."
+
+-- What the call (`part`, owner_part/src/lib.rt) hands back of a lent sheet, which is a reference: `ptr` says where its bytes stand in memory (the block and
+-- the byte of it), `now` what they are. The part is in the sheet's own memory. A refused call's is empty and at the sheet's start. Any other starts
+-- as many bytes on as `bytesBefore` says, and holds exactly the bidder's conditions, all of them, in sheet order.
+pub record HandedRight (sheet part : RefT (List ℕ)) (i : ℕ) : Type 0 where
+  pub own-memory : part .ptr .0 ≡ sheet .ptr .0
+  pub refused : (partRefusal (sheet .now) i ≡ 0 → ⊥) → (part .ptr .1 ≡ sheet .ptr .1) × (part .now ≡ [])
+  pub stands : partRefusal (sheet .now) i ≡ 0 → part .ptr .1 ≡ sheet .ptr .1 + bytesBefore (sheet .now) i
+  pub conditions : partRefusal (sheet .now) i ≡ 0 → part .now ≡ conditionsOf (sheet .now) i
+
+-- Where a part starts: with the first condition whose owner is i or, where i has none, just before the first of a higher owner; or at the sheet's end.
+-- Every condition before it has a lower owner.
+pub record StartsRight (s : List ℕ) (i : ℕ) : Type 0 where
+  pub index : ℕ
+  pub before : bytesBefore s i ≡ constraintsStart s + 4 * index
+  pub lower : (k : ℕ) → k < index → ownerField s k < i
+  pub here : ((index ≡ constraintCount s) × (bytesBefore s i ≡ length s)) ⊎ ((index < constraintCount s) × (i ≤ ownerField s index))
+
+pub record RequestFive : Type 0 where
+  -- in an accepted sheet of version 2 each condition is above every one before it
+  pub in-order : (s : List ℕ) → Accepted s → version s ≡ 2 → (j k : ℕ) → j < k → k < constraintCount s → constraintBelow s j k ≡ true
+  -- "version 1 stays free": its conditions have the numbers 10 to 13 alone
+  pub free : (s : List ℕ) → version s ≡ 1 → (k : ℕ) → constraintRefusal s k ≡ termsRefusal s k
+  -- the part that is handed back
+  pub part : (sheet part : RefT (List ℕ)) (i : ℕ) → PartHanded sheet i part → HandedRight sheet part i
+  pub starts : (s : List ℕ) (i : ℕ) → partRefusal s i ≡ 0 → StartsRight s i
+  -- it is empty if the bidder has no conditions
+  pub empty : (s : List ℕ) (i : ℕ) → partRefusal s i ≡ 0 → ((k : ℕ) → k < constraintCount s → ownerField s k ≡ i → ⊥) → partLength s i ≡ 0
+  -- the call that only checks (`check_part`)
+  pub checks : (s : List ℕ) (i : ℕ) →
+      Owed (beforeOf s i .refusal) (partRefusal s i) (beforeOf s i .bytes ≡ 0) (beforeOf s i .bytes ≡ bytesBefore s i)
+  -- pas_owner_part: the bytes that it points at are the bidder's conditions
+  pub edge : (s : List ℕ) (i start size start′ size′ : ℕ) → PartGiven s i start size 0 start′ size′ → take size′ (drop start′ s) ≡ conditionsOf s i
+  -- "29 where either call gets a version 1 sheet that is otherwise accepted, before 16"
+  pub twenty-nine : (s : List ℕ) (i : ℕ) → Accepted s → version s ≡ 1 → partRefusal s i ≡ 29
+  pub sixteen : (s : List ℕ) (i : ℕ) → Accepted s → version s ≡ 2 → Exactly (partRefusal s i ≡ 16) ((i ≡ 0) ⊎ (bidderCount s < i))

@@ -11,7 +11,7 @@ use Rattle.sheet.specs.Round.{roundOf}
 use Rattle.gain.specs.Gain.{gainOf}
 use Rattle.gain.specs.declared.Gained.{Gained}
 
--- 14. The truth sheet breaks any of the check's rules (1 to 13, 26 and 27).  15. The truth sheet has another n or m.
+-- 14. The truth sheet breaks any of the check's rules (1 to 13 and 26 to 28).  15. The truth sheet has another n or m.
 -- 16. The bidder named in the call is 0 or above n.  17. The worth is above 1,000,000,000.
 unfoldable pub laterRefusal : List ℕ → List ℕ → ℕ → ℕ → ℕ
 laterRefusal s t i worth =
