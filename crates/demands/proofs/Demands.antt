@@ -22,12 +22,14 @@ use Rattle.best_page.specs.BestPage.{bestPage}
 use Rattle.best_page.proofs.BestPageLaws.{best-page}
 use Rattle.best_search.specs.Call.{bestRefusal, bestBuffer}
 use Rattle.best_search.proofs.CallLaws.{best-unrefused}
+use Rattle.owner_part.specs.OwnerPart.{partRefusal, bytesBefore, partLength}
 use Rattle.pas.specs.Calls.{yesNumber, BestPageGiven}
-use Rattle.demands.specs.Demands.{Owed, DemandOne, BestRight, DemandTwo, DemandThree, RequestThree, RequestFour}
+use Rattle.demands.specs.Demands.{Owed, DemandOne, BestRight, DemandTwo, DemandThree, RequestThree, RequestFour, RequestFive}
 use Rattle.demands.proofs.PlayLaws.{played-number, played-right}
 use Rattle.demands.proofs.HonestLaws.{honest-demand}
 use Rattle.demands.proofs.AnswerLaws.{answered-in-order}
 use Rattle.demands.proofs.TickLaws.{request-four-holds}
+use Rattle.demands.proofs.OwnerOrderLaws.{request-five-holds}
 
 -- what stands in lent memory is what stood there, or the result
 owed : {A : Type 0} (number first : ℕ) (given before after : A) → number ≡ first → after ≡ unlessRefused first given before →
@@ -55,6 +57,14 @@ demand-one =
             first-number = g .number;
             refused = λ h. (buffer .refused h, sum .refused h);
             answered = λ z. (buffer .answered z, sum .answered z);
+          };
+      owner-part = λ s i start size number start′ size′ g.
+          let place = owed number (partRefusal s i) (bytesBefore s i) start start′ (g .number) (g .starts) in
+          let bytes = owed number (partRefusal s i) (partLength s i) size size′ (g .number) (g .sized) in
+          record {
+            first-number = g .number;
+            refused = λ h. (place .refused h, bytes .refused h);
+            answered = λ z. (place .answered z, bytes .answered z);
           };
     }
 
@@ -95,3 +105,7 @@ request-three = record { step = answered-in-order; sentence = eligible-sentence 
 -- Request S-4: the tick, in the facts of acceptance and in the refusals of the gain call.
 pub request-four : RequestFour
 request-four = request-four-holds
+
+-- Request S-5: the order of the conditions in version 2, and one bidder's part.
+pub request-five : RequestFive
+request-five = request-five-holds

@@ -3,4 +3,5 @@ pub mod PlayLaws
 pub mod HonestLaws
 pub mod AnswerLaws
 pub mod TickLaws
+pub mod OwnerOrderLaws
 pub mod Demands

@@ -15,7 +15,6 @@ use Rattle.sheet.specs.Sheet.{version, bidderCount}
 use Rattle.sheet.specs.Refusal.{refusalOf, Accepted}
 use Rattle.sheet.proofs.AcceptedLaws.{accepted-sheet}
 use Rattle.owner_part.specs.declared.Bounds.{Bounds}
-use Rattle.owner_part.specs.declared.Before.{Before}
 use Rattle.owner_part.specs.OwnerPart.{
   callRefusal,
   partRefusal,

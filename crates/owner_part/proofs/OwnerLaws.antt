@@ -9,7 +9,6 @@ use mathlib.Core.Path.{_≡_, ap}
 use native.Mathlib.Nat.{eq-or-lt-of-le}
 use native.Mathlib.Omega.{arith}
 use lib.Dec.{ltb}
-use Rattle.basis.specs.Tests.{least}
 use Rattle.basis.proofs.NumberLaws.{below-or-not}
 use Rattle.basis.proofs.TestLaws.{least-at-most, least-before, least-passes, least-is}
 use Rattle.sheet.specs.Sheet.{version, constraintCount, ownerField}

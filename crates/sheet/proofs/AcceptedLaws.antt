@@ -10,7 +10,7 @@ use native.Mathlib.Nat.{not-suc-le-zero}
 use native.Mathlib.Omega.{arith}
 use lib.Dec.{eqb, ltb}
 use lib.ListN.{length}
-use Rattle.basis.specs.First.{_when_otherwise_, firstOver}
+use Rattle.basis.specs.First.{firstOver}
 use Rattle.basis.proofs.FirstLaws.{orElse-none, orElse-right, when-none, first-none, first-all-none}
 use Rattle.basis.proofs.NumberLaws.{same-or-not}
 use Rattle.basis.proofs.TestLaws.{or-none, or-parts, or-left, or-right, and-holds, and-parts}
@@ -292,7 +292,7 @@ unfolding termsRefusal
 terms-back s k f = fields-back (bidderCount s) (slotCount s) (ownerField s k) (ownSlotField s k) (otherField s k) (otherSlotField s k) f
 
 -- 28: the fields of an accepted condition are small, so that its place in the order is that of its number
-small-fields : (s : List ℕ) (k : ℕ) → Counts s →
+pub small-fields : (s : List ℕ) (k : ℕ) → Counts s →
     ConstraintAccepted (bidderCount s) (slotCount s) (ownerField s k) (ownSlotField s k) (otherField s k) (otherSlotField s k) → SmallFields s k
 small-fields s k c f =
     let n = c .most-bidders in

@@ -1,6 +1,6 @@
 -- The laws' own: proved from the definitions, and nothing here need be believed.
 -- What an accepted round is known to satisfy, for every crate above to cite.
-use Prim.Native.Nat.{ℕ, suc, _+_, _*_, _%_, _<_, _≤_}
+use Prim.Native.Nat.{ℕ, suc, _%_, _<_, _≤_}
 use mathlib.Core.Path.{_≡_}
 use lib.ListN.{length}
 use Rattle.sheet.specs.declared.Kind.{Kind}
