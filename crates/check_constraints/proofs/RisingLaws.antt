@@ -1,7 +1,7 @@
 -- Where the constraints must rise. One that breaks none of 10 to 13 has an owner, so its number is above 0; it is out of order exactly where its number
 -- is not above that of the one before, and 0 stands before the first. Assumes nothing.
 use Prim.Native.Nat.{ℕ, zero, suc, _<_}
-use borrow.Author.Tests.{eq-eqb, lt-ltb, le-ltb, le-leb, lt-leb}
+use borrow.Author.Tests.{lt-ltb, le-ltb, le-leb, lt-leb}
 use mathlib.Core.Bool.{Bool, not, _&&_}
 use mathlib.Core.List.{List}
 use mathlib.Core.Logic.{⊎-elim}
@@ -10,8 +10,7 @@ use native.Mathlib.Omega.{arith}
 use lib.Dec.{eqb, ltb, leb}
 use Rattle.basis.specs.Bytes.{byteAt}
 use Rattle.basis.specs.First.{_when_otherwise_, firstOver}
-use Rattle.basis.specs.Tests.{anyBelow}
-use Rattle.basis.proofs.FirstLaws.{orElse-left, orElse-right, first-none, first-all-none, first-same, first-of-tests}
+use Rattle.basis.proofs.FirstLaws.{orElse-left, orElse-right, first-none, first-all-none}
 use Rattle.basis.proofs.NumberLaws.{below-or-not}
 use Rattle.sheet.specs.Sheet.{version, bidderCount, slotCount, ownerField, ownSlotField, otherField, otherSlotField}
 use Rattle.sheet.specs.Refusal.{inRange, fieldsRefusal, termsRefusal, aboveBefore, orderRefusal, constraintRefusal}
@@ -67,25 +66,11 @@ module _ (s : List ℕ) (low : (i : ℕ) → byteAt s i < 256) where
       orElse-right (termsRefusal s k) (orderRefusal s k) none
       ∙ ap (λ (x : Bool). 28 when x otherwise 0) (ap₂ _&&_ (sym p) (out-of-order k none ∙ sym (ap₂ leb q r)) ∙ tested)
 
--- Where none breaks 10 to 13,
-module _ (s : List ℕ) (n : ℕ) (none : firstOver (termsRefusal s) n ≡ 0) where
-  order-decides : (k : ℕ) → k < n → constraintRefusal s k ≡ orderRefusal s k
-  unfolding constraintRefusal
-  order-decides k l = orElse-right (termsRefusal s k) (orderRefusal s k) (first-none (termsRefusal s) n none k l)
-
-  -- the number is none in version 1,
-  pub free-number : version s ≡ 1 → firstOver (constraintRefusal s) n ≡ 0
-  free-number one =
-      first-all-none (constraintRefusal s) n
-      (λ k l. order-decides k l ∙ order-free s k (λ two. absurd (omega arith)))
-
-  -- and 28 in version 2 where any is out of order
-  pub rising-number : version s ≡ 2 → {found : Bool} → found ≡ anyBelow (λ k. not (aboveBefore s k)) n →
-      (28 when found otherwise 0) ≡ firstOver (constraintRefusal s) n
-  unfolding orderRefusal
-  rising-number two e =
-      ap (λ (x : Bool). 28 when x otherwise 0) e
-      ∙ sym (
-      first-same (constraintRefusal s) (λ k. 28 when not (aboveBefore s k) otherwise 0) n
-      (λ k l. order-decides k l ∙ ap (λ (x : Bool). 28 when x && not (aboveBefore s k) otherwise 0) (eq-eqb (version s) 2 two))
-      ∙ first-of-tests 28 (λ k. not (aboveBefore s k)) n)
+-- where none breaks 10 to 13, a sheet of version 1 has no number: the order gives none
+pub free-number : (s : List ℕ) (n : ℕ) → version s ≡ 1 → firstOver (termsRefusal s) n ≡ 0 → firstOver (constraintRefusal s) n ≡ 0
+unfolding constraintRefusal
+free-number s n one none =
+    first-all-none (constraintRefusal s) n
+    (λ k l.
+    orElse-right (termsRefusal s k) (orderRefusal s k) (first-none (termsRefusal s) n none k l)
+    ∙ order-free s k (λ two. absurd (omega arith)))

@@ -1,13 +1,12 @@
 // The refusals of the constraints: 10 to 13 and, in version 2, 28.
 ghost use mathlib.Core.Path.{_≡_};
-ghost use mathlib.Core.Bool.{false, not};
+ghost use mathlib.Core.Bool.{false};
 ghost use Prim.Native.Nat.{_+_, _*_, _/_, _%_, _<_, _≤_};
 ghost use lib.Dec.{eqb};
 ghost use lib.ListN.{length};
 ghost use Rattle.basis.specs.First.{firstOver};
-ghost use Rattle.basis.specs.Tests.{anyBelow};
 ghost use Rattle.sheet.specs.Sheet.{version, bidderCount, slotCount, constraintsStart};
-ghost use Rattle.sheet.specs.Refusal.{inRange, fieldsRefusal, termsRefusal, aboveBefore, constraintRefusal};
+ghost use Rattle.sheet.specs.Refusal.{inRange, fieldsRefusal, termsRefusal, constraintRefusal};
 ghost use Rattle.sheet.specs.Accepted.{fieldsNumber};
 use basis::wide;
 use basis::word32;
@@ -59,7 +58,8 @@ fn constraint_refusal(bidders: u8, slots: u8, owner: u8, own: u8, other: u8, oth
     0
 }
 
-// A constraint's four bytes, read as one number, turned round: the owner's comes first, and of two constraints the one above has the larger number.
+// A constraint's four bytes, read as one number, turned round so that the owner's counts most: of two constraints the one above has the larger
+// number.
 fn order_number(constraint: u32) -> u32
     ensures { λ r. ⌜ r ≡ fieldsNumber (constraint % 256) (constraint / 256 % 256) (constraint / 65536 % 256) (constraint / 16777216) ⌝ }
 {
@@ -147,21 +147,24 @@ fn any_faulty(sheet: &[u8], start: usize, bidders: u8, slots: u8, constraints: u
     found
 }
 
-// Whether any constraint is not above the one before it, where none breaks 10 to 13: again in a pass that none ends, with the number before
-// kept and not read twice.
-fn any_out_of_order(sheet: &[u8], start: usize, constraints: usize) -> bool
+// Whether any constraint breaks any of 10 to 13 or is not above the one before it, again in a pass that none ends. The number before is kept
+// and not worked out again; a constraint that breaks nothing has an owner, so 0 stands for none.
+fn any_unfit(sheet: &[u8], start: usize, bidders: u8, slots: u8, constraints: usize) -> bool
     requires { ⌜ (start ≡ constraintsStart (now sheet)) × (start + 4 * constraints ≤ length (now sheet)) ⌝ }
-    requires { ⌜ firstOver (termsRefusal (now sheet)) constraints ≡ 0 ⌝ }
-    ensures { λ r. ⌜ r ≡ anyBelow (λ k. not (aboveBefore (now (sheet .entry)) k)) constraints ⌝ }
+    requires { ⌜ (bidders ≡ bidderCount (now sheet)) × (slots ≡ slotCount (now sheet)) ⌝ }
+    ensures { λ r. ⌜ (r ≡ false → firstOver (constraintRefusal (now (sheet .entry))) constraints ≡ 0) ⌝ }
 {
+    let most_bidder = wide(bidders);
+    let most_slot = wide(slots);
     let mut found = false;
     let mut before: u32 = 0;
-    let mut k = 0;
-    while k < constraints {
-        let number = order_number(word32(sheet, start + 4 * k));
-        found = found | (number <= before);
+    let mut seen = 0;
+    while seen < constraints {
+        let constraint = word32(sheet, start + 4 * seen);
+        let number = order_number(constraint);
+        found = found | (is_faulty(most_bidder, most_slot, constraint) | (number <= before));
         before = number;
-        k += 1;
+        seen += 1;
     }
     found
 }
@@ -179,17 +182,14 @@ pub fn free_refusal(sheet: &[u8], start: usize, bidders: u8, slots: u8, constrai
     0
 }
 
-// The constraints of version 2, which rise: 10 to 13 and 28. Where none breaks 10 to 13, one out of order gives 28, whichever it is.
+// The constraints of version 2, which rise: 10 to 13 and 28, again with the number looked for only where there is one.
 pub fn rising_refusal(sheet: &[u8], start: usize, bidders: u8, slots: u8, constraints: usize) -> u32
     requires { ⌜ (start ≡ constraintsStart (now sheet)) × (start + 4 * constraints ≤ length (now sheet)) ⌝ }
     requires { ⌜ (bidders ≡ bidderCount (now sheet)) × (slots ≡ slotCount (now sheet)) × (version (now sheet) ≡ 2) ⌝ }
     ensures { λ r. ⌜ r ≡ firstOver (constraintRefusal (now (sheet .entry))) constraints ⌝ }
 {
-    if any_faulty(sheet, start, bidders, slots, constraints) {
+    if any_unfit(sheet, start, bidders, slots, constraints) {
         return first_refusal(sheet, start, bidders, slots, constraints, true);
-    }
-    if any_out_of_order(sheet, start, constraints) {
-        return 28;
     }
     0
 }

@@ -20,7 +20,7 @@ returns : tie.Need-returns
 returns c = c .first-refusal .ensures
 
 returns-2 : tie.Need-returns-2
-returns-2 c = sym (free-number _ _ (c .before .any-faulty .ensures (c .if1 .left)) (c .before .before .before .pre .1 .2))
+returns-2 c = sym (free-number _ _ (c .before .before .before .pre .1 .2) (c .before .any-faulty .ensures (c .if1 .left)))
 
 pub free-refusal-spec : {M : Type 1} → statement M
 free-refusal-spec = tie.close (tie.spec any-faulty-requires first-refusal-requires returns returns-2)
