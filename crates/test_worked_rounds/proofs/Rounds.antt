@@ -1,5 +1,5 @@
 -- The right-hand sides of the calls' contracts give, for every worked round, what documents 01 and 02 say of it: the antt kernel computes them from
--- the sheets' bytes, the best pages by trying every page. So too the answers of the eligibility step.
+-- the sheets' bytes, the best pages by trying every page. So too the answers of the eligibility step, and the parts of single bidders.
 -- Assumes nothing.
 use mathlib.Core.List.{map}
 use mathlib.Core.Path.{_≡_, refl}
@@ -17,6 +17,11 @@ use Rattle.sheet.specs.Refusal.{
   legalBid,
   inRange,
   fieldsRefusal,
+  termsRefusal,
+  fieldsBelow,
+  constraintBelow,
+  aboveBefore,
+  orderRefusal,
   constraintRefusal,
   refusalOf,
 }
@@ -36,14 +41,20 @@ use Rattle.auction.specs.Allowed.{totalUpTo, total}
 use Rattle.best_page.specs.BestPage.{nobodyTwice, isAllowed, keep, eachChoice, tryAll, bestPage}
 use Rattle.best_search.specs.Call.{boundsRefusal, bestRefusal, bestBuffer, chosenFor}
 use Rattle.play.specs.Play.{playRefusal, slotEntry, playedBuffer}
-use Rattle.test_worked_rounds.specs.Sheets.{A, B, C, D, E, F, F-true, F-version-3, F-eight-bytes, F-in-ticks, F-off-tick, F-tick-0, F-twelve-bytes, F-without-tick, G, H, H-longer, earlier-winner, earlier-winner-and-own, placed-and-own, overbid, overbid-barred, tie-in-ticks, lower-number-in-ticks, tick-above-bids, too-high-and-off-tick, nine-bidders, two-faults}
-use Rattle.test_worked_rounds.specs.Worked.{Worked, lent, givenByPlay, givenByBest, given, entries, rounds, Candidate, givenByStep, candidates}
+use Rattle.owner_part.specs.OwnerPart.{callRefusal, partRefusal, firstFrom, bytesBefore, partLength, boundsFor, boundsOf, beforeFor, beforeOf}
+use Rattle.test_worked_rounds.specs.Sheets.{A, B, C, D, E, F, F-true, F-version-3, F-eight-bytes, F-in-ticks, F-off-tick, F-tick-0, F-twelve-bytes, F-without-tick, G, H, H-longer, earlier-winner, earlier-winner-and-own, placed-and-own, overbid, overbid-barred, tie-in-ticks, lower-number-in-ticks, tick-above-bids, too-high-and-off-tick, H-in-order, owners-two-and-four, equal-neighbours, repeated-in-version-1, own-place-falls, falls-and-names-itself, falls-before-a-fault, falls-after-a-fault, nine-bidders, two-faults}
+use Rattle.test_worked_rounds.specs.Worked.{Worked, lent, givenByPlay, givenByBest, given, entries, rounds, Candidate, givenByStep, candidates, PartAsked, givenByPart, parts}
 
 pub rounds-hold : map given rounds ≡ map (λ (w : Worked). w .said) rounds
-unfolding word16At word32At bytes32 firstOver unlessRefused row padded joined anyBelow allBelow least tickField effectsStart effectField bidField ownerField ownSlotField otherField otherSlotField formRefusal countsRefusal effectRefusal bidRefusal tickRefusal legalBid inRange fieldsRefusal constraintRefusal refusalOf kindOf constraintField roundOf ranksNoLower wins winner at put emptyPage placed ownHolds otherHolds broken constraintAt bidOf effectOf breaksEarlier firstFailed eligible winnerAt fillSlot pageUpTo greedyPage withBid winsWith priceFor price ownSlot oneLower sameKind listHas asksLower downward testRefusal testedFor testedOf slotOf gainIf gainAt gainOf laterRefusal gainRefusal gainedFor gainedOf breaks breaksOwn totalUpTo total nobodyTwice isAllowed keep eachChoice tryAll bestPage boundsRefusal bestRefusal bestBuffer chosenFor playRefusal slotEntry playedBuffer words quads countBytes bodyBytes sheetOf sheetInTicks A B C D E F F-true F-version-3 F-eight-bytes F-in-ticks F-off-tick F-tick-0 F-twelve-bytes F-without-tick G H H-longer earlier-winner overbid overbid-barred tie-in-ticks lower-number-in-ticks tick-above-bids too-high-and-off-tick nine-bidders two-faults lent givenByPlay givenByBest given entries rounds
+unfolding word16At word32At bytes32 firstOver unlessRefused row padded joined anyBelow allBelow least tickField effectsStart effectField bidField ownerField ownSlotField otherField otherSlotField formRefusal countsRefusal effectRefusal bidRefusal tickRefusal legalBid inRange fieldsRefusal termsRefusal fieldsBelow constraintBelow aboveBefore orderRefusal constraintRefusal refusalOf kindOf constraintField roundOf ranksNoLower wins winner at put emptyPage placed ownHolds otherHolds broken constraintAt bidOf effectOf breaksEarlier firstFailed eligible winnerAt fillSlot pageUpTo greedyPage withBid winsWith priceFor price ownSlot oneLower sameKind listHas asksLower downward testRefusal testedFor testedOf slotOf gainIf gainAt gainOf laterRefusal gainRefusal gainedFor gainedOf breaks breaksOwn totalUpTo total nobodyTwice isAllowed keep eachChoice tryAll bestPage boundsRefusal bestRefusal bestBuffer chosenFor playRefusal slotEntry playedBuffer words quads countBytes bodyBytes sheetOf sheetInTicks A B C D E F F-true F-version-3 F-eight-bytes F-in-ticks F-off-tick F-tick-0 F-twelve-bytes F-without-tick G H H-longer earlier-winner overbid overbid-barred tie-in-ticks lower-number-in-ticks tick-above-bids too-high-and-off-tick H-in-order equal-neighbours repeated-in-version-1 own-place-falls falls-and-names-itself falls-before-a-fault falls-after-a-fault nine-bidders two-faults lent givenByPlay givenByBest given entries rounds
 rounds-hold = refl
 
 -- The answers of the eligibility step, candidate by candidate.
 pub candidates-hold : map givenByStep candidates ≡ map (λ (c : Candidate). failedTest (c .said)) candidates
 unfolding word16At word32At bytes32 row padded anyBelow tickField effectsStart effectField bidField ownerField ownSlotField otherField otherSlotField kindOf constraintField roundOf ranksNoLower wins winner at put emptyPage placed ownHolds otherHolds broken breaksOwn constraintAt bidOf breaksEarlier firstFailed failedTest eligible winnerAt fillSlot pageUpTo words quads countBytes bodyBytes sheetOf A C D H earlier-winner earlier-winner-and-own placed-and-own givenByStep candidates firstOver allBelow
 candidates-hold = refl
+
+-- The parts of single bidders.
+pub parts-hold : map givenByPart parts ≡ map (λ (p : PartAsked). p .said) parts
+unfolding word16At word32At bytes32 firstOver least tickField effectsStart effectField bidField ownerField ownSlotField otherField otherSlotField formRefusal countsRefusal effectRefusal bidRefusal tickRefusal inRange fieldsRefusal termsRefusal fieldsBelow constraintBelow aboveBefore orderRefusal constraintRefusal refusalOf callRefusal partRefusal firstFrom bytesBefore partLength boundsFor boundsOf beforeFor beforeOf words quads countBytes bodyBytes sheetOf sheetInTicks F-in-ticks F-version-3 H H-in-order owners-two-and-four own-place-falls givenByPart parts
+parts-hold = refl

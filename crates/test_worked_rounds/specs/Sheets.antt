@@ -98,6 +98,46 @@ unfoldable pub tick-above-bids : List ℕ
 unfolding sheetInTicks
 tick-above-bids = sheetInTicks 1_000_000_000 (0 ∷ 0 ∷ []) (1 ∷ 1 ∷ []) (on 1 1 0 0 ∷ [])
 
+-- H in version 2 with tick 1: its conditions stand in order, and bidder 4 has none
+unfoldable pub H-in-order : List ℕ
+unfolding sheetInTicks
+H-in-order = sheetInTicks 1 (30 ∷ 32 ∷ 36 ∷ 40 ∷ []) (10000 ∷ 4500 ∷ 2025 ∷ []) (on 1 2 2 1 ∷ on 1 3 2 1 ∷ on 1 3 2 2 ∷ on 2 2 3 1 ∷ on 2 3 3 1 ∷ on 2 3 3 2 ∷ on 3 2 4 1 ∷ on 3 3 4 1 ∷ on 3 3 4 2 ∷ [])
+
+-- tick 1, bids 4, 3, 2, 1; effects 2, 1; conditions of 2 and of 4 alone, each of the four fields deciding once: (2,0,1,1), (2,0,1,2), (2,0,3,1), (2,1,0,0),
+-- (4,2,0,0)
+unfoldable pub owners-two-and-four : List ℕ
+unfolding sheetInTicks
+owners-two-and-four = sheetInTicks 1 (4 ∷ 3 ∷ 2 ∷ 1 ∷ []) (2 ∷ 1 ∷ []) (on 2 0 1 1 ∷ on 2 0 1 2 ∷ on 2 0 3 1 ∷ on 2 1 0 0 ∷ on 4 2 0 0 ∷ [])
+
+-- bids 2, 1; effects 2, 1; (1,2,0,0) twice: in version 2 with tick 1, and in version 1
+unfoldable pub equal-neighbours : List ℕ
+unfolding sheetInTicks
+equal-neighbours = sheetInTicks 1 (2 ∷ 1 ∷ []) (2 ∷ 1 ∷ []) (on 1 2 0 0 ∷ on 1 2 0 0 ∷ [])
+
+unfoldable pub repeated-in-version-1 : List ℕ
+unfolding sheetOf
+repeated-in-version-1 = sheetOf (2 ∷ 1 ∷ []) (2 ∷ 1 ∷ []) (on 1 2 0 0 ∷ on 1 2 0 0 ∷ [])
+
+-- the same bidders and places, version 2: one owner's conditions out of order
+unfoldable pub own-place-falls : List ℕ
+unfolding sheetInTicks
+own-place-falls = sheetInTicks 1 (2 ∷ 1 ∷ []) (2 ∷ 1 ∷ []) (on 1 2 0 0 ∷ on 1 1 0 0 ∷ [])
+
+-- a condition out of order that also breaks 11
+unfoldable pub falls-and-names-itself : List ℕ
+unfolding sheetInTicks
+falls-and-names-itself = sheetInTicks 1 (2 ∷ 1 ∷ []) (2 ∷ 1 ∷ []) (on 2 1 0 0 ∷ on 1 1 1 1 ∷ [])
+
+-- one out of order before one that breaks 10
+unfoldable pub falls-before-a-fault : List ℕ
+unfolding sheetInTicks
+falls-before-a-fault = sheetInTicks 1 (2 ∷ 1 ∷ []) (2 ∷ 1 ∷ []) (on 2 1 0 0 ∷ on 1 1 0 0 ∷ on 0 1 0 0 ∷ [])
+
+-- and one that breaks 12 before one out of order
+unfoldable pub falls-after-a-fault : List ℕ
+unfolding sheetInTicks
+falls-after-a-fault = sheetInTicks 1 (2 ∷ 1 ∷ []) (2 ∷ 1 ∷ []) (on 2 1 1 0 ∷ on 1 1 0 0 ∷ [])
+
 -- F in version 2 with tick 3, where the last bid is no multiple
 unfoldable pub F-off-tick : List ℕ
 unfolding sheetInTicks

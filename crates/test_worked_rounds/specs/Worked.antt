@@ -1,10 +1,10 @@
--- "Rounds worked by hand": what is asked of each round, and what documents 01 and 02 say; and candidates for a place, with the answer of the
--- eligibility step (document 02, S-3).
+-- "Rounds worked by hand": what is asked of each round, and what documents 01 and 02 say; candidates for a place, with the answer of the
+-- eligibility step (document 02, S-3); and bidders asked for, with their part of the sheet (S-5).
 use Prim.Native.Nat.{ℕ, _*_, _-_}
 use mathlib.Core.Bool.{Bool, true, false}
 use mathlib.Core.List.{List, [], _∷_}
 use lib.IntN.{ℤ, pos, negsuc}
-use lib.ListN.{replicate}
+use lib.ListN.{length, take, drop, replicate}
 use Rattle.basis.specs.First.{unlessRefused}
 use Rattle.sheet.specs.Sheet.{slotCount}
 use Rattle.sheet.specs.Refusal.{refusalOf}
@@ -20,6 +20,9 @@ use Rattle.gain.specs.declared.Gained.{Gained}
 use Rattle.gain.specs.Call.{gainedOf}
 use Rattle.best_search.specs.declared.Chosen.{Chosen}
 use Rattle.best_search.specs.Call.{bestRefusal, bestBuffer, chosenFor}
+use Rattle.owner_part.specs.declared.Bounds.{Bounds}
+use Rattle.owner_part.specs.declared.Before.{Before}
+use Rattle.owner_part.specs.OwnerPart.{boundsOf, beforeOf}
 use Rattle.test_worked_rounds.specs.Sheets.{
   A,
   B,
@@ -38,6 +41,7 @@ use Rattle.test_worked_rounds.specs.Sheets.{
   G,
   H,
   H-longer,
+  H-in-order,
   earlier-winner,
   earlier-winner-and-own,
   placed-and-own,
@@ -47,6 +51,13 @@ use Rattle.test_worked_rounds.specs.Sheets.{
   lower-number-in-ticks,
   tick-above-bids,
   too-high-and-off-tick,
+  owners-two-and-four,
+  equal-neighbours,
+  repeated-in-version-1,
+  own-place-falls,
+  falls-and-names-itself,
+  falls-before-a-fault,
+  falls-after-a-fault,
   nine-bidders,
   two-faults,
 }
@@ -162,10 +173,11 @@ worked sheet truth bidder worth page prices monotonic gain best total =
 -- A to H as document 01 has them, with the gains and the best page that it names (the other gains and best pages are ours); then the round
 -- that only an earlier winner's condition decides, H with its fourth place (the only full page has 553340), and the rounds that show that
 -- demand 3 needs a worth of at least the bid. Then rounds of version 2: F with tick 3, also with a truth sheet of another tick, a tie, a lower-numbered
--- rival, and a tick above every bid. Last come calls that are refused: by the truth sheet (version 3; a bid off its tick; another m; another n), by the
+-- rival, a tick above every bid, H with its conditions in order, and, in version 1, a condition twice. Last come calls that are refused: by the truth sheet (version 3; a bid off its tick; another m; another n), by the
 -- bidder (0, though the worth is too high as well; 3 of 2), by the worth, by 9 bidders for the best page alone, by a sheet of 8 bytes and one of version 2
 -- of 12, by a sheet whose first faulty condition breaks a later rule than its second, and by the rules of version 2: tick 0 though the length is wrong
--- too, the length, a bid above the limit though an earlier one is off the tick, and the last bid off the tick.
+-- too, the length, a bid above the limit though an earlier one is off the tick, the last bid off the tick, and conditions that do not rise: a repeat,
+-- one owner's out of order, one that also breaks 11, one before a condition that breaks 10, one after a condition that breaks 12, and in the truth sheet.
 unfoldable pub rounds : List Worked
 rounds =
     worked A A 1 30 (1 ∷ 2 ∷ []) (20 ∷ 10 ∷ []) true (pos 100) (1 ∷ 2 ∷ []) 480
@@ -186,6 +198,8 @@ rounds =
     ∷ worked tie-in-ticks tie-in-ticks 2 12 (1 ∷ 2 ∷ []) (10 ∷ 5 ∷ []) true (pos 14) (1 ∷ 2 ∷ []) 50
     ∷ worked lower-number-in-ticks lower-number-in-ticks 1 20 (2 ∷ 1 ∷ []) (30 ∷ 10 ∷ []) true (pos 20) (2 ∷ 1 ∷ []) 130
     ∷ worked tick-above-bids tick-above-bids 1 5 (2 ∷ 1 ∷ []) (0 ∷ 0 ∷ []) false (pos 5) (0 ∷ 0 ∷ []) 0
+    ∷ worked H-in-order H 4 40 (4 ∷ 2 ∷ 0 ∷ []) (37 ∷ 31 ∷ 0 ∷ []) true (pos 30000) (3 ∷ 4 ∷ 1 ∷ []) 600750
+    ∷ worked repeated-in-version-1 repeated-in-version-1 1 2 (1 ∷ 2 ∷ []) (1 ∷ 0 ∷ []) true (pos 2) (1 ∷ 2 ∷ []) 5
     ∷ calls F F-version-3 2 6 0 (plays (2 ∷ []) (6 ∷ [])) (tells true) (gainsNot 14) (finds (2 ∷ []) 6)
     ∷ calls F-in-ticks F-off-tick 2 6 0 (plays (2 ∷ []) (6 ∷ [])) (tells true) (gainsNot 14) (finds (2 ∷ []) 6)
     ∷ calls F earlier-winner 2 6 0 (plays (2 ∷ []) (6 ∷ [])) (tells true) (gainsNot 15) (finds (2 ∷ []) 6)
@@ -201,6 +215,12 @@ rounds =
     ∷ calls F-without-tick F 2 6 7 (playsNot 7 1) (tellsNot 7) (gainsNot 7) (findsNot 7 1)
     ∷ calls too-high-and-off-tick F 2 6 9 (playsNot 9 1) (tellsNot 9) (gainsNot 9) (findsNot 9 1)
     ∷ calls F-off-tick F 2 6 27 (playsNot 27 1) (tellsNot 27) (gainsNot 27) (findsNot 27 1)
+    ∷ calls equal-neighbours F 1 2 28 (playsNot 28 2) (tellsNot 28) (gainsNot 28) (findsNot 28 2)
+    ∷ calls own-place-falls F 1 2 28 (playsNot 28 2) (tellsNot 28) (gainsNot 28) (findsNot 28 2)
+    ∷ calls falls-and-names-itself F 1 2 11 (playsNot 11 2) (tellsNot 11) (gainsNot 11) (findsNot 11 2)
+    ∷ calls falls-before-a-fault F 1 2 28 (playsNot 28 2) (tellsNot 28) (gainsNot 28) (findsNot 28 2)
+    ∷ calls falls-after-a-fault F 1 2 12 (playsNot 12 2) (tellsNot 12) (gainsNot 12) (findsNot 12 2)
+    ∷ calls repeated-in-version-1 equal-neighbours 1 2 0 (plays (1 ∷ 2 ∷ []) (1 ∷ 0 ∷ [])) (tells true) (gainsNot 14) (finds (1 ∷ 2 ∷ []) 5)
     ∷ []
 
 -- a sheet, a place, a candidate for it, and what the eligibility step answers (document 02, S-3) with the places before it filled
@@ -231,4 +251,65 @@ candidates =
     ∷ asked D 3 3 EarlierWinners
     ∷ asked earlier-winner-and-own 2 2 EarlierWinners
     ∷ asked placed-and-own 2 1 Placed
+    ∷ []
+
+-- What the calls for one bidder's part say: where it is, what the call that only checks says, and the bytes of the sheet there.
+pub record PartSaid : Type 0 where
+  pub bounds : Bounds
+  pub before : Before
+  pub bytes : List ℕ
+
+pub record PartAsked : Type 0 where
+  pub sheet : List ℕ
+  pub bidder : ℕ
+  pub said : PartSaid
+
+-- by the right-hand sides of their contracts
+unfoldable pub givenByPart : PartAsked → PartSaid
+givenByPart p =
+    let bounds = boundsOf (p .sheet) (p .bidder) in
+    record {
+      bounds = bounds;
+      before = beforeOf (p .sheet) (p .bidder);
+      bytes = take (bounds .length) (drop (bounds .start) (p .sheet));
+    }
+
+-- a part that starts after so many bytes, with its own bytes
+abbrev pub stands : List ℕ → ℕ → ℕ → List ℕ → PartAsked
+stands sheet bidder start bytes =
+    record {
+      sheet = sheet;
+      bidder = bidder;
+      said = record { bounds = record { refusal = 0; start = start; length = length bytes }; before = record { refusal = 0; bytes = start }; bytes = bytes };
+    }
+
+-- and the empty part of a call that is refused with the number k
+abbrev pub standsNot : List ℕ → ℕ → ℕ → PartAsked
+standsNot sheet bidder k =
+    record {
+      sheet = sheet;
+      bidder = bidder;
+      said = record { bounds = record { refusal = k; start = 0; length = 0 }; before = record { refusal = k; bytes = 0 }; bytes = [] };
+    }
+
+-- Every owner of H in version 2, whose conditions start after 41 bytes and which has 77 bytes: the first, those between, and 4, which has none, at the
+-- sheet's end. Then a sheet with conditions of 2 and 4 alone, from byte 37 on: 1, just before those of 2; 2; 3, just before those of 4; 4. F in version 2, with
+-- no conditions. Then refused calls: 29 for version 1, for bidder 0 too; 16 for 0 and for 5 of 4; 28 and 3 before either.
+unfoldable pub parts : List PartAsked
+parts =
+    stands H-in-order 1 41 (1 ∷ 2 ∷ 2 ∷ 1 ∷ 1 ∷ 3 ∷ 2 ∷ 1 ∷ 1 ∷ 3 ∷ 2 ∷ 2 ∷ [])
+    ∷ stands H-in-order 2 53 (2 ∷ 2 ∷ 3 ∷ 1 ∷ 2 ∷ 3 ∷ 3 ∷ 1 ∷ 2 ∷ 3 ∷ 3 ∷ 2 ∷ [])
+    ∷ stands H-in-order 3 65 (3 ∷ 2 ∷ 4 ∷ 1 ∷ 3 ∷ 3 ∷ 4 ∷ 1 ∷ 3 ∷ 3 ∷ 4 ∷ 2 ∷ [])
+    ∷ stands H-in-order 4 77 []
+    ∷ stands owners-two-and-four 1 37 []
+    ∷ stands owners-two-and-four 2 37 (2 ∷ 0 ∷ 1 ∷ 1 ∷ 2 ∷ 0 ∷ 1 ∷ 2 ∷ 2 ∷ 0 ∷ 3 ∷ 1 ∷ 2 ∷ 1 ∷ 0 ∷ 0 ∷ [])
+    ∷ stands owners-two-and-four 3 53 []
+    ∷ stands owners-two-and-four 4 53 (4 ∷ 2 ∷ 0 ∷ 0 ∷ [])
+    ∷ stands F-in-ticks 1 25 []
+    ∷ standsNot H 4 29
+    ∷ standsNot H 0 29
+    ∷ standsNot H-in-order 0 16
+    ∷ standsNot H-in-order 5 16
+    ∷ standsNot own-place-falls 0 28
+    ∷ standsNot F-version-3 0 3
     ∷ []
