@@ -4,9 +4,10 @@
 // logarithm of the conditions.
 ghost use mathlib.Core.Path.{_≡_};
 ghost use Prim.Native.Nat.{_+_, _*_, _-_, _≤_};
+ghost use Rattle.basis.specs.First.{_when_otherwise_};
 ghost use Rattle.sheet.specs.Sheet.{version, constraintCount, constraintsStart};
 ghost use Rattle.sheet.specs.Refusal.{Accepted};
-ghost use Rattle.owner_part.specs.OwnerPart.{callRefusal, partRefusal, firstFrom, beforeOf, boundsOf, PartHanded};
+ghost use Rattle.owner_part.specs.OwnerPart.{partRefusal, firstFrom, beforeOf, boundsOf, PartHanded};
 use basis::wide;
 use basis::word16;
 
@@ -23,14 +24,14 @@ pub struct Before {
     pub bytes: usize,
 }
 
-// The call's own refusals: 29 for a sheet of version 1, then 16 for a bidder that the sheet has not.
-fn call_refusal(version: u32, bidders: u32, bidder: u32) -> u32
-    ensures { λ r. ⌜ r ≡ callRefusal version bidders bidder ⌝ }
+// The call's own refusals: 29 for a sheet of version 1, which has no order, then 16 for a bidder that the sheet has not.
+fn call_refusal(unordered: bool, unknown: bool) -> u32
+    ensures { λ r. ⌜ r ≡ (29 when unordered otherwise 16 when unknown otherwise 0) ⌝ }
 {
-    if version == 1 {
+    if unordered {
         return 29;
     }
-    if (bidder == 0) | (bidders < bidder) {
+    if unknown {
         return 16;
     }
     0
@@ -44,7 +45,10 @@ fn refusal_of(sheet: &[u8], bidder: u32) -> u32
     if refusal != 0 {
         return refusal;
     }
-    call_refusal(word16(sheet, 3), wide(sheet[5]), bidder)
+    call_refusal(
+        word16(sheet, 3) == 1,
+        (bidder == 0) | (wide(sheet[5]) < bidder),
+    )
 }
 
 // How many constraints stand before the first whose owner is the bidder or a higher one.

@@ -33,6 +33,7 @@ call-refusal-requires : tie.Need-call-refusal-requires
 call-refusal-requires c κs = search needs
 
 returns-2 : tie.Need-returns-2
+unfolding callRefusal
 returns-2 c =
     let bidder = c .before .before .before .before .before .before .before .args .bidder in
     by-call _ _ _ (none (c .before .before .before .before))
