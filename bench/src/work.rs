@@ -1,6 +1,7 @@
 //! What is measured: a call on sheets of one size and one manner, by either engine.
 
 use independent::random::{in_ticks, round, Manner, Random, Size};
+use independent::slow::Round;
 use independent::{engine, slow};
 use pas::raw;
 use std::hint::black_box;
@@ -47,8 +48,19 @@ pub fn inputs(row: &Row, count: usize) -> Vec<Input> {
     (0..count).map(|_| input(&mut random, row)).collect()
 }
 
+/// A round of a row. Repeats, which version 2 does not have, are drawn anew.
+fn drawn(random: &mut Random, row: &Row) -> Round {
+    let mut drawn = in_ticks(round(random, row.size, row.manner, 1_000_000_000, 1_000_000), row.tick);
+    while drawn.constraints.len() < row.size.constraints {
+        let missing = Size { constraints: row.size.constraints - drawn.constraints.len(), ..row.size };
+        drawn.constraints.extend(round(random, missing, row.manner, 0, 1).constraints);
+        drawn = in_ticks(drawn, row.tick);
+    }
+    drawn
+}
+
 fn input(random: &mut Random, row: &Row) -> Input {
-    let mut sheet = || slow::sheet(&in_ticks(round(random, row.size, row.manner, 1_000_000_000, 1_000_000), row.tick));
+    let mut sheet = || slow::sheet(&drawn(random, row));
     let (sheet, truth) = (sheet(), sheet());
     let mut page = [0; 80];
     assert_eq!(engine::play(&sheet, &mut page), 0, "measured sheets are good");
