@@ -6,7 +6,7 @@ use independent::{engine, slow};
 use pas::raw;
 use std::hint::black_box;
 
-/// The five calls of document 01.
+/// The five calls of document 01, and the part of document 02.
 #[derive(Clone, Copy, Debug, PartialEq)]
 pub enum Call {
     Check,
@@ -14,6 +14,7 @@ pub enum Call {
     Downward,
     Gain,
     Best,
+    Part,
 }
 
 /// Who answers.
@@ -84,26 +85,30 @@ pub fn answer(engine: Engine, call: Call, inputs: &[Input]) {
 fn answer_by_library(call: Call, input: &Input) {
     let sheet = black_box(&input.sheet[..]);
     let (mut result, mut answer, mut gain, mut total) = ([0; 80], 0, 0, 0);
+    let (mut start, mut length) = (0, 0);
     let number = match call {
         Call::Check => raw::check(sheet),
         Call::Play => raw::play(sheet, &mut result),
         Call::Downward => raw::downward(sheet, input.bidder, &mut answer),
         Call::Gain => raw::gain(sheet, &input.truth, input.bidder, input.worth, &mut gain),
         Call::Best => raw::best(sheet, &mut result, &mut total),
+        Call::Part => raw::owner_part(sheet, input.bidder, &mut start, &mut length),
     };
-    black_box((number, &result, answer, gain, total));
+    black_box((number, &result, answer, gain, total, start, length));
 }
 
 #[inline(never)]
 fn answer_by_rust(call: Call, input: &Input) {
     let sheet = black_box(&input.sheet[..]);
     let (mut result, mut answer, mut gain, mut total) = ([0; 80], 0, 0, 0);
+    let (mut start, mut length) = (0, 0);
     let number = match call {
         Call::Check => engine::check(sheet),
         Call::Play => engine::play(sheet, &mut result),
         Call::Downward => engine::downward(sheet, input.bidder, &mut answer),
         Call::Gain => engine::gain(sheet, &input.truth, input.bidder, input.worth, &mut gain),
         Call::Best => engine::best(sheet, &mut result, &mut total),
+        Call::Part => engine::owner_part(sheet, input.bidder, &mut start, &mut length),
     };
-    black_box((number, &result, answer, gain, total));
+    black_box((number, &result, answer, gain, total, start, length));
 }
