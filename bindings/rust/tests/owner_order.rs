@@ -1,5 +1,7 @@
 //! Version 2 in owner order: which sheets are refused with 28, and which part of a sheet one bidder's constraints are.
 
+use independent::random::{in_ticks, round, Manner, Random, Size};
+use independent::slow;
 use pas::{Bidder, Constraint, Kind, OwnerPart, Refusal, Sheet, SheetBuilder, Slot};
 
 /// A constraint as the documents write it: owner, own place, other, other's place.
@@ -211,4 +213,22 @@ fn every_call_is_refused_with_28_and_a_truth_sheet_with_14() {
     assert_eq!(pas::best_page(&bad), Err(Refusal::OutOfOrder));
     assert_eq!(pas::owner_part(&bad, Bidder(9)), Err(Refusal::OutOfOrder));
     assert_eq!(pas::play_into(&bad, &mut []), Err(Refusal::OutOfOrder), "before 19");
+}
+
+#[test]
+fn the_parts_of_all_bidders_one_after_another_are_the_sheets_constraints() {
+    let mut random = Random::seeded(21);
+    for _ in 0..300 {
+        let size = Size { bidders: random.between(1, 64), slots: random.between(1, 16), constraints: random.between(0, 1024) };
+        let drawn = round(&mut random, size, Manner::Mixed, 1000, 1000);
+        let sheet = Sheet::from_bytes(&slow::sheet(&in_ticks(drawn, Some(1)))).expect("constraints in order");
+        let mut at = sheet.as_bytes().len() - 4 * sheet.constraints();
+        for bidder in 1..=size.bidders as u8 {
+            let part = sheet.owner_part(Bidder(bidder)).expect("a bidder of the sheet");
+            assert_eq!(part.start(), at);
+            assert!(part.constraints().all(|constraint| constraint.owner == Bidder(bidder)));
+            at += part.as_bytes().len();
+        }
+        assert_eq!(at, sheet.as_bytes().len());
+    }
 }
