@@ -151,8 +151,10 @@ static void disorder(struct sheet *sheet) {
     }
 }
 
-/* the sheets by number: the largest first, then 8 by 8, then random sizes; every fourth one is damaged, every 16th is in
- * disorder */
+/*
+ * the sheets by number: the largest first, then 8 by 8, then random sizes; every fourth one is damaged, and every 16th
+ * has its conditions in disorder
+ */
 static void make_numbered(struct sheet *sheet, uint32_t number) {
     enum manner manner = (enum manner)(number / 2 % MANNERS);
     uint32_t bid = number % 3 ? PAS_MAX_BID : number % 2;
