@@ -1,11 +1,11 @@
 /*
- * pas.h - position pages with bidders' conditions, the five calls of libpas.a
+ * pas.h - position pages with bidders' conditions, the six calls of libpas.a
  *
  * A search page has a few paid places. Suppliers, the bidders, bid per click and list conditions (where they will not
  * stand, beside whom). The library fills the places from the top, charges each winner a second price, tests a bidder's
- * list, works out a bidder's gain and finds the best page of a small round. It is proved: each call meets its
- * description below for every input. It allocates nothing, keeps nothing between calls and calls nothing but memcpy and
- * memset.
+ * list, works out a bidder's gain, finds the best page of a small round and shows where in a sheet one bidder's
+ * conditions stand. It is proved: each call meets its description below for every input. It allocates nothing, keeps
+ * nothing between calls and calls nothing but memcpy and memset.
  *
  * Build:   ./build-library            (proves, and gives target/staticlib/libpas.a, for x86-64 Linux)
  * Link:    cc program.c -I include target/staticlib/libpas.a
@@ -27,7 +27,8 @@
  *   9               4            in version 2 only: tick, 1 to 1,000,000,000
  *   h               4 each, m    effect of places 1 to m, 1 to 1,000,000, none larger than the one before
  *   h + 4m          4 each, n    bid of bidders 1 to n, 0 to 1,000,000,000, a multiple of the tick
- *   h + 4(m + n)    4 each, c    condition: owner, own place, other bidder, other's place, one byte each
+ *   h + 4(m + n)    4 each, c    condition: owner, own place, other bidder, other's place, one byte each; in version 2
+ *                                in rising order
  *
  * Here h is 9 in version 1, which has no tick in it and means tick 1, and 13 in version 2. The length is exactly
  * h + 4 (m + n + c): PAS_SHEET_LENGTH(n, m, c), and in version 2 PAS_TICK_LENGTH more. The version in the sheet is that
@@ -39,18 +40,23 @@
  *
  * A condition binds only if its owner has a place. It is broken when both its parts are true: the owner is at the own
  * place (own place 0: any place), and the other bidder is at the other's place (other bidder 0 with other's place 0: no
- * other, and this part is true). Conditions may come in any order and may repeat. So
+ * other, and this part is true). So
  *
  *   (1, 2, 0, 0)   1 will not stand at place 2
  *   (1, 0, 3, 1)   1 will not stand on a page that has 3 at place 1
  *   (1, 2, 3, 1)   1 will not stand at place 2 while 3 is at place 1
  *   (1, 2, 3, 2)   accepted, and never broken: no place has two bidders
  *
+ * In version 1 conditions may come in any order and may repeat. In version 2 each is above the one before it, by owner,
+ * then own place, then other bidder, then other's place: the first of the four in which two conditions differ decides.
+ * That is the order of their four bytes (memcmp), so that the four above would come as (1, 0, 3, 1), (1, 2, 0, 0),
+ * (1, 2, 3, 1), (1, 2, 3, 2). None repeats, and the conditions of one owner stand together: pas_owner_part finds them.
+ *
  *
  * What holds for every call
  *
  * - It returns PAS_OK (0), or the number of the first rule that the call breaks, in the order of the list below.
- * - A refused call writes nothing: no byte of a result, and nothing to *answer, *gain or *total.
+ * - A refused call writes nothing: no byte of a result, and nothing to *answer, *gain, *total, *start or *length.
  * - A call that is not refused writes what its description says and nothing else. It does not read what it writes to,
  *   so that memory need not be set before.
  * - The same bytes and numbers get the same answer, always.
@@ -63,8 +69,8 @@
  * - No pointer is null, also where the length is 0. The proofs speak of slices, and nothing in the toolchain says that
  *   null is one, so no answer is promised there. An empty std::vector may have one: pas_to_read and pas_to_write below
  *   give another pointer instead.
- * - Sheets, results and *answer are bytes and may lie at any address. *gain and *total must be aligned as int64_t and
- *   uint64_t are (8 bytes), which each variable of these types is.
+ * - Sheets, results and *answer are bytes and may lie at any address. *gain, *total, *start and *length must be aligned
+ *   as int64_t, uint64_t and size_t are (8 bytes), which each variable of these types is.
  * - What a call writes overlaps neither what it reads nor another thing that it writes. The two sheets of pas_gain are
  *   only read and may overlap.
  * - While a call runs nobody else writes what it reads, nor touches what it writes. Otherwise calls may run in several
@@ -86,9 +92,9 @@ extern "C" {
 /* ---- Version ---- */
 
 /* The version of the library and of this file. CHANGELOG.md says what each one brought, and what a new number means. */
-#define PAS_VERSION "1.2.0"
+#define PAS_VERSION "1.3.0"
 #define PAS_VERSION_MAJOR 1
-#define PAS_VERSION_MINOR 2
+#define PAS_VERSION_MINOR 3
 #define PAS_VERSION_PATCH 0
 
 /* ---- Sizes ---- */
@@ -129,6 +135,7 @@ extern "C" {
  *   pas_downward       2,344  about  5,400          24,576
  *   pas_gain          14,856  about 18,100          40,960
  *   pas_best           6,992  about  7,200          20,480
+ *   pas_owner_part       248           248           1,024
  *
  * These are measured and not proved: nothing in the toolchain bounds a stack. examples/c/stack measures them, on the
  * largest sheets, on refused ones and on random ones, and fails where a call takes more than its figure. The table is
@@ -137,16 +144,17 @@ extern "C" {
  * more above "measured", for that and for another C library.
  *
  * A thread with 64 KB of stack does for every call; by the figures one of 16 KB, PTHREAD_STACK_MIN, does for
- * pas_check alone. A call that finds too little stack runs into the guard page and ends the program; where there is no
- * guard page, as below many a coroutine's stack, it overwrites what lies there.
+ * pas_check and pas_owner_part alone. A call that finds too little stack runs into the guard page and ends the program;
+ * where there is no guard page, as below many a coroutine's stack, it overwrites what lies there.
  */
 #define PAS_STACK_CHECK 1024u
 #define PAS_STACK_PLAY 28672u
 #define PAS_STACK_DOWNWARD 24576u
 #define PAS_STACK_GAIN 40960u
 #define PAS_STACK_BEST 20480u
+#define PAS_STACK_OWNER_PART 1024u
 
-/* the largest of the five */
+/* the largest of the six */
 #define PAS_MAX_STACK PAS_STACK_GAIN
 
 /* ---- Numbers of a refused call, in checking order ---- */
@@ -169,9 +177,11 @@ enum {
     PAS_OTHER_IS_OWNER = 11,    /* A condition's other bidder is its owner. */
     PAS_HALF_AN_OTHER = 12,     /* Just one of other bidder and other's place is 0. */
     PAS_EMPTY_CONDITION = 13,   /* Own place, other bidder and other's place are all 0. */
+    PAS_OUT_OF_ORDER = 28,      /* A condition of version 2 is not above the one before it. */
 
-    PAS_TRUTH_REFUSED = 14,     /* The truth sheet breaks any of 1 to 13, 26 and 27. */
+    PAS_TRUTH_REFUSED = 14,     /* The truth sheet breaks any of 1 to 13 and 26 to 28. */
     PAS_TRUTH_DIFFERS = 15,     /* The truth sheet has another n or m. */
+    PAS_UNORDERED_VERSION = 29, /* A bidder's part is asked of a sheet of version 1. */
     PAS_WRONG_BIDDER = 16,      /* The bidder named in the call is 0 or above n. */
     PAS_WRONG_WORTH = 17,       /* The worth is above 1,000,000,000. */
     PAS_TOO_LARGE_FOR_BEST = 18, /* The best page is sought with n above 8 or m above 8. */
@@ -180,8 +190,9 @@ enum {
 
 /*
  * The 13 bytes of version 2 are asked for after rule 3: before it the version is not known. Rule 9 is held against all
- * bids, and then 27 against all of them. Rules 10 to 13 are held against the conditions in sheet order: the first
- * condition that breaks one of them decides, and for it the first of the four.
+ * bids, and then 27 against all of them. Rules 10 to 13 and 28 are held against the conditions in sheet order: the
+ * first condition that breaks one of them decides, and for it the first of the five. So a condition that is out of
+ * order and breaks 11 too is refused with 11; where one that is only out of order stands before it, with 28.
  */
 
 /* ---- Pointers that may be null ---- */
@@ -205,7 +216,7 @@ static inline uint8_t *pas_to_write(uint8_t *pointer, size_t length) {
 /* ---- The calls ---- */
 
 /*
- * Checks a sheet: 1 to 13, 26 or 27, or PAS_OK for an accepted sheet. Every other call does this by itself.
+ * Checks a sheet: 1 to 13 or 26 to 28, or PAS_OK for an accepted sheet. Every other call does this by itself.
  */
 uint32_t pas_check(const uint8_t *sheet, size_t sheet_len);
 
@@ -224,7 +235,7 @@ uint32_t pas_check(const uint8_t *sheet, size_t sheet_len);
  * has bidder 0 and price 0; a winner's price may be 0 too. Bytes after 5 m stay as they were. A result of
  * PAS_MAX_RESULT_LENGTH bytes always does.
  *
- * Refused with 1 to 13, 26, 27, or 19 where result_len is below 5 m.
+ * Refused with 1 to 13, 26 to 28, or 19 where result_len is below 5 m.
  */
 uint32_t pas_play(const uint8_t *sheet, size_t sheet_len, uint8_t *result, size_t result_len);
 
@@ -236,7 +247,7 @@ uint32_t pas_play(const uint8_t *sheet, size_t sheet_len, uint8_t *result, size_
  * condition with own place k + 1 and the same other bidder and other's place. Own place 0 asks for nothing further, and
  * an empty list is downward monotonic.
  *
- * Refused with 1 to 13, 26, 27, or 16.
+ * Refused with 1 to 13, 26 to 28, or 16.
  */
 uint32_t pas_downward(const uint8_t *sheet, size_t sheet_len, uint32_t bidder, uint8_t *answer);
 
@@ -255,7 +266,7 @@ uint32_t pas_downward(const uint8_t *sheet, size_t sheet_len, uint32_t bidder, u
  * worth from the bidder's bid to PAS_MAX_WORTH, neither call is refused, and the gain with `truth` played is at least
  * the gain with `other` played.
  *
- * Refused with 1 to 13, 26 or 27 for `played`, 14 for `truth`, 15, 16, or 17.
+ * Refused with 1 to 13 or 26 to 28 for `played`, 14 for `truth`, 15, 16, or 17.
  */
 uint32_t pas_gain(const uint8_t *played, size_t played_len, const uint8_t *truth, size_t truth_len, uint32_t bidder,
                   uint32_t worth, int64_t *gain);
@@ -273,9 +284,23 @@ uint32_t pas_gain(const uint8_t *played, size_t played_len, const uint8_t *truth
  * (docs/PERFORMANCE.md has it and how it was searched for); that none takes longer is not proved. Where strangers write
  * the sheets, reckon with it.
  *
- * Refused with 1 to 13, 26, 27, 18, or 19 where result_len is below m.
+ * Refused with 1 to 13, 26 to 28, 18, or 19 where result_len is below m.
  */
 uint32_t pas_best(const uint8_t *sheet, size_t sheet_len, uint8_t *result, size_t result_len, uint64_t *total);
+
+/*
+ * Finds the part of a sheet of version 2 with the conditions that one bidder owns: *start is how many bytes of the
+ * sheet stand before the part, and *length how many it has, four a condition. So the part is the *length bytes from
+ * sheet + *start on, in the sheet's own memory: all conditions that the bidder owns and no other, in order.
+ *
+ * The part of a bidder without conditions is empty, *length 0, and stands just before the first condition of an owner
+ * with a higher number or, where there is none, at the sheet's end: *start is sheet_len then.
+ *
+ * Time: that of pas_check, and besides it a number of steps that grows with the logarithm of c.
+ *
+ * Refused with 1 to 13 or 26 to 28, with 29 for a sheet of version 1 that is otherwise accepted, or 16.
+ */
+uint32_t pas_owner_part(const uint8_t *sheet, size_t sheet_len, uint32_t bidder, size_t *start, size_t *length);
 
 #ifdef __cplusplus
 }

@@ -14,7 +14,8 @@ CRATES_FOLDER = SHEETS_FOLDER.parent / "crates"
 
 
 def sheet(bids, effects, conditions=(), tick=None, version=None):
-    """The bytes of a sheet, of version 2 where it has a tick. A condition is (owner, own place, other bidder, other's place)."""
+    """The bytes of a sheet, of version 2 where it has a tick; its conditions must be in order then. A condition is (owner, own place,
+    other bidder, other's place)."""
     if version is None:
         version = 1 if tick is None else 2
     header = b"PAS" + struct.pack("<HBBH", version, len(bids), len(effects), len(conditions))
@@ -52,6 +53,7 @@ SHEETS = {
     "F2": sheet([3, 6], [1], tick=3),
     "G": sheet([0], [1, 1], [(1, 1, 0, 0)]),
     "H": sheet([30, 32, 36, 40], [10000, 4500, 2025], above(IN_ORDER, 3)),
+    "H2": sheet([30, 32, 36, 40], [10000, 4500, 2025], above(IN_ORDER, 3), tick=2),
     "H4": sheet([30, 32, 36, 40], [10000, 4500, 2025, 911], above(IN_ORDER, 4)),
     "own": sheet([2, 1], [1, 1], [(1, 0, 2, 2)]),
     # The best page that took longest of all that were searched for (docs/PERFORMANCE.md).
@@ -75,7 +77,7 @@ FULL = sheet(
     tick=7,
 )
 
-# The same size again, as it was drawn at random once; this file is kept and not written.
+# The same size again, as it was drawn at random once and put in order; this file is kept and not written.
 LARGEST = (SHEETS_FOLDER / "largest.pas").read_bytes()
 
 # What each program of the gate reads.

@@ -18,11 +18,11 @@ pub fn rows() -> Vec<Row> {
     rows.extend(growth());
     rows.extend(sizes("version 2", TICK));
     rows.extend(best_sizes("version 2", TICK));
+    rows.extend(owner_parts());
     rows
 }
 
-/// The tick of the rows of version 2. Two bids so rarely have the same nearest multiple of it that these rounds have the pages of the same
-/// rounds in version 1.
+/// The tick of the rows of version 2. Their constraints are in order and none repeats, so they are not the rounds of version 1.
 const TICK: Option<u32> = Some(10);
 
 /// The quick calls on sheets of five sizes; the smallest is round H's.
@@ -30,6 +30,12 @@ fn sizes(part: &'static str, tick: Option<u32>) -> Vec<Row> {
     let sizes = [size(4, 3, 9), size(8, 4, 16), size(16, 8, 128), size(32, 12, 512), size(64, 16, 1024)];
     let of_call = |call| sizes.map(|size| Row { part, call, size, manner: Manner::Mixed, tick });
     QUICK_CALLS.into_iter().flat_map(of_call).collect()
+}
+
+/// A bidder's part with the constraints growing, and the check of the same sheets: how much the part costs besides.
+fn owner_parts() -> Vec<Row> {
+    let row = |call, constraints| Row { part: "owner's part", call, size: size(64, 16, constraints), manner: Manner::Mixed, tick: TICK };
+    [16, 64, 256, 1024].into_iter().flat_map(|constraints| [Call::Check, Call::Part].map(|call| row(call, constraints))).collect()
 }
 
 /// Play and downward on the largest sheets, by kind of constraint.

@@ -1,11 +1,12 @@
 //! What is measured: a call on sheets of one size and one manner, by either engine.
 
 use independent::random::{in_ticks, round, Manner, Random, Size};
+use independent::slow::Round;
 use independent::{engine, slow};
 use pas::raw;
 use std::hint::black_box;
 
-/// The five calls of document 01.
+/// The five calls of document 01, and the part of document 02.
 #[derive(Clone, Copy, Debug, PartialEq)]
 pub enum Call {
     Check,
@@ -13,6 +14,7 @@ pub enum Call {
     Downward,
     Gain,
     Best,
+    Part,
 }
 
 /// Who answers.
@@ -47,8 +49,19 @@ pub fn inputs(row: &Row, count: usize) -> Vec<Input> {
     (0..count).map(|_| input(&mut random, row)).collect()
 }
 
+/// A round of a row. Repeats, which version 2 does not have, are drawn anew.
+fn drawn(random: &mut Random, row: &Row) -> Round {
+    let mut drawn = in_ticks(round(random, row.size, row.manner, 1_000_000_000, 1_000_000), row.tick);
+    while drawn.constraints.len() < row.size.constraints {
+        let missing = Size { constraints: row.size.constraints - drawn.constraints.len(), ..row.size };
+        drawn.constraints.extend(round(random, missing, row.manner, 0, 1).constraints);
+        drawn = in_ticks(drawn, row.tick);
+    }
+    drawn
+}
+
 fn input(random: &mut Random, row: &Row) -> Input {
-    let mut sheet = || slow::sheet(&in_ticks(round(random, row.size, row.manner, 1_000_000_000, 1_000_000), row.tick));
+    let mut sheet = || slow::sheet(&drawn(random, row));
     let (sheet, truth) = (sheet(), sheet());
     let mut page = [0; 80];
     assert_eq!(engine::play(&sheet, &mut page), 0, "measured sheets are good");
@@ -72,26 +85,30 @@ pub fn answer(engine: Engine, call: Call, inputs: &[Input]) {
 fn answer_by_library(call: Call, input: &Input) {
     let sheet = black_box(&input.sheet[..]);
     let (mut result, mut answer, mut gain, mut total) = ([0; 80], 0, 0, 0);
+    let (mut start, mut length) = (0, 0);
     let number = match call {
         Call::Check => raw::check(sheet),
         Call::Play => raw::play(sheet, &mut result),
         Call::Downward => raw::downward(sheet, input.bidder, &mut answer),
         Call::Gain => raw::gain(sheet, &input.truth, input.bidder, input.worth, &mut gain),
         Call::Best => raw::best(sheet, &mut result, &mut total),
+        Call::Part => raw::owner_part(sheet, input.bidder, &mut start, &mut length),
     };
-    black_box((number, &result, answer, gain, total));
+    black_box((number, &result, answer, gain, total, start, length));
 }
 
 #[inline(never)]
 fn answer_by_rust(call: Call, input: &Input) {
     let sheet = black_box(&input.sheet[..]);
     let (mut result, mut answer, mut gain, mut total) = ([0; 80], 0, 0, 0);
+    let (mut start, mut length) = (0, 0);
     let number = match call {
         Call::Check => engine::check(sheet),
         Call::Play => engine::play(sheet, &mut result),
         Call::Downward => engine::downward(sheet, input.bidder, &mut answer),
         Call::Gain => engine::gain(sheet, &input.truth, input.bidder, input.worth, &mut gain),
         Call::Best => engine::best(sheet, &mut result, &mut total),
+        Call::Part => engine::owner_part(sheet, input.bidder, &mut start, &mut length),
     };
-    black_box((number, &result, answer, gain, total));
+    black_box((number, &result, answer, gain, total, start, length));
 }

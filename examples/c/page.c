@@ -1,6 +1,7 @@
 /*
  * Round H of document 01 from C: builds its sheet, prints the page with its prices as the page program does, then a
- * bidder's gain and the best page; then the page of the same round with bids in ticks, a sheet of version 2.
+ * bidder's gain and the best page; then the page of the same round with bids in ticks, a sheet of version 2, and two
+ * bidders' conditions where they stand in that sheet.
  */
 #include <inttypes.h>
 #include <stdio.h>
@@ -13,7 +14,7 @@ enum { BIDDERS = 4, PLACES = 3, CONDITIONS = 9 };
 static const uint32_t effects[PLACES] = {10000, 4500, 2025};
 static const uint32_t bids[BIDDERS] = {30, 32, 36, 40};
 
-/* 1 above 2, 2 above 3, 3 above 4: owner, own place, other bidder, other's place */
+/* 1 above 2, 2 above 3, 3 above 4: owner, own place, other bidder, other's place; in order, as version 2 asks */
 static const uint8_t conditions[CONDITIONS][4] = {
     {1, 2, 2, 1}, {1, 3, 2, 1}, {1, 3, 2, 2}, {2, 2, 3, 1}, {2, 3, 3, 1},
     {2, 3, 3, 2}, {3, 2, 4, 1}, {3, 3, 4, 1}, {3, 3, 4, 2},
@@ -68,6 +69,22 @@ static int play(const uint8_t *sheet, size_t length) {
     return 0;
 }
 
+/* prints a bidder's conditions from the sheet's own bytes; whether the call is refused */
+static int show_part(const uint8_t *sheet, size_t length, uint32_t bidder) {
+    size_t start = 0;
+    size_t part = 0;
+    uint32_t number = pas_owner_part(sheet, length, bidder, &start, &part);
+    if (number != PAS_OK) {
+        return refused("pas_owner_part", number);
+    }
+    printf("conditions of %" PRIu32 ", from byte %zu of %zu:", bidder, start, length);
+    for (const uint8_t *at = sheet + start; at < sheet + start + part; at += 4) {
+        printf(" (%d,%d,%d,%d)", at[0], at[1], at[2], at[3]);
+    }
+    printf("%s\n", part ? "" : " none");
+    return 0;
+}
+
 int main(void) {
     uint8_t sheet[PAS_SHEET_LENGTH(BIDDERS, PLACES, CONDITIONS) + PAS_TICK_LENGTH];
     size_t length = build(sheet, 0);
@@ -102,5 +119,5 @@ int main(void) {
 
     printf("in ticks of 2:\n");
     length = build(sheet, 2);
-    return play(sheet, length);
+    return play(sheet, length) || show_part(sheet, length, 2) || show_part(sheet, length, 4);
 }

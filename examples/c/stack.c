@@ -6,7 +6,7 @@
  * call the free part of that stack is painted, and after it the lowest byte that lost its paint says how deep the call
  * went. All that the call puts on the stack counts: its return address, its frames, those of memcpy and memset, and in
  * the first call those of the dynamic linker, which then looks the two up. The sheets are the largest ones, refused
- * ones and random ones from a fixed seed, of both versions.
+ * ones and random ones from a fixed seed, of both versions, in version 2 with the conditions in order and out of it.
  *
  * This file calls neither memcpy nor memset, so that they are looked up in the first call that is measured (the script
  * `stack` sees to it).
@@ -48,23 +48,60 @@ static void put(struct sheet *sheet, uint32_t number, int bytes) {
 /* what a sheet's conditions are like */
 enum manner { PAIRS, ON_OTHERS, ON_OWN_PLACES, MIXED, MANNERS };
 
-/* one condition that no rule refuses; with one bidder only its own place can be named */
-static void put_condition(struct sheet *sheet, uint32_t n, uint32_t m, enum manner manner) {
+/* a condition; the other bidder is always the next one */
+struct condition {
+    uint32_t owner, own_place, others_place;
+};
+
+/* a condition that no rule refuses; with one bidder only its own place can be named */
+static struct condition draw(uint32_t n, uint32_t m, enum manner manner) {
     if (manner == MIXED) {
         manner = (enum manner)between(PAIRS, ON_OWN_PLACES);
     }
-    uint32_t owner = between(1, n);
-    uint32_t own_place = between(1, m);
+    struct condition drawn = {between(1, n), between(1, m), between(1, m)};
     if (n == 1 || manner == ON_OWN_PLACES) {
-        put(sheet, owner | own_place << 8, 4);
-        return;
+        drawn.others_place = 0;
+    } else if (manner == ON_OTHERS) {
+        drawn.own_place = 0;
     }
-    uint32_t other = owner % n + 1;
-    uint32_t others_place = between(1, m);
-    if (manner == ON_OTHERS) {
-        own_place = 0;
+    return drawn;
+}
+
+static void put_condition(struct sheet *sheet, uint32_t n, struct condition of) {
+    uint32_t other = of.others_place ? of.owner % n + 1 : 0;
+    put(sheet, of.owner | of.own_place << 8 | other << 16 | of.others_place << 24, 4);
+}
+
+/* c conditions as they come */
+static void put_any(struct sheet *sheet, uint32_t n, uint32_t m, uint32_t c, enum manner manner) {
+    for (uint32_t i = 0; i < c; i++) {
+        put_condition(sheet, n, draw(n, m, manner));
     }
-    put(sheet, owner | own_place << 8 | other << 16 | others_place << 24, 4);
+}
+
+/* whether a condition is wanted, by owner, own place and other's place; between two sheets none is */
+static uint8_t wanted[PAS_MAX_BIDDERS + 1][PAS_MAX_PLACES + 1][PAS_MAX_PLACES + 1];
+
+/* c different conditions in order, fewer where hardly more are found; how many */
+static uint32_t put_in_order(struct sheet *sheet, uint32_t n, uint32_t m, uint32_t c, enum manner manner) {
+    uint32_t found = 0;
+    for (uint32_t tried = 0; found < c && tried < 8 * c; tried++) {
+        struct condition of = draw(n, m, manner);
+        found += !wanted[of.owner][of.own_place][of.others_place];
+        wanted[of.owner][of.own_place][of.others_place] = 1;
+    }
+    struct condition at;
+    for (at.owner = 1; at.owner <= n; at.owner++) {
+        for (at.own_place = 0; at.own_place <= m; at.own_place++) {
+            for (at.others_place = 0; at.others_place <= m; at.others_place++) {
+                if (wanted[at.owner][at.own_place][at.others_place]) {
+                    wanted[at.owner][at.own_place][at.others_place] = 0;
+                    put_condition(sheet, n, at);
+                }
+            }
+        }
+    }
+    return found;
 }
 
 /* the ticks of the sheets; 0 stands for none, which is version 1 */
@@ -92,12 +129,32 @@ static void make(struct sheet *sheet, uint32_t tick, uint32_t n, uint32_t m, uin
     for (uint32_t i = 0; i < n; i++) {
         put(sheet, tick ? tick * between(0, bid / tick) : between(0, bid), 4);
     }
-    for (uint32_t i = 0; i < c; i++) {
-        put_condition(sheet, n, m, manner);
+    if (!tick) {
+        put_any(sheet, n, m, c, manner);
+        return;
+    }
+    c = put_in_order(sheet, n, m, c, manner);
+    sheet->bytes[7] = (uint8_t)c;
+    sheet->bytes[8] = (uint8_t)(c >> 8);
+}
+
+/* one condition of a sheet takes the place of another: in version 2 they are out of order then, but for a few */
+static void disorder(struct sheet *sheet) {
+    uint32_t c = sheet->bytes[7] | (uint32_t)sheet->bytes[8] << 8;
+    if (c < 2) {
+        return;
+    }
+    uint8_t *last = sheet->bytes + sheet->length - 4;
+    const uint8_t *other = last - 4 * (size_t)between(1, c - 1);
+    for (int i = 0; i < 4; i++) {
+        last[i] = other[i];
     }
 }
 
-/* the sheets by number: the largest first, then 8 by 8, then random sizes; every fourth one is damaged */
+/*
+ * the sheets by number: the largest first, then 8 by 8, then random sizes; every fourth one is damaged, and every 16th
+ * has its conditions in disorder
+ */
 static void make_numbered(struct sheet *sheet, uint32_t number) {
     enum manner manner = (enum manner)(number / 2 % MANNERS);
     uint32_t bid = number % 3 ? PAS_MAX_BID : number % 2;
@@ -116,6 +173,9 @@ static void make_numbered(struct sheet *sheet, uint32_t number) {
         /* a byte of the last condition or of the last bid, else one anywhere */
         size_t at = number % 8 == 3 ? sheet->length - between(1, 4) : between(0, (uint32_t)sheet->length - 1);
         sheet->bytes[at] = (uint8_t)between(0, 255);
+    }
+    if (number % 16 == 1) {
+        disorder(sheet);
     }
 }
 
@@ -168,6 +228,7 @@ static uint8_t result[PAS_MAX_RESULT_LENGTH];
 static uint8_t answer;
 static int64_t gain;
 static uint64_t total;
+static size_t start, length;
 static uint32_t bidder, worth;
 static uint32_t number;
 
@@ -184,6 +245,7 @@ MEASURED(play, pas_play(sheet.bytes, sheet.length, result, sizeof result))
 MEASURED(downward, pas_downward(sheet.bytes, sheet.length, bidder, &answer))
 MEASURED(gain_of, pas_gain(sheet.bytes, sheet.length, truth.bytes, truth.length, bidder, worth, &gain))
 MEASURED(best, pas_best(sheet.bytes, sheet.length, result, sizeof result, &total))
+MEASURED(owner_part, pas_owner_part(sheet.bytes, sheet.length, bidder, &start, &length))
 
 static const struct call {
     const char *name;
@@ -195,6 +257,7 @@ static const struct call {
     {"pas_downward", downward, PAS_STACK_DOWNWARD},
     {"pas_gain", gain_of, PAS_STACK_GAIN},
     {"pas_best", best, PAS_STACK_BEST},
+    {"pas_owner_part", owner_part, PAS_STACK_OWNER_PART},
 };
 
 enum { CALLS = sizeof calls / sizeof calls[0] };
@@ -271,7 +334,7 @@ static int measure_in_process(const struct call *call, struct found *into) {
 
 int main(void) {
     int within = 1;
-    printf("call          first call  later calls  header's figure  accepted  refused\n");
+    printf("call            first call  later calls  header's figure  accepted  refused\n");
     fflush(stdout);
     for (size_t i = 0; i < CALLS; i++) {
         struct found of;
@@ -279,7 +342,7 @@ int main(void) {
             fprintf(stderr, "%s is not measured\n", calls[i].name);
             return EXIT_FAILURE;
         }
-        printf("%-12s  %10zu  %11zu  %15zu  %8" PRIu32 "  %7" PRIu32 "\n", calls[i].name, of.first, of.later,
+        printf("%-14s  %10zu  %11zu  %15zu  %8" PRIu32 "  %7" PRIu32 "\n", calls[i].name, of.first, of.later,
                calls[i].promised, of.accepted, of.refused);
         fflush(stdout);
         if (of.first > calls[i].promised || of.later > calls[i].promised) {

@@ -2,8 +2,8 @@
 //!
 //! A page has slots from the top down, each with an effect. Bidders bid per click and set constraints: slots where they will not stand,
 //! and bidders beside whom they will not stand. The library fills the page, charges each winner the smallest bid with which it would still
-//! have won its slot, tells whether a bidder's list is downward monotonic, works out what a bidder gains, and finds the best page of a
-//! small round. Its answers are proved, refusals included; this crate adds types and no judgement of its own.
+//! have won its slot, tells whether a bidder's list is downward monotonic, works out what a bidder gains, finds the best page of a
+//! small round, and shows where in a sheet one bidder's constraints stand. Its answers are proved, refusals included; this crate adds types and no judgement of its own.
 //!
 //! The C header `include/pas.h` is the manual: the sheet's layout, the limits, what each call means. It says "place" for a slot and
 //! "condition" for a constraint, and so do the sentences of a [`Refusal`]; `docs/EMBEDDING.md` of the repository has the table of words.
@@ -56,6 +56,22 @@
 //! # Ok::<(), Refusal>(())
 //! ```
 //!
+//! In such a sheet, of version 2, the constraints stand in order, so that those of one bidder are a part of its bytes:
+//!
+//! ```
+//! use pas::{Bidder, Kind, Refusal, SheetBuilder, Slot};
+//!
+//! let (own, other) = (Kind::OwnSlot(Slot(2)), Kind::OtherSlot { other: Bidder(3), slot: Slot(1) });
+//! let terms = SheetBuilder::new().tick(1).effects([2, 1]).bids([5, 6, 7]);
+//! let sheet = terms.constraint(Bidder(2), own).constraint(Bidder(1), own).constraint(Bidder(2), other).build()?;
+//!
+//! let part = sheet.owner_part(Bidder(2))?;
+//! assert_eq!(part.as_bytes(), [2, 0, 3, 1, 2, 2, 0, 0]);
+//! assert_eq!(part.constraints().map(|constraint| constraint.kind).collect::<Vec<_>>(), [other, own]);
+//! assert_eq!(part.as_bytes().as_ptr(), sheet.as_bytes()[part.start()..].as_ptr());
+//! # Ok::<(), Refusal>(())
+//! ```
+//!
 //! Every call but the check is there twice: as a method of [`Sheet`], whose bytes the library has accepted, and as a function over bytes
 //! that nobody has checked. The check makes a [`Sheet`] of bytes (`Sheet::from_bytes`), and is a function too. `play_into` and `best_into` write to a buffer of the caller's and allocate nothing. [`raw`] has the calls with plain
 //! numbers, as in C. A [`Sheet`] can be read back: its tick, effects, bids and constraints, as the builder takes them.
@@ -71,11 +87,13 @@ pub const VERSION: &str = env!("CARGO_PKG_VERSION");
 
 mod calls;
 mod page;
+mod part;
 pub mod raw;
 mod refusal;
 mod sheet;
 
-pub use calls::{best_into, best_page, check, gain, is_downward, play, play_into};
+pub use calls::{best_into, best_page, check, gain, is_downward, owner_part, play, play_into};
 pub use page::{BestPage, Page, Placement};
+pub use part::OwnerPart;
 pub use refusal::Refusal;
 pub use sheet::{Bidder, Constraint, Kind, Sheet, SheetBuilder, Slot};

@@ -1,4 +1,4 @@
-//! The five calls with plain numbers, as the C header has them, over slices.
+//! The six calls with plain numbers, as the C header has them, over slices.
 //!
 //! Each returns 0, or the number of the first rule that the call breaks, by which [`Refusal`](crate::Refusal) names it; then everything
 //! lent stays as it was. This is the only module with `unsafe` in it.
@@ -21,10 +21,11 @@ mod library {
             gain: *mut i64,
         ) -> u32;
         pub fn pas_best(sheet: *const u8, sheet_len: usize, result: *mut u8, result_len: usize, total: *mut u64) -> u32;
+        pub fn pas_owner_part(sheet: *const u8, sheet_len: usize, bidder: u32, start: *mut usize, length: *mut usize) -> u32;
     }
 }
 
-/// Checks a sheet: 1 to 13, 26 or 27, or 0 for an accepted one.
+/// Checks a sheet: 1 to 13 or 26 to 28, or 0 for an accepted one.
 pub fn check(sheet: &[u8]) -> u32 {
     // SAFETY: a slice's pointer is not null and good for its length; the library only reads it.
     unsafe { library::pas_check(sheet.as_ptr(), sheet.len()) }
@@ -53,4 +54,10 @@ pub fn gain(played: &[u8], truth: &[u8], bidder: u32, worth: u32, gain: &mut i64
 pub fn best(sheet: &[u8], result: &mut [u8], total: &mut u64) -> u32 {
     // SAFETY: both slices are good for their lengths, and a `&mut` slice and a `&mut` number, which is aligned, overlap nothing else.
     unsafe { library::pas_best(sheet.as_ptr(), sheet.len(), result.as_mut_ptr(), result.len(), total) }
+}
+
+/// Gives where a bidder's constraints stand in a sheet of version 2: how many bytes of the sheet stand before their part, and how many it has.
+pub fn owner_part(sheet: &[u8], bidder: u32, start: &mut usize, length: &mut usize) -> u32 {
+    // SAFETY: the slice, which is only read, is good for its length, and both numbers are aligned and lent to this call alone.
+    unsafe { library::pas_owner_part(sheet.as_ptr(), sheet.len(), bidder, start, length) }
 }

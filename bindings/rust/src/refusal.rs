@@ -3,8 +3,8 @@
 use std::error::Error;
 use std::fmt;
 
-/// The rule that a refused call breaks, the first in checking order: by number, but that 26 comes after 6 and 27 after 9. A refused call
-/// alters nothing that was lent to it. A later version may have more of them.
+/// The rule that a refused call breaks, the first in checking order: by number, but that 26 comes after 6, 27 after 9, 28 after 13 and 29
+/// before 16. A refused call alters nothing that was lent to it. A later version may have more of them.
 ///
 /// [`Display`](fmt::Display) gives the header's sentence, which says n for the number of bidders, m for that of slots ("places") and c
 /// for that of constraints ("conditions").
@@ -38,7 +38,7 @@ pub enum Refusal {
     HalfAnOther,
     /// 13: a constraint names nothing but its owner.
     EmptyConstraint,
-    /// 14: the truth sheet breaks any of 1 to 13, 26 and 27.
+    /// 14: the truth sheet breaks any of 1 to 13 and 26 to 28.
     TruthRefused,
     /// 15: the truth sheet has another number of bidders or slots.
     TruthDiffers,
@@ -54,10 +54,14 @@ pub enum Refusal {
     WrongTick = 26,
     /// 27: a bid is no multiple of the tick.
     BidOffTick,
+    /// 28: a constraint of version 2 is not above the one before it, in the order of owner, own slot, other bidder, other's slot.
+    OutOfOrder,
+    /// 29: a bidder's part is asked of a sheet of version 1, whose constraints may come in any order.
+    UnorderedVersion,
 }
 
 /// Every refusal, in the order of the numbers.
-const ALL: [Refusal; 21] = [
+const ALL: [Refusal; 23] = [
     Refusal::SheetTooShort,
     Refusal::WrongMark,
     Refusal::WrongVersion,
@@ -79,10 +83,12 @@ const ALL: [Refusal; 21] = [
     Refusal::ResultTooShort,
     Refusal::WrongTick,
     Refusal::BidOffTick,
+    Refusal::OutOfOrder,
+    Refusal::UnorderedVersion,
 ];
 
 impl Refusal {
-    /// The number, 1 to 19, 26 or 27, by which C has it.
+    /// The number, 1 to 19 or 26 to 29, by which C has it.
     pub fn number(self) -> u32 {
         self as u32
     }
@@ -108,7 +114,7 @@ impl Refusal {
             Refusal::OtherIsOwner => "A condition's other bidder is its owner.",
             Refusal::HalfAnOther => "Just one of other bidder and other's place is 0.",
             Refusal::EmptyConstraint => "Own place, other bidder and other's place are all 0.",
-            Refusal::TruthRefused => "The truth sheet breaks any of 1 to 13, 26 and 27.",
+            Refusal::TruthRefused => "The truth sheet breaks any of 1 to 13 and 26 to 28.",
             Refusal::TruthDiffers => "The truth sheet has another n or m.",
             Refusal::WrongBidder => "The bidder named in the call is 0 or above n.",
             Refusal::WrongWorth => "The worth is above 1,000,000,000.",
@@ -116,6 +122,8 @@ impl Refusal {
             Refusal::ResultTooShort => "The result buffer is shorter than the bytes to be written.",
             Refusal::WrongTick => "The tick is 0 or above 1,000,000,000.",
             Refusal::BidOffTick => "A bid is no multiple of the tick.",
+            Refusal::OutOfOrder => "A condition of version 2 is not above the one before it.",
+            Refusal::UnorderedVersion => "A bidder's part is asked of a sheet of version 1.",
         }
     }
 

@@ -2,6 +2,7 @@
 
 use crate::calls;
 use crate::page::{BestPage, Page};
+use crate::part::OwnerPart;
 use crate::Refusal;
 
 /// A bidder by its number, counted from 1 in the order of the bids.
@@ -56,7 +57,7 @@ impl Constraint {
     }
 
     /// The constraint of four bytes that the library has accepted: other bidder and other's slot are both 0, or neither is.
-    fn from_bytes([owner, own, other, slot]: [u8; 4]) -> Constraint {
+    pub(crate) fn from_bytes([owner, own, other, slot]: [u8; 4]) -> Constraint {
         let kind = match (own, other) {
             (_, 0) => Kind::OwnSlot(Slot(own)),
             (0, _) => Kind::OtherSlot { other: Bidder(other), slot: Slot(slot) },
@@ -79,7 +80,7 @@ pub struct Sheet {
 }
 
 impl Sheet {
-    /// Copies the bytes if the library accepts them; refused with 1 to 13, 26 or 27.
+    /// Copies the bytes if the library accepts them; refused with 1 to 13 or 26 to 28.
     pub fn from_bytes(bytes: &[u8]) -> Result<Sheet, Refusal> {
         calls::check(bytes)?;
         Ok(Sheet { bytes: bytes.to_vec() })
@@ -134,11 +135,18 @@ impl Sheet {
         self.fields(self.slots() + self.bidders(), self.constraints()).map(Constraint::from_bytes).collect()
     }
 
-    /// The list of a bidder: the constraints that it owns, in sheet order. It is empty for a bidder that is not in the sheet.
+    /// The list of a bidder: the constraints that it owns, in sheet order. It is empty for a bidder that is not in the sheet. All constraints
+    /// are looked at, in either version; of a sheet of version 2 [`owner_part`](Sheet::owner_part) finds the list where it stands.
     pub fn list_of(&self, bidder: Bidder) -> Vec<Constraint> {
         let mut list = self.all_constraints();
         list.retain(|constraint| constraint.owner == bidder);
         list
+    }
+
+    /// The part of a sheet of version 2 with the constraints of one bidder; see [`owner_part`](crate::owner_part). Refused with 29 for a sheet of
+    /// version 1, or with 16.
+    pub fn owner_part(&self, bidder: Bidder) -> Result<OwnerPart<'_>, Refusal> {
+        calls::owner_part(&self.bytes, bidder)
     }
 
     /// So many of the sheet's fields of four bytes, after those that are skipped.
@@ -187,6 +195,9 @@ impl AsRef<[u8]> for Sheet {
 }
 
 /// Collects the parts of a sheet in any order. It judges nothing: [`build`](SheetBuilder::build) asks the library.
+///
+/// Constraints may be given in any order and more than once. With a tick, in version 2, they are a set: each is written once, in the order of
+/// owner, own slot, other bidder, other's slot. In version 1 they are written as they came.
 #[derive(Clone, Debug, Default)]
 pub struct SheetBuilder {
     tick: Option<u32>,
@@ -201,8 +212,8 @@ impl SheetBuilder {
         SheetBuilder::default()
     }
 
-    /// Sets the tick, of which each bid must be a multiple; the sheet is then of version 2. Without one it is of version 1, which means a tick
-    /// of 1.
+    /// Sets the tick, of which each bid must be a multiple; the sheet is then of version 2, and its constraints are put in order. Without one it
+    /// is of version 1, which means a tick of 1.
     pub fn tick(mut self, tick: u32) -> SheetBuilder {
         self.tick = Some(tick);
         self
@@ -242,18 +253,29 @@ impl SheetBuilder {
     /// The sheet's bytes, not checked. A count that is too large for its field is written as the field's largest number, which is above
     /// the limit of the count, so that the library refuses it with the count's own number.
     pub fn bytes(&self) -> Vec<u8> {
-        let mut bytes = Vec::with_capacity(HEADER + TICK + 4 * (self.effects.len() + self.bids.len() + self.constraints.len()));
+        let constraints = self.written_constraints();
+        let mut bytes = Vec::with_capacity(HEADER + TICK + 4 * (self.effects.len() + self.bids.len() + constraints.len()));
         bytes.extend(b"PAS");
         let version: u16 = if self.tick.is_some() { 2 } else { 1 };
         bytes.extend(version.to_le_bytes());
         bytes.push(u8::try_from(self.bids.len()).unwrap_or(u8::MAX));
         bytes.push(u8::try_from(self.effects.len()).unwrap_or(u8::MAX));
-        let constraints = u16::try_from(self.constraints.len()).unwrap_or(u16::MAX);
-        bytes.extend(constraints.to_le_bytes());
+        let count = u16::try_from(constraints.len()).unwrap_or(u16::MAX);
+        bytes.extend(count.to_le_bytes());
         bytes.extend(self.tick.iter().flat_map(|tick| tick.to_le_bytes()));
         bytes.extend(self.effects.iter().flat_map(|effect| effect.to_le_bytes()));
         bytes.extend(self.bids.iter().flat_map(|bid| bid.to_le_bytes()));
-        bytes.extend(self.constraints.iter().flat_map(|constraint| constraint.bytes()));
+        bytes.extend(constraints.iter().flatten());
         bytes
+    }
+
+    /// The constraints as the sheet has them: as they came in version 1; in order, each once, in version 2.
+    fn written_constraints(&self) -> Vec<[u8; 4]> {
+        let mut written: Vec<[u8; 4]> = self.constraints.iter().map(|constraint| constraint.bytes()).collect();
+        if self.tick.is_some() {
+            written.sort_unstable();
+            written.dedup();
+        }
+        written
     }
 }

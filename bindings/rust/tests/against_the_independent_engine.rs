@@ -1,7 +1,7 @@
 //! The library and the independent engine must agree on every byte: numbers, answers, buffers with what lies behind the result, on
 //! good sheets and on damaged ones. The seeds are fixed, so that a failure comes back.
 
-use independent::random::{in_ticks, round, tick, Manner, Random, Size};
+use independent::random::{disordered, in_ticks, round, tick, Manner, Random, Size};
 use independent::{engine, slow};
 use pas::raw;
 use std::collections::BTreeSet;
@@ -62,9 +62,14 @@ fn write_a_word(random: &mut Random, sheet: &mut [u8]) {
     }
 }
 
-/// A sheet that is good two times in three, else damaged once or twice.
+/// A sheet that is good more than every other time: its constraints are in disorder one time in eight, which version 1 allows, and it is
+/// damaged one time in three, once or twice.
 fn random_sheet(random: &mut Random, most: Size) -> Vec<u8> {
-    let mut sheet = slow::sheet(&random_round(random, most));
+    let mut round = random_round(random, most);
+    if random.once_in(8) {
+        round = disordered(random, round);
+    }
+    let mut sheet = slow::sheet(&round);
     if random.once_in(3) {
         damage(random, &mut sheet);
         if random.once_in(2) && !sheet.is_empty() {
@@ -118,7 +123,7 @@ impl Seen {
 
     /// All numbers of a check have come up, and these of the call.
     fn all_of_a_sheet_and(&self, of_the_call: impl IntoIterator<Item = u32>) {
-        for number in (0..=13).chain([26, 27]).chain(of_the_call) {
+        for number in (0..=13).chain(26..=28).chain(of_the_call) {
             assert!(self.0.contains(&number), "no random call was answered {number}");
         }
     }
@@ -184,16 +189,18 @@ fn truth_of(random: &mut Random, played: &slow::Round) -> Vec<u8> {
     let size = Size { bidders: played.bids.len(), slots: played.effects.len(), constraints: random.between(0, 40) };
     let mut truth = played.clone();
     truth.constraints = round(random, size, Manner::Mixed, 1, 1).constraints;
-    if random.once_in(3) {
-        truth = in_ticks(truth, tick(random));
+    let tick = if random.once_in(3) { tick(random) } else { played.tick };
+    truth = in_ticks(truth, tick);
+    match random.between(0, 6) {
+        0 => {
+            let mut sheet = slow::sheet(&truth);
+            damage(random, &mut sheet);
+            sheet
+        }
+        1 => random_sheet(random, SMALL),
+        2 => slow::sheet(&disordered(random, truth)),
+        _ => slow::sheet(&truth),
     }
-    let mut sheet = slow::sheet(&truth);
-    match random.between(0, 5) {
-        0 => damage(random, &mut sheet),
-        1 => return random_sheet(random, SMALL),
-        _ => (),
-    }
-    sheet
 }
 
 #[test]
@@ -242,6 +249,29 @@ fn both_find_the_same_best_page() {
 }
 
 #[test]
+fn both_find_every_owners_part() {
+    let (mut random, mut seen, mut parts) = (Random::seeded(7), Seen::default(), [0; 3]);
+    for _ in 0..20_000 {
+        let most = random.one_of(&[WHOLE, SMALL, Size { bidders: 20, slots: 3, constraints: 12 }]);
+        let sheet = random_sheet(&mut random, most);
+        let bidders = u32::from(*sheet.get(5).unwrap_or(&1)).min(65);
+        for bidder in (0..=bidders + 1).chain([bidder_number(&mut random, &sheet)]) {
+            let (mut ours, mut theirs) = ((77, 78), (77, 78));
+            let number = engine::owner_part(&sheet, bidder, &mut theirs.0, &mut theirs.1);
+            assert_eq!(raw::owner_part(&sheet, bidder, &mut ours.0, &mut ours.1), number, "{sheet:?}, {bidder}");
+            assert_eq!(ours, theirs, "{sheet:?}, {bidder}");
+            match number {
+                0 => parts[usize::from(ours.1 == 0) + usize::from(ours.0 == sheet.len())] += 1,
+                _ => assert_eq!(ours, (77, 78), "a refused call altered something lent"),
+            }
+            seen.add(number);
+        }
+    }
+    seen.all_of_a_sheet_and([16, 29]);
+    assert!(parts.iter().all(|&times| times > 1000), "parts, empty ones and empty ones at the end come up: {parts:?}");
+}
+
+#[test]
 fn the_library_keeps_to_the_document_tried_word_by_word() {
     let mut random = Random::seeded(6);
     for _ in 0..3_000 {
@@ -262,6 +292,9 @@ fn the_library_keeps_to_the_document_tried_word_by_word() {
         for bidder in 1..=size.bidders as u8 {
             assert_eq!(sheet.is_downward(pas::Bidder(bidder)), Ok(slow::is_downward(&round, bidder)), "{round:?}");
             assert_eq!(sheet.gain(&sheet, pas::Bidder(bidder), 9), Ok(slow::gain(&round, &round, bidder, 9)), "{round:?}");
+            let part = sheet.owner_part(pas::Bidder(bidder)).map(|part| (part.start(), part.as_bytes().len()));
+            let expected = tick.map(|_| slow::owner_part(&round, bidder)).ok_or(pas::Refusal::UnorderedVersion);
+            assert_eq!(part, expected, "{round:?}");
         }
     }
 }

@@ -38,6 +38,36 @@ fn each_kind_of_constraint_is_written_in_four_bytes() {
     assert_eq!(bytes[9..], [1, 3, 0, 0, 1, 0, 2, 1, 1, 2, 4, 5]);
 }
 
+/// Six constraints of two owners, one of them three times, another in two forms of the same bytes.
+fn with_repeats() -> SheetBuilder {
+    let own = |owner, slot| Constraint { owner: Bidder(owner), kind: Kind::OwnSlot(Slot(slot)) };
+    let on_other = Constraint { owner: Bidder(1), kind: Kind::OtherSlot { other: Bidder(2), slot: Slot(2) } };
+    let same_bytes = Constraint { owner: Bidder(1), kind: Kind::Pair { own: Slot(0), other: Bidder(2), slot: Slot(2) } };
+    let given = [own(2, 1), on_other, own(2, 1), own(1, 2), same_bytes, own(2, 1)];
+    SheetBuilder::new().effects([1, 1]).bids([4, 4]).constraints(given)
+}
+
+#[test]
+fn in_version_2_constraints_are_written_in_order_and_once() {
+    let sheet = with_repeats().tick(4).build().expect("a set in order");
+    assert_eq!(sheet.as_bytes()[29..], [1, 0, 2, 2, 1, 2, 0, 0, 2, 1, 0, 0]);
+    assert_eq!(sheet.constraints(), 3);
+}
+
+#[test]
+fn in_version_1_constraints_are_written_as_they_came() {
+    let sheet = with_repeats().build().expect("any order");
+    assert_eq!(sheet.as_bytes()[25..], [2, 1, 0, 0, 1, 0, 2, 2, 2, 1, 0, 0, 1, 2, 0, 0, 1, 0, 2, 2, 2, 1, 0, 0]);
+    assert_eq!(sheet.constraints(), 6);
+}
+
+#[test]
+fn in_version_2_a_repeat_does_not_count_against_the_limit() {
+    let repeats = |owner, times| vec![Constraint { owner: Bidder(owner), kind: Kind::OwnSlot(Slot(1)) }; times];
+    let sheet = SheetBuilder::new().tick(1).effects([1]).bids([1, 1]).constraints(repeats(2, 1024)).constraints(repeats(1, 70_000));
+    assert_eq!(sheet.build().expect("two constraints").constraints(), 2);
+}
+
 #[test]
 fn an_empty_builder_is_refused_for_its_bidders() {
     assert_eq!(SheetBuilder::new().build(), Err(Refusal::WrongBidders));
@@ -71,12 +101,13 @@ fn the_first_count_that_is_wrong_gives_the_number() {
 #[test]
 fn every_refusal_has_its_number_and_its_sentence() {
     let all: Vec<Refusal> = (0..=300).filter_map(Refusal::from_number).collect();
-    assert_eq!(all.iter().map(|refusal| refusal.number()).collect::<Vec<_>>(), (1..=19).chain([26, 27]).collect::<Vec<_>>());
+    assert_eq!(all.iter().map(|refusal| refusal.number()).collect::<Vec<_>>(), (1..=19).chain(26..=29).collect::<Vec<_>>());
     assert_eq!(Refusal::from_number(u32::MAX), None);
     assert_eq!(all[0].to_string(), "The sheet has fewer than 9 bytes, or fewer than 13 in version 2.");
     assert_eq!(all[12].to_string(), "Own place, other bidder and other's place are all 0.");
     assert_eq!(all[18].to_string(), "The result buffer is shorter than the bytes to be written.");
     assert_eq!(all[20].to_string(), "A bid is no multiple of the tick.");
+    assert_eq!(all[22].to_string(), "A bidder's part is asked of a sheet of version 1.");
 }
 
 #[test]

@@ -54,9 +54,10 @@ fn number(name: &str) -> usize {
 
 #[test]
 fn the_headers_sizes_are_those_of_the_longest_sheets() {
-    let constraint = Constraint { owner: Bidder(1), kind: Kind::OwnSlot(Slot(1)) };
     let (bidders, slots, constraints) = (number("PAS_MAX_BIDDERS"), number("PAS_MAX_PLACES"), number("PAS_MAX_CONDITIONS"));
-    let sheet = SheetBuilder::new().bids(vec![0; bidders]).effects(vec![1; slots]).constraints(vec![constraint; constraints]);
+    let own = |owner: usize, slot: usize| Constraint { owner: Bidder(owner as u8), kind: Kind::OwnSlot(Slot(slot as u8)) };
+    let different = (0..constraints).map(|at| own(at / slots + 1, at % slots + 1));
+    let sheet = SheetBuilder::new().bids(vec![0; bidders]).effects(vec![1; slots]).constraints(different);
     let length = |sheet: SheetBuilder| sheet.build().expect("the header's sizes are accepted").as_bytes().len();
     let (without, with) = (length(sheet.clone()), length(sheet.tick(number("PAS_MAX_TICK") as u32)));
     assert_eq!(without, number("PAS_HEADER_LENGTH") + 4 * (slots + bidders + constraints));
@@ -67,7 +68,7 @@ fn the_headers_sizes_are_those_of_the_longest_sheets() {
 #[test]
 fn each_refusal_has_the_number_the_name_and_the_sentence_of_the_header() {
     let entries: Vec<Entry> = HEADER.lines().filter_map(entry).collect();
-    let in_checking_order = (0..=6).chain([26]).chain(7..=9).chain([27]).chain(10..=19);
+    let in_checking_order = (0..=6).chain([26]).chain(7..=9).chain([27]).chain(10..=13).chain([28, 14, 15, 29]).chain(16..=19);
     assert_eq!(entries.iter().map(|entry| entry.number).collect::<Vec<_>>(), in_checking_order.collect::<Vec<_>>());
     for Entry { name, number, sentence } in entries.into_iter().skip(1) {
         let refusal = Refusal::from_number(number).expect("a refusal has this number");

@@ -38,8 +38,9 @@ fn no_downward_list_gains_more_than_the_honest_one() {
         let mut told = round(&mut random, size, Manner::Mixed, 9, 9);
         told.constraints.retain(|of| of[0] == bidder);
         told.constraints.extend(honest.constraints.iter().filter(|of| of[0] != bidder));
-        let mut told = slow::Round { tick: same_tick(&mut random, tick), constraints: told.constraints, ..honest.clone() };
+        let mut told = slow::Round { constraints: told.constraints, ..honest.clone() };
         made_downward(&mut told, bidder);
+        let told = in_ticks(told, same_tick(&mut random, tick));
         let (honest, told, bid) = (sheet(&honest), sheet(&told), honest.bids[usize::from(bidder) - 1]);
         assert_eq!(told.is_downward(Bidder(bidder)), Ok(true));
         let worth = (bid + random.between(0, 2 * step as usize + 3) as u32).min(1_000_000_000);

@@ -1,4 +1,5 @@
 //! An accepted sheet can be read back, and a builder that is given what was read builds the same bytes.
+//! In version 2 the constraints come back in order.
 
 use independent::random::{in_ticks, round, tick, Manner, Random, Size};
 use independent::slow;
@@ -38,12 +39,14 @@ fn small_sheet() -> Sheet {
 #[test]
 fn what_was_built_is_read_back() {
     let with_tick = small_round().tick(4).build().expect("multiples of 4");
-    for (sheet, version, tick) in [(small_sheet(), 1, 1), (with_tick, 2, 4)] {
+    let [first, second, third] = one_of_each_kind();
+    let (as_they_came, in_order) = ([first, second, third], [second, first, third]);
+    for (sheet, version, tick, constraints) in [(small_sheet(), 1, 1, as_they_came), (with_tick, 2, 4, in_order)] {
         assert_eq!((sheet.version(), sheet.tick()), (version, tick));
         assert_eq!((sheet.bidders(), sheet.slots(), sheet.constraints()), (3, 2, 3));
         assert_eq!(sheet.effects(), [1_000_000, 258]);
         assert_eq!(sheet.bids(), [1_000_000_000, 0, 66_052]);
-        assert_eq!(sheet.all_constraints(), one_of_each_kind());
+        assert_eq!(sheet.all_constraints(), constraints);
     }
 }
 

@@ -215,7 +215,7 @@ fn the_tick_is_judged_after_the_counts_and_before_the_length() {
     let mut bytes = round(&[0], &[1], &[]).tick(0).bytes();
     bytes.push(0);
     assert_eq!(pas::check(&bytes), Err(Refusal::WrongTick));
-    let over = vec![[1, 1, 0, 0]; 1025];
+    let over: Vec<Written> = (1..=5).flat_map(|owner| (0..=255).map(move |own| [owner, own, 0, 0])).take(1025).collect();
     assert_eq!(round(&[0], &[1], &over).tick(0).build(), Err(Refusal::TooManyConstraints));
 }
 

@@ -1,14 +1,28 @@
--- Two numbers compared, by cases; multiples of one number; numbers of two digits. Assumes nothing.
+-- Two numbers compared, by cases; multiples of one number, and how a multiplication tells them; numbers of two digits. Assumes nothing.
 use Prim.Native.Nat.{ℕ, suc, _+_, _*_, _/_, _%_, _<_, _≤_}
-use borrow.Author.Tests.{ltb-true, ltb-false, lt-ltb, le-ltb, eq-eqb, ne-eqb}
+use borrow.Author.Tests.{eqb-true, ltb-true, ltb-false, lt-ltb, le-ltb, eq-eqb, ne-eqb}
 use mathlib.Core.Bool.{true, false, _&&_, _||_}
 use mathlib.Core.Logic.{_⊎_, inl, inr, ⊎-elim}
-use mathlib.Core.Path.{_≡_, _∙_, ap}
+use mathlib.Core.Path.{_≡_, sym, _∙_, ap}
 use native.Mathlib.Decide.{ℕ-discrete}
-use native.Mathlib.Nat.{div-add-mod, mul-le-mul-left, mul-suc, add-mod-right}
+use native.Mathlib.Nat.{
+  div-add-mod,
+  div-add-mod',
+  div-eq-of-lt-le,
+  lt-mul-div-succ,
+  mul-div-le,
+  mul-mod-left,
+  mul-le-mul-left,
+  mul-suc,
+  suc-mul,
+  mul-add,
+  mul-assoc,
+  add-mod-right,
+}
+use native.Mathlib.Numerals.{add-one}
 use native.Mathlib.Omega.{arith}
 use lib.Dec.{eqb, ltb}
-use Rattle.basis.proofs.TestLaws.{holds-or-fails}
+use Rattle.basis.proofs.TestLaws.{holds-or-fails, same-tests}
 
 -- two numbers are equal or not
 pub same-or-not : (a b : ℕ) → (a ≡ b) ⊎ (a ≡ b → ⊥)
@@ -64,3 +78,29 @@ digits-compared w a x b y low low′ =
     simp (le-ltb a b l, ne-eqb a b h, le-ltb (w * a + x) (w * b + y) (omega arith)))
     (same-or-not a b))
     (below-or-not a b)
+
+-- a multiple of t below w is told by a multiplication: with the share w / t + 1 of w, the product of k times t is k times w and a rest below w
+times-told : (w t x : ℕ) → 0 < w → 0 < t → x < w → x % t ≡ 0 → x * (w / t + 1) / w ≡ x / t
+times-told w t x some ticks low e =
+    let k = x / t in
+    let m = w / t + 1 in
+    let x-is : k * t ≡ x = (let sum = div-add-mod' x t in omega arith) in
+    let product : x * m ≡ k * (t * m) = ap (λ (y : ℕ). y * m) (sym x-is) ∙ mul-assoc k t m in
+    let above : w ≤ t * m = (let h : w < t * m = lt-mul-div-succ w ticks in omega arith) in
+    let below : t * m ≤ w + t = (let share = mul-div-le w t in let sum : t * m ≡ t * (w / t) + t = ap (λ (y : ℕ). t * y) (add-one (w / t)) ∙ mul-suc t (w / t) in omega arith) in
+    let least : k * w ≤ k * (t * m) = mul-le-mul-left k above in
+    let most : k * (t * m) ≤ k * (w + t) = mul-le-mul-left k below in
+    let parts : k * (w + t) ≡ k * w + k * t = mul-add k w t in
+    let next : (k + 1) * w ≡ k * w + w = ap (λ (y : ℕ). y * w) (add-one k) ∙ suc-mul k w in
+    div-eq-of-lt-le w (omega arith) (omega arith)
+
+pub multiple-told : (w t x : ℕ) → 0 < w → 0 < t → x < w → eqb (x * (w / t + 1) / w * t) x ≡ eqb (x % t) 0
+multiple-told w t x some ticks low =
+    same-tests (eqb (x * (w / t + 1) / w * t) x) (eqb (x % t) 0)
+    (λ h.
+    let whole : x * (w / t + 1) / w * t ≡ x = eqb-true (x * (w / t + 1) / w * t) x h in
+    eq-eqb (x % t) 0 (ap (λ (y : ℕ). y % t) (sym whole) ∙ mul-mod-left (x * (w / t + 1) / w) t))
+    (λ h.
+    let none : x % t ≡ 0 = eqb-true (x % t) 0 h in
+    eq-eqb (x * (w / t + 1) / w * t) x
+    (ap (λ (y : ℕ). y * t) (times-told w t x some ticks low none) ∙ (let sum = div-add-mod' x t in omega arith)))

@@ -1,7 +1,7 @@
 // The refusals of the numbers before the constraints, 1 to 9, 26 and 27: each part over the fields that it reads.
 ghost use mathlib.Core.Path.{_≡_};
 ghost use mathlib.Core.Bool.{not, _||_};
-ghost use Prim.Native.Nat.{suc, _+_, _*_, _%_, _<_, _≤_};
+ghost use Prim.Native.Nat.{suc, _+_, _*_, _/_, _%_, _<_, _≤_};
 ghost use lib.Dec.{eqb, ltb};
 ghost use lib.ListN.{length};
 ghost use Rattle.basis.specs.First.{firstOver};
@@ -139,16 +139,27 @@ pub fn bids_refusal(sheet: &[u8], start: usize, bidders: usize) -> u32
     0
 }
 
-// Whether any bid is no multiple of the tick, once more in a pass that no bid ends.
+// Whether a bid is no multiple of the tick. The share is 2^32 cut in as many parts as the tick has units, and 1: a multiple times the share is so many
+// times 2^32 and a rest below that, so one multiplication says how many ticks the bid would be, and another whether it is.
+fn is_off_tick(bid: u32, tick: u32, share: u64) -> bool
+    requires { ⌜ (1 < tick) × (share ≡ 4294967296 / tick + 1) ⌝ }
+    ensures { λ r. ⌜ r ≡ not (eqb (bid % tick) 0) ⌝ }
+{
+    let ticks = (bid as u64) * share / 4294967296;
+    ticks * (tick as u64) != (bid as u64)
+}
+
+// Whether any bid is no multiple of the tick, once more in a pass that no bid ends, with one division for all of them.
 fn any_bid_off_tick(sheet: &[u8], start: usize, bidders: usize, tick: u32) -> bool
-    requires { ⌜ (start ≡ bidsStart (now sheet)) × (start + 4 * bidders ≤ length (now sheet)) × (tick ≡ tickField (now sheet)) × (0 < tick) ⌝ }
+    requires { ⌜ (start ≡ bidsStart (now sheet)) × (start + 4 * bidders ≤ length (now sheet)) × (tick ≡ tickField (now sheet)) × (1 < tick) ⌝ }
     ensures { λ r. ⌜ r ≡ anyBelow (λ i. not (eqb (bidField (now (sheet .entry)) (suc i) % tickField (now (sheet .entry))) 0)) bidders ⌝ }
 {
+    let share = 4294967296 / (tick as u64) + 1;
     let mut found = false;
     let mut tested = 0;
     while tested < bidders {
         let bid = word32(sheet, start + 4 * tested);
-        found = found | (bid % tick != 0);
+        found = found | is_off_tick(bid, tick, share);
         tested += 1;
     }
     found

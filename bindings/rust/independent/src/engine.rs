@@ -1,11 +1,11 @@
-//! The five calls over bytes that nobody has checked, for speed. Each returns 0, or the first number of documents 01 and 02 that applies,
+//! The six calls over bytes that nobody has checked, for speed. Each returns 0, or the first number of documents 01 and 02 that applies,
 //! and then leaves everything lent as it was.
 
 use crate::best::{Search, MOST};
 use crate::fill::fill;
 use crate::read::{accept, constraint, word_at, words, Parts, LARGEST_BID, MOST_BIDDERS, MOST_SLOTS};
 
-/// Rules 1 to 13, 26 and 27.
+/// Rules 1 to 13 and 26 to 28.
 pub fn check(sheet: &[u8]) -> u32 {
     accept(sheet).err().unwrap_or(0)
 }
@@ -107,5 +107,25 @@ pub fn best(sheet: &[u8], result: &mut [u8], total: &mut u64) -> u32 {
     let (page, sum) = Search::of(&parts).best();
     written.copy_from_slice(&page[..parts.slots]);
     *total = sum;
+    0
+}
+
+/// Gives how many bytes of the sheet stand before the part with the bidder's constraints, and how many the part has.
+pub fn owner_part(sheet: &[u8], bidder: u32, start: &mut usize, length: &mut usize) -> u32 {
+    let parts = match accept(sheet) {
+        Ok(parts) => parts,
+        Err(number) => return number,
+    };
+    if !parts.ordered {
+        return 29;
+    }
+    if bidder == 0 || bidder > parts.bidders as u32 {
+        return 16;
+    }
+    let all = parts.constraints.as_chunks::<4>().0;
+    let first = all.partition_point(|of| u32::from(of[0]) < bidder);
+    let owned = all[first..].partition_point(|of| u32::from(of[0]) == bidder);
+    *start = sheet.len() - 4 * (all.len() - first);
+    *length = 4 * owned;
     0
 }

@@ -106,14 +106,34 @@ pub fn tick(random: &mut Random) -> Option<u32> {
     (!random.once_in(3)).then_some(random.one_of(&ticks) as u32)
 }
 
-/// The same round with a tick: each bid is moved to the nearest multiple that a sheet accepts, so that bids stay in their order. Without a
-/// tick it is the round as it was.
+/// The same round with a tick: each bid is moved to the nearest multiple that a sheet accepts, so that bids stay in their order, and the
+/// constraints are put in order, each once. Without a tick it is the round as it was.
 pub fn in_ticks(mut round: Round, tick: Option<u32>) -> Round {
     round.tick = tick;
+    if tick.is_some() {
+        round.constraints.sort_unstable();
+        round.constraints.dedup();
+    }
     let step = tick.unwrap_or(1);
     for bid in &mut round.bids {
         let nearest = (*bid + step / 2) / step;
         *bid = step * nearest.min(LARGEST_BID / step);
+    }
+    round
+}
+
+/// The same round with its constraints in disorder: two that stand in a row are exchanged, or one is repeated, right after itself or
+/// anywhere. Without two constraints it is the round as it was.
+pub fn disordered(random: &mut Random, mut round: Round) -> Round {
+    let all = &mut round.constraints;
+    if all.len() < 2 {
+        return round;
+    }
+    let at = random.between(0, all.len() - 2);
+    match random.between(0, 2) {
+        0 => all.swap(at, at + 1),
+        1 => all[at + 1] = all[at],
+        _ => all[at] = all[random.between(0, all.len() - 1)],
     }
     round
 }

@@ -15,6 +15,8 @@ const TICK_BYTES: usize = 4;
 /// An accepted sheet: its counts, its tick (1 in version 1), and its three lists still in bytes, four to an entry.
 #[derive(Clone, Copy)]
 pub struct Parts<'a> {
+    /// Version 2, where the constraints stand in order.
+    pub ordered: bool,
     pub bidders: usize,
     pub slots: usize,
     pub tick: u32,
@@ -49,7 +51,7 @@ pub fn constraint(word: u32) -> Constraint {
     Constraint { owner, own, other, slot }
 }
 
-/// The parts of a sheet that breaks none of the rules 1 to 13, 26 and 27, or the first number that applies.
+/// The parts of a sheet that breaks none of the rules 1 to 13 and 26 to 28, or the first number that applies.
 pub fn accept(sheet: &[u8]) -> Result<Parts<'_>, u32> {
     let parts = split(sheet)?;
     if !effects_stand(parts.effects) {
@@ -66,6 +68,9 @@ pub fn accept(sheet: &[u8]) -> Result<Parts<'_>, u32> {
     if words(parts.constraints).fold(false, |bad, word| bad | is_bad(word, bidders, slots)) {
         return Err(first_bad(&parts));
     }
+    if parts.ordered && !rise(parts.constraints) {
+        return Err(28);
+    }
     Ok(parts)
 }
 
@@ -75,11 +80,11 @@ fn split(sheet: &[u8]) -> Result<Parts<'_>, u32> {
     if header[..3] != *b"PAS" {
         return Err(2);
     }
-    let (tick, body) = match header[3..5] {
-        [1, 0] => (1, rest),
+    let (ordered, tick, body) = match header[3..5] {
+        [1, 0] => (false, 1, rest),
         [2, 0] => {
             let Some((tick, body)) = rest.split_first_chunk::<TICK_BYTES>() else { return Err(1) };
-            (u32::from_le_bytes(*tick), body)
+            (true, u32::from_le_bytes(*tick), body)
         }
         _ => return Err(3),
     };
@@ -102,7 +107,7 @@ fn split(sheet: &[u8]) -> Result<Parts<'_>, u32> {
     }
     let (effects, rest) = body.split_at(4 * slots);
     let (bids, constraints) = rest.split_at(4 * bidders);
-    Ok(Parts { bidders, slots, tick, effects, bids, constraints })
+    Ok(Parts { ordered, bidders, slots, tick, effects, bids, constraints })
 }
 
 /// Rule 8 holds of every effect.
@@ -130,9 +135,34 @@ fn is_bad(word: u32, bidders: u32, slots: u32) -> bool {
     out_of_range | (other == owner) | ((other == 0) != (slot == 0)) | (word >> 8 == 0)
 }
 
-/// The number of the first constraint that breaks a rule.
+/// Each constraint is above the one before it: "strictly rising order of owner, own place, other bidder, other's place". The first byte of a
+/// word is its lowest, so the bytes are turned round; no good constraint is 0.
+fn rise(constraints: &[u8]) -> bool {
+    let mut before = 0;
+    let mut rise = true;
+    for word in words(constraints) {
+        let rank = word.swap_bytes();
+        rise &= before < rank;
+        before = rank;
+    }
+    rise
+}
+
+/// The number of the first constraint that breaks a rule: 10 to 13 and, where they stand in order, 28.
 fn first_bad(parts: &Parts) -> u32 {
-    words(parts.constraints).map(|word| broken_rule(constraint(word), parts)).find(|&number| number != 0).unwrap_or(0)
+    let mut before = 0;
+    for word in words(parts.constraints) {
+        let number = broken_rule(constraint(word), parts);
+        if number != 0 {
+            return number;
+        }
+        let rank = word.swap_bytes();
+        if parts.ordered && rank <= before {
+            return 28;
+        }
+        before = rank;
+    }
+    0
 }
 
 /// The first of the rules 10 to 13 that a constraint breaks, or 0.

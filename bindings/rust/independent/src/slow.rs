@@ -1,4 +1,4 @@
-//! Document 01 word by word, with the ticks of document 02, by trying everything: the measure for `engine`, which is quick and so needs one.
+//! Document 01 word by word, with the ticks and the owner order of document 02, by trying everything: the measure for `engine`, which is quick and so needs one.
 //!
 //! Rounds must be small: a price is found by replaying the round with bid 0, one tick, two ticks and so on, and the best page by going
 //! through every page.
@@ -19,6 +19,24 @@ pub struct Round {
     pub bids: Vec<u32>,
     /// In sheet order.
     pub constraints: Vec<Constraint>,
+}
+
+/// "In strictly rising order of owner, own place, other bidder, other's place": every constraint is above all that stand before it.
+pub fn is_in_order(round: &Round) -> bool {
+    let all = &round.constraints;
+    (0..all.len()).all(|at| all[..at].iter().all(|before| before < &all[at]))
+}
+
+/// "The part of the sheet with one bidder's conditions, which is empty if it has none and then stands just before the first higher owner's, or at
+/// the sheet's end": where it starts and how long it is.
+pub fn owner_part(round: &Round, bidder: u8) -> (usize, usize) {
+    let sheet = sheet(round);
+    let all = &round.constraints;
+    let at = |position: usize| sheet.len() - 4 * (all.len() - position);
+    let owned = all.iter().filter(|of| of[0] == bidder).count();
+    let first = all.iter().position(|of| of[0] == bidder);
+    let higher = all.iter().position(|of| of[0] > bidder);
+    (first.or(higher).map_or(sheet.len(), at), 4 * owned)
 }
 
 /// The bidder of each slot, 0 for none.

@@ -1,6 +1,6 @@
 //! The quick engine against the document tried word by word, on rounds small enough for that.
 
-use independent::random::{in_ticks, round, tick, Manner, Random, Size};
+use independent::random::{disordered, in_ticks, round, tick, Manner, Random, Size};
 use independent::{engine, slow};
 
 const MANNERS: [Manner; 6] = [Manner::Mixed, Manner::Pairs, Manner::OwnSlots, Manner::Exclusions, Manner::Chain, Manner::Ties];
@@ -67,4 +67,34 @@ fn gains_are_those_of_replayed_rounds() {
         assert_eq!(engine::gain(&slow::sheet(&played), &slow::sheet(&truth), u32::from(bidder), worth, &mut gain), 0);
         assert_eq!(gain, slow::gain(&played, &truth, bidder, worth), "{played:?}, {truth:?}, {bidder}");
     }
+}
+
+#[test]
+fn an_order_is_judged_by_the_definition() {
+    let (mut random, mut numbers) = (Random::seeded(15), [0; 2]);
+    for _ in 0..20_000 {
+        let round = small_round(&mut random);
+        let round = disordered(&mut random, round);
+        let refused = round.tick.is_some() && !slow::is_in_order(&round);
+        assert_eq!(engine::check(&slow::sheet(&round)), if refused { 28 } else { 0 }, "{round:?}");
+        numbers[usize::from(refused)] += 1;
+    }
+    assert!(numbers[0] > 1000 && numbers[1] > 1000, "both come up: {numbers:?}");
+}
+
+#[test]
+fn parts_are_those_that_a_walk_through_the_sheet_finds() {
+    let (mut random, mut empty) = (Random::seeded(16), [0; 2]);
+    for _ in 0..10_000 {
+        let round = small_round(&mut random);
+        let sheet = slow::sheet(&round);
+        for bidder in 1..=round.bids.len() as u8 {
+            let (mut start, mut length) = (7, 7);
+            let number = engine::owner_part(&sheet, u32::from(bidder), &mut start, &mut length);
+            let expected = if round.tick.is_none() { (29, (7, 7)) } else { (0, slow::owner_part(&round, bidder)) };
+            assert_eq!((number, (start, length)), expected, "{round:?}, {bidder}");
+            empty[usize::from(number == 0 && length == 0)] += 1;
+        }
+    }
+    assert!(empty[0] > 1000 && empty[1] > 1000, "empty ones come up too: {empty:?}");
 }
