@@ -19,13 +19,69 @@ pub const REPEATS: u32 = 4;
 
 pub const MIXED: u32 = 5;
 
-// One constraint more, unless the sheet is full.
+// One constraint more, unless the sheet is full: in version 1 after the others, in version 2 where the order has it, and there never twice.
 pub fn add(buf: &mut [u8], owner: u32, own: u32, other: u32, others: u32) {
     let count = parts::constraints(buf);
     if count < MAX_CONSTRAINTS {
         parts::set_fields(buf, count, owner, own, other, others);
-        parts::set_half(buf, parts::CONSTRAINTS, count + 1);
+        keep(buf, count);
     }
+}
+
+// The four bytes of a constraint as one number, the owner's first: "strictly rising order of owner, own place, other bidder, other's place".
+pub fn rank(buf: &[u8], constraint: u32) -> u32 {
+    let at = parts::constraint_at(buf, constraint);
+    let upper = 256 * parts::byte(buf, at) + parts::byte(buf, at + 1);
+    let lower = 256 * parts::byte(buf, at + 2) + parts::byte(buf, at + 3);
+    65536 * upper + lower
+}
+
+// Where a constraint that stands after the others belongs: in version 1 there, in version 2 after those that are not above it.
+fn place(buf: &[u8], constraint: u32) -> u32 {
+    if parts::version(buf) != parts::TICK_VERSION {
+        return constraint;
+    }
+    let own = rank(buf, constraint);
+    let mut left = constraint;
+    while 0 < left {
+        if rank(buf, left - 1) <= own {
+            return left;
+        }
+        left -= 1;
+    }
+    0
+}
+
+// Whether version 2 has the same constraint before the place already.
+fn is_repeat(buf: &[u8], constraint: u32, to: u32) -> bool {
+    if parts::version(buf) != parts::TICK_VERSION {
+        return false;
+    }
+    if to == 0 {
+        return false;
+    }
+    rank(buf, to - 1) == rank(buf, constraint)
+}
+
+// Moves a constraint to an earlier place, and each one from there on by one.
+fn move_down(buf: &mut [u8], constraint: u32, to: u32) {
+    let mut left = constraint;
+    while to < left {
+        swap(buf, left - 1, left);
+        left -= 1;
+    }
+}
+
+// Counts the constraint that stands after the others, at its place.
+fn keep(buf: &mut [u8], count: u32)
+    requires { ⌜ count < 1024 ⌝ }
+{
+    let to = place(buf, count);
+    if is_repeat(buf, count, to) {
+        return;
+    }
+    move_down(buf, count, to);
+    parts::set_half(buf, parts::CONSTRAINTS, count + 1);
 }
 
 // A number from 1 to `count`, 0 where that is 0.
@@ -153,6 +209,29 @@ fn repeat(buf: &mut [u8], constraint: u32) {
     add(buf, owner, own, other, others);
 }
 
+// A constraint of another sheet.
+pub fn copy(from: &[u8], to: &mut [u8], constraint: u32) {
+    let owner = parts::field(from, constraint, 0);
+    let own = parts::field(from, constraint, 1);
+    let other = parts::field(from, constraint, 2);
+    let others = parts::field(from, constraint, 3);
+    add(to, owner, own, other, others);
+}
+
+// The constraints of another sheet in place of the sheet's own: in their order, or in the order that the version asks for.
+pub fn copy_all(from: &[u8], to: &mut [u8]) {
+    let count = parts::constraints(from);
+    parts::set_half(to, parts::CONSTRAINTS, 0);
+    let mut left = count;
+    while 0 < left {
+        if count < left {
+            return;
+        }
+        copy(from, to, count - left);
+        left -= 1;
+    }
+}
+
 // A constraint that the sheet has already, or a first one.
 pub fn add_again(state: &mut u64, buf: &mut [u8], owner: u32) {
     let count = parts::constraints(buf);
@@ -206,7 +285,7 @@ fn kind_of(state: &mut u64, lists: u32) -> u32 {
     drawn
 }
 
-fn swap(buf: &mut [u8], first: u32, second: u32) {
+pub fn swap(buf: &mut [u8], first: u32, second: u32) {
     let at = parts::constraint_at(buf, first);
     let to = parts::constraint_at(buf, second);
     let kept = parts::word(buf, at);
@@ -225,6 +304,13 @@ pub fn shuffle(state: &mut u64, buf: &mut [u8]) {
     }
 }
 
+// A random order where the version leaves it free.
+pub fn shuffle_free(state: &mut u64, buf: &mut [u8]) {
+    if parts::version(buf) != parts::TICK_VERSION {
+        shuffle(state, buf);
+    }
+}
+
 // Other lists in place of the sheet's own, and its new length.
 pub fn relist(state: &mut u64, buf: &mut [u8], aim: u32) -> usize
     ensures { λ r. ⌜ r < 34359738368 ⌝ }
@@ -232,6 +318,6 @@ pub fn relist(state: &mut u64, buf: &mut [u8], aim: u32) -> usize
     parts::set_half(buf, parts::CONSTRAINTS, 0);
     let lists = number::up_to(state, MIXED);
     add_lists(state, buf, lists, aim);
-    shuffle(state, buf);
+    shuffle_free(state, buf);
     parts::length(buf)
 }

@@ -107,7 +107,20 @@ pub fn steps_above_one(state: &mut u64) -> Steps
     }
 }
 
-// Version 1 once in two times; in version 2 a tick of 1 once in four.
+// Version 2 with any tick, 1 once in four times.
+pub fn steps_in_ticks(state: &mut u64) -> Steps
+    ensures { λ r. ⌜ 0 < r .tick ⌝ }
+{
+    if number::once_in(state, 4) {
+        return Steps {
+            version: parts::TICK_VERSION,
+            tick: 1,
+        };
+    }
+    steps_above_one(state)
+}
+
+// Version 1 once in two times.
 pub fn any_steps(state: &mut u64) -> Steps
     ensures { λ r. ⌜ 0 < r .tick ⌝ }
 {
@@ -117,13 +130,7 @@ pub fn any_steps(state: &mut u64) -> Steps
             tick: 1,
         };
     }
-    if number::once_in(state, 4) {
-        return Steps {
-            version: parts::TICK_VERSION,
-            tick: 1,
-        };
-    }
-    steps_above_one(state)
+    steps_in_ticks(state)
 }
 
 // The largest effect, and the most by which the next one is lower.
@@ -276,7 +283,7 @@ fn set_lists(state: &mut u64, shape: u32, buf: &mut [u8]) {
     let count = aim(state, shape);
     lists::add_lists(state, buf, kind, count);
     if number::once_in(state, 2) {
-        lists::shuffle(state, buf);
+        lists::shuffle_free(state, buf);
     }
 }
 
@@ -295,7 +302,8 @@ pub fn make(state: &mut u64, shape: u32, buf: &mut [u8]) -> usize
     parts::length(buf)
 }
 
-// Another version or tick in place of the right sheet's own, with other bids, and its new length.
+// Another version or tick in place of the right sheet's own, with other bids and with its conditions as the version wants them, and its new
+// length.
 pub fn retick(state: &mut u64, buf: &mut [u8], steps: Steps) -> usize
     requires { ⌜ 0 < steps .tick ⌝ }
     ensures { λ r. ⌜ r < 34359738368 ⌝ }
@@ -304,7 +312,8 @@ pub fn retick(state: &mut u64, buf: &mut [u8], steps: Steps) -> usize
     let kept: &mut [u8] = &mut space;
     let tick = steps.tick;
     parts::copy(buf, kept, parts::length(buf));
-    let bytes = parts::rewrite(kept, buf, steps.version, tick);
+    parts::rewrite(kept, buf, steps.version, tick);
+    lists::copy_all(kept, buf);
     set_bids_of(state, SMALL, buf, tick);
-    bytes
+    parts::length(buf)
 }

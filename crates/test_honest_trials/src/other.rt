@@ -21,22 +21,14 @@ fn copy_front(state: &mut u64, honest: &[u8], other: &mut [u8]) {
     parts::set_half(other, parts::CONSTRAINTS, 0);
 }
 
-fn copy_constraint(honest: &[u8], other: &mut [u8], constraint: u32) {
-    let owner = parts::field(honest, constraint, 0);
-    let own = parts::field(honest, constraint, 1);
-    let second = parts::field(honest, constraint, 2);
-    let others = parts::field(honest, constraint, 3);
-    lists::add(other, owner, own, second, others);
-}
-
-// A constraint of another bidder, at times twice.
+// A constraint of another bidder, at times twice in version 1.
 fn copy_of_another(state: &mut u64, honest: &[u8], other: &mut [u8], bidder: u32, constraint: u32) {
     if parts::field(honest, constraint, 0) == bidder {
         return;
     }
-    copy_constraint(honest, other, constraint);
+    lists::copy(honest, other, constraint);
     if number::once_in(state, 8) {
-        copy_constraint(honest, other, constraint);
+        lists::copy(honest, other, constraint);
     }
 }
 
@@ -56,7 +48,7 @@ fn keep_own(state: &mut u64, honest: &[u8], other: &mut [u8], bidder: u32, const
     if number::once_in(state, 3) {
         return;
     }
-    copy_constraint(honest, other, constraint);
+    lists::copy(honest, other, constraint);
 }
 
 // Some of the bidder's true list.
@@ -98,7 +90,7 @@ fn add_list(state: &mut u64, honest: &[u8], other: &mut [u8], bidder: u32) {
 
 fn shuffle_at_times(state: &mut u64, other: &mut [u8]) {
     if number::once_in(state, 2) {
-        lists::shuffle(state, other);
+        lists::shuffle_free(state, other);
     }
 }
 

@@ -136,6 +136,13 @@ pub fn bid(sheet: &[u8], bidder: u8) -> u32 {
     )
 }
 
+// How many bytes of the sheet stand before a constraint, counted from 0; for the count of them, all that its counts ask for.
+pub fn before_constraint(sheet: &[u8], index: usize) -> usize
+    requires { ⌜ index < 65536 ⌝ }
+{
+    header(sheet) + 4 * (wide(slot_count(sheet)) + wide(bidder_count(sheet)) + index)
+}
+
 // The four bytes of a constraint, counted from 0.
 pub fn constraint(sheet: &[u8], index: usize) -> [u8; 4] {
     if sheet.len() <= index {

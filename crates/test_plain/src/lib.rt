@@ -3,10 +3,11 @@
 // and reads the sheet's bytes where it needs them. It is proved safe and ending, and nothing more.
 //
 // Each call returns 0 or the number of the first rule that the call breaks, and then nothing lent is written. A sheet's rules are 1 to
-// 13, 26 and 27.
+// 13 and 26 to 28.
 mod amounts;
 mod fields;
 mod list;
+mod owner;
 mod page;
 mod round;
 mod rules;
@@ -169,5 +170,31 @@ pub fn best(sheet: &[u8], result: &mut [u8], total: &mut u64) -> u32 {
     let filled = choice.page;
     write_bidders(result, filled, fields::slot_count(sheet));
     *total = choice.total;
+    0
+}
+
+// A sheet's rules, "29 where either call gets a version 1 sheet that is otherwise accepted, before 16", and 16.
+fn owner_part_rule(sheet: &[u8], bidder: u32) -> u32 {
+    let refusal = check(sheet);
+    if refusal != 0 {
+        return refusal;
+    }
+    if fields::version(sheet) == fields::FIRST_VERSION {
+        return 29;
+    }
+    if is_bad_bidder(sheet, bidder) {
+        return 16;
+    }
+    0
+}
+
+// A sheet's rules, 29 and 16; or where the part of the sheet with the bidder's constraints starts, and its length.
+pub fn owner_part(sheet: &[u8], bidder: u32, start: &mut usize, length: &mut usize) -> u32 {
+    let refusal = owner_part_rule(sheet, bidder);
+    if refusal != 0 {
+        return refusal;
+    }
+    *start = owner::start(sheet, narrow(bidder));
+    *length = owner::length(sheet, narrow(bidder));
     0
 }

@@ -1,4 +1,5 @@
-// Document 01's rules 1 to 13 with document 02's 26 and 27 where it puts them, one after the other, each over the whole sheet.
+// Document 01's rules 1 to 13 with document 02's 26 and 27 where it puts them, one after the other, each over the whole sheet; of the
+// constraints ("conditions") each in turn, with document 02's 28 after its 13.
 use crate::fields;
 
 // The number of the first rule that the sheet breaks, 0 for none.
@@ -150,11 +151,23 @@ fn constraints_rule(sheet: &[u8]) -> u32 {
     let count = fields::constraint_count(sheet);
     let mut index: usize = 0;
     while index < count {
-        let rule = constraint_rule(sheet, fields::constraint(sheet, index));
+        let rule = rule_at(sheet, index);
         if rule != 0 {
             return rule;
         }
         index += 1;
+    }
+    0
+}
+
+// Rules 10 to 13, and "28 for a version 2 condition not above the one before, tested for each condition after its 13".
+fn rule_at(sheet: &[u8], index: usize) -> u32 {
+    let rule = constraint_rule(sheet, fields::constraint(sheet, index));
+    if rule != 0 {
+        return rule;
+    }
+    if is_out_of_order(sheet, index) {
+        return 28;
     }
     0
 }
@@ -186,4 +199,31 @@ fn is_out_of_range(sheet: &[u8], constraint: [u8; 4]) -> bool {
         return true;
     }
     slots < constraint[fields::OWN_SLOT] || slots < constraint[fields::OTHER_SLOT]
+}
+
+fn is_out_of_order(sheet: &[u8], index: usize) -> bool {
+    if fields::version(sheet) != fields::TICK_VERSION {
+        return false;
+    }
+    if index == 0 {
+        return false;
+    }
+    !is_above(
+        fields::constraint(sheet, index),
+        fields::constraint(sheet, index - 1),
+    )
+}
+
+// "strictly rising order of owner, own place, other bidder, other's place": the first of the four that differs decides.
+fn is_above(constraint: [u8; 4], before: [u8; 4]) -> bool {
+    if constraint[fields::OWNER] != before[fields::OWNER] {
+        return before[fields::OWNER] < constraint[fields::OWNER];
+    }
+    if constraint[fields::OWN_SLOT] != before[fields::OWN_SLOT] {
+        return before[fields::OWN_SLOT] < constraint[fields::OWN_SLOT];
+    }
+    if constraint[fields::OTHER] != before[fields::OTHER] {
+        return before[fields::OTHER] < constraint[fields::OTHER];
+    }
+    before[fields::OTHER_SLOT] < constraint[fields::OTHER_SLOT]
 }

@@ -17,11 +17,8 @@ constraint-count-requires c κs = search needs
 loop-holds : tie.Need-loop-holds Inv-loop μ-loop
 loop-holds c = search needs
 
-constraint-requires : tie.Need-constraint-requires Inv-loop μ-loop
-constraint-requires c κs = search needs
-
-constraint-rule-requires : tie.Need-constraint-rule-requires Inv-loop μ-loop
-constraint-rule-requires c κs = search needs
+rule-at-requires : tie.Need-rule-at-requires Inv-loop μ-loop
+rule-at-requires c κs = search needs
 
 returns : tie.Need-returns Inv-loop μ-loop
 returns c = search needs
@@ -46,8 +43,7 @@ constraints-rule-spec =
     μ-loop
     constraint-count-requires
     loop-holds
-    constraint-requires
-    constraint-rule-requires
+    rule-at-requires
     returns
     add-index
     loop-less
