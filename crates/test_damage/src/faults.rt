@@ -1,5 +1,5 @@
 // The faults that a sheet can have, in the order in which they are checked: document 01's rules 1 to 13, with document 02's rule 1 for
-// version 2, its 26 and its 27 among them.
+// version 2, its 26 and its 27 among them and its 28 after them.
 
 pub const NO_HEADER: u32 = 1;
 
@@ -34,8 +34,11 @@ pub const HALF_AN_OTHER: u32 = 15;
 
 pub const FORBIDS_NOTHING: u32 = 16;
 
+// Of version 2 alone.
+pub const OUT_OF_ORDER: u32 = 17;
+
 // How many there are.
-pub const FAULTS: u32 = 16;
+pub const FAULTS: u32 = 17;
 
 // The number of a call that is refused for the fault, 0 for no fault.
 pub fn number(fault: u32) -> u32 {
@@ -50,6 +53,7 @@ pub fn number(fault: u32) -> u32 {
         OTHER_IS_OWNER => 11,
         HALF_AN_OTHER => 12,
         FORBIDS_NOTHING => 13,
+        OUT_OF_ORDER => 28,
         _ => 0,
     }
 }

@@ -265,35 +265,168 @@ fn forbid_nothing(buf: &mut [u8], constraint: u32) {
     parts::set_fields(buf, constraint, owner, 0, 0, 0);
 }
 
+// The constraint before in place of one, which is then not above it.
+fn repeat_before(buf: &mut [u8], constraint: u32) {
+    if 0 < constraint {
+        let before = parts::word(buf, parts::constraint_at(buf, constraint - 1));
+        let at = parts::constraint_at(buf, constraint);
+        parts::set_word(buf, at, before);
+    }
+}
+
 fn break_constraint(state: &mut u64, buf: &mut [u8], fault: u32, constraint: u32) {
     match fault {
         faults::OUT_OF_RANGE => out_of_range(state, buf, constraint),
         faults::OTHER_IS_OWNER => other_is_owner(state, buf, constraint),
         faults::HALF_AN_OTHER => half_an_other(state, buf, constraint),
-        _ => forbid_nothing(buf, constraint),
+        faults::FORBIDS_NOTHING => forbid_nothing(buf, constraint),
+        _ => repeat_before(buf, constraint),
     }
 }
 
-fn break_any_constraint(state: &mut u64, buf: &mut [u8], fault: u32) {
+// At times any fault of a constraint after this one. "Conditions are taken in sheet order".
+fn break_later(state: &mut u64, buf: &mut [u8], constraint: u32)
+    requires { ⌜ constraint < 65536 ⌝ }
+{
     let count = parts::constraints(buf);
-    if 0 < count {
-        let constraint = number::up_to(state, count - 1);
-        break_constraint(state, buf, fault, constraint);
+    if constraint + 1 < count && number::once_in(state, 2) {
+        let later = number::between(state, constraint + 1, count - 1);
+        let second = faults::OUT_OF_RANGE + number::up_to(state, 4);
+        break_constraint(state, buf, second, later);
     }
 }
 
-// A fault of a constraint, and at times any fault of a later one. "Conditions are taken in sheet order".
+// Exchanges a constraint with the one before it at times, so that in version 2 it is not above that one: its own fault still comes first.
+fn unsettle(state: &mut u64, buf: &mut [u8], constraint: u32) {
+    if 0 < constraint && number::once_in(state, 2) {
+        lists::swap(buf, constraint - 1, constraint);
+    }
+}
+
+// A fault of a constraint that is not of the order, and at times any fault of a later one.
 fn break_constraints(state: &mut u64, buf: &mut [u8], fault: u32) {
     let count = parts::constraints(buf);
     if count == 0 {
         return;
     }
     let constraint = number::up_to(state, count - 1);
+    unsettle(state, buf, constraint);
     break_constraint(state, buf, fault, constraint);
-    if constraint + 1 < count && number::once_in(state, 2) {
-        let later = number::between(state, constraint + 1, count - 1);
-        let second = faults::OUT_OF_RANGE + number::up_to(state, 3);
-        break_constraint(state, buf, second, later);
+    break_later(state, buf, constraint);
+}
+
+// Exchanges two neighbours where they rise.
+fn turn(buf: &mut [u8], first: u32)
+    requires { ⌜ first < 65536 ⌝ }
+{
+    if lists::rank(buf, first) < lists::rank(buf, first + 1) {
+        lists::swap(buf, first, first + 1);
+    }
+}
+
+// Every constraint anywhere, and two neighbours surely out of order.
+fn mix(state: &mut u64, buf: &mut [u8], first: u32)
+    requires { ⌜ first < 65536 ⌝ }
+{
+    lists::shuffle(state, buf);
+    turn(buf, first);
+}
+
+// A lower own slot, or the same where nothing lower is right, with any other's slot.
+fn lower_own(state: &mut u64, buf: &mut [u8], constraint: u32) {
+    let own = parts::field(buf, constraint, 1);
+    let others = lists::one_of(state, parts::slots(buf));
+    if own == 0 {
+        return;
+    }
+    if parts::field(buf, constraint, 2) == 0 {
+        parts::set_field(buf, constraint, 1, lists::one_of(state, own));
+        return;
+    }
+    parts::set_field(buf, constraint, 1, number::up_to(state, own - 1));
+    parts::set_field(buf, constraint, 3, others);
+}
+
+// A lower other, or none.
+fn lower_other(state: &mut u64, buf: &mut [u8], constraint: u32) {
+    let owner = parts::field(buf, constraint, 0);
+    let other = lists::another(state, buf, owner);
+    let others = lists::one_of(state, parts::slots(buf));
+    if other < parts::field(buf, constraint, 2) {
+        parts::set_field(buf, constraint, 2, other);
+        parts::set_field(buf, constraint, 3, others);
+    } else {
+        parts::set_field(buf, constraint, 2, 0);
+        parts::set_field(buf, constraint, 3, 0);
+    }
+}
+
+// A lower other's slot, or the same.
+fn lower_others(state: &mut u64, buf: &mut [u8], constraint: u32) {
+    let others = parts::field(buf, constraint, 3);
+    parts::set_field(buf, constraint, 3, lists::one_of(state, others));
+}
+
+// Any constraint of its owner, with an own slot, in place of one.
+fn redraw(state: &mut u64, buf: &mut [u8], constraint: u32) {
+    let owner = parts::field(buf, constraint, 0);
+    let slots = parts::slots(buf);
+    let own = lists::one_of(state, slots);
+    let others = lists::one_of(state, slots);
+    let other = lists::another(state, buf, owner);
+    if other == 0 {
+        parts::set_fields(buf, constraint, owner, own, 0, 0);
+    } else {
+        parts::set_fields(buf, constraint, owner, own, other, others);
+    }
+}
+
+// Two neighbours of one owner, so that the owners stay in order, of which the second is not above the first: it is lower in its own slot, in
+// its other or in its other's slot, or the same where nothing lower is right.
+fn fall(state: &mut u64, buf: &mut [u8], first: u32)
+    requires { ⌜ first < 65536 ⌝ }
+{
+    redraw(state, buf, first);
+    repeat_before(buf, first + 1);
+    let drawn = number::up_to(state, 2);
+    match drawn {
+        0 => lower_own(state, buf, first + 1),
+        1 => lower_other(state, buf, first + 1),
+        _ => lower_others(state, buf, first + 1),
+    }
+}
+
+// "28 for a version 2 condition not above the one before": neighbours exchanged, one repeated, one of the same owner that is lower, or all
+// of them in disorder.
+fn disorder(state: &mut u64, buf: &mut [u8], first: u32)
+    requires { ⌜ first < 65536 ⌝ }
+{
+    let drawn = number::up_to(state, 7);
+    match drawn {
+        0 | 1 => turn(buf, first),
+        2 => repeat_before(buf, first + 1),
+        3 | 4 => mix(state, buf, first),
+        _ => fall(state, buf, first),
+    }
+}
+
+// Two neighbours out of order, and at times any fault of a later constraint.
+fn break_order(state: &mut u64, buf: &mut [u8]) {
+    let count = parts::constraints(buf);
+    if count < 2 {
+        return;
+    }
+    let first = number::up_to(state, count - 2);
+    disorder(state, buf, first);
+    break_later(state, buf, first + 1);
+}
+
+// A fault of any constraint.
+fn break_any_constraint(state: &mut u64, buf: &mut [u8], fault: u32) {
+    if fault == faults::OUT_OF_ORDER {
+        break_order(state, buf);
+    } else {
+        break_constraints(state, buf, fault);
     }
 }
 
@@ -362,10 +495,36 @@ fn add_first(buf: &mut [u8]) {
     }
 }
 
+// The first constraint once more where there is no second.
+fn add_second(buf: &mut [u8]) {
+    if parts::constraints(buf) < 2 {
+        repeat_before(buf, 1);
+        parts::set_half(buf, parts::CONSTRAINTS, 2);
+    }
+}
+
+// Version 2 and two constraints for a fault of the order, one for any other.
+fn prepare_lists(state: &mut u64, buf: &mut [u8], fault: u32) {
+    if fault != faults::OUT_OF_ORDER {
+        add_first(buf);
+        return;
+    }
+    into_ticks(state, buf);
+    add_first(buf);
+    add_second(buf);
+}
+
+fn into_ticks(state: &mut u64, buf: &mut [u8]) {
+    if parts::version(buf) != parts::TICK_VERSION {
+        let steps = rounds::steps_in_ticks(state);
+        rounds::retick(state, buf, steps);
+    }
+}
+
 // A constraint's fault, with the length that the sheet then has.
 fn damage_lists(state: &mut u64, buf: &mut [u8], fault: u32) -> usize {
-    add_first(buf);
-    break_constraints(state, buf, fault);
+    prepare_lists(state, buf, fault);
+    break_any_constraint(state, buf, fault);
     parts::length(buf)
 }
 
