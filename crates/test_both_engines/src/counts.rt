@@ -3,7 +3,7 @@ ghost use mathlib.Core.Path.{_≡_};
 ghost use Rattle.test_both_engines.specs.Counts.{placeOf, held};
 ghost use Rattle.test_tally.specs.Tally.{counted};
 
-// The calls, by their order in document 01, with a place for each number from 0 to 27.
+// The calls, by their order in document 01 and then document 02, with a place for each number from 0 to 29.
 pub const CHECK: u32 = 0;
 
 pub const PLAY: u32 = 1;
@@ -14,75 +14,97 @@ pub const GAIN: u32 = 3;
 
 pub const BEST: u32 = 4;
 
-pub const CALLS: u32 = 5;
+pub const OWNER_PART: u32 = 5;
 
-pub const NUMBERS: u32 = 28;
+// The call that only checks where a part is.
+pub const CHECK_PART: u32 = 6;
 
-// Further counts, after the calls' 140.
-pub const ROUNDS: u32 = 140;
+pub const CALLS: u32 = 7;
 
-pub const DIFFERENCES: u32 = 141;
+pub const NUMBERS: u32 = 30;
 
-pub const EMPTY_SLOTS: u32 = 142;
+// Further counts, after the calls' 210.
+pub const ROUNDS: u32 = 210;
 
-pub const PRICES: u32 = 143;
+pub const DIFFERENCES: u32 = 211;
 
-pub const STEPPED_PRICES: u32 = 144;
+pub const EMPTY_SLOTS: u32 = 212;
 
-pub const YES: u32 = 145;
+pub const PRICES: u32 = 213;
 
-pub const NO: u32 = 146;
+pub const STEPPED_PRICES: u32 = 214;
 
-pub const GAINS_ABOVE: u32 = 147;
+pub const YES: u32 = 215;
 
-pub const GAINS_NOUGHT: u32 = 148;
+pub const NO: u32 = 216;
 
-pub const GAINS_BELOW: u32 = 149;
+pub const GAINS_ABOVE: u32 = 217;
 
-pub const ABOVE_GREEDY: u32 = 150;
+pub const GAINS_NOUGHT: u32 = 218;
 
-pub const DAMAGED: u32 = 151;
+pub const GAINS_BELOW: u32 = 219;
+
+pub const ABOVE_GREEDY: u32 = 220;
+
+pub const DAMAGED: u32 = 221;
 
 // At the largest sizes, by the sheet's own header: the sheets, and the pages and gains that both engines answered on them.
-pub const LARGEST: u32 = 152;
+pub const LARGEST: u32 = 222;
 
-pub const LARGEST_PAGES: u32 = 153;
+pub const LARGEST_PAGES: u32 = 223;
 
-pub const LARGEST_GAINS: u32 = 154;
+pub const LARGEST_GAINS: u32 = 224;
 
 // The largest that the best page is sought on.
-pub const EIGHT: u32 = 155;
+pub const EIGHT: u32 = 225;
 
-pub const EIGHT_PAGES: u32 = 156;
+pub const EIGHT_PAGES: u32 = 226;
 
-pub const EIGHT_GAINS: u32 = 157;
+pub const EIGHT_GAINS: u32 = 227;
 
-pub const EIGHT_BEST: u32 = 158;
+pub const EIGHT_BEST: u32 = 228;
 
 // By the sheet's own header too: version 2, the largest of these, which no sheet is longer than, and those with a tick above 1.
-pub const VERSION_TWO: u32 = 159;
+pub const VERSION_TWO: u32 = 229;
 
-pub const LONGEST: u32 = 160;
+pub const LONGEST: u32 = 230;
 
-pub const STEPPED: u32 = 161;
+pub const STEPPED: u32 = 231;
 
-pub const STEPPED_PAGES: u32 = 162;
+pub const STEPPED_PAGES: u32 = 232;
 
-pub const STEPPED_GAINS: u32 = 163;
+pub const STEPPED_GAINS: u32 = 233;
 
-pub const STEPPED_BEST: u32 = 164;
+pub const STEPPED_BEST: u32 = 234;
 
 // Gains by a truth sheet of another tick.
-pub const OTHER_TICK_GAINS: u32 = 165;
+pub const OTHER_TICK_GAINS: u32 = 235;
+
+// Parts of sheets with constraints, by where they stand: of the first owner, of the last one, of one in between; empty ones before the first
+// owner's, between two owners' and at the sheet's end.
+pub const FIRST_PARTS: u32 = 236;
+
+pub const LAST_PARTS: u32 = 237;
+
+pub const MIDDLE_PARTS: u32 = 238;
+
+pub const EMPTY_FIRST: u32 = 239;
+
+pub const EMPTY_MIDDLE: u32 = 240;
+
+pub const EMPTY_LAST: u32 = 241;
+
+// Parts of sheets with no constraint at all.
+pub const EMPTY_SHEETS: u32 = 242;
 
 // By shape: rounds, pages that both engines played, and best pages that both found.
-pub const SHAPES: u32 = 180;
+pub const SHAPES: u32 = 260;
 
-pub const PLAYED: u32 = 200;
+pub const PLAYED: u32 = 280;
 
-pub const SEARCHED: u32 = 220;
+pub const SEARCHED: u32 = 300;
 
-pub const ROOM: usize = 240;
+pub const ROOM: usize = 320;
 
 // Where a count by shape stands.
 pub fn by_shape(first: u32, shape: u32) -> u32 {

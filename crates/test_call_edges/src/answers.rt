@@ -9,6 +9,8 @@ pub const UNTOUCHED_GAIN: i64 = 165;
 
 pub const UNTOUCHED_TOTAL: u64 = 165;
 
+pub const UNTOUCHED_PLACE: usize = 165165;
+
 // The number that the call returns.
 pub fn number(refusal: u32) {
     line::number(b": ", refusal as u64);
@@ -129,4 +131,38 @@ pub fn signed(value: i64) {
         line::text(b"-");
     }
     line::number(b"", size(value));
+}
+
+// A byte of a part, 0 past its end.
+fn byte(part: &[u8], at: usize) -> u8 {
+    if at < part.len() {
+        return part[at];
+    }
+    0
+}
+
+// The condition at an offset.
+fn condition(part: &[u8], at: usize)
+    requires { ⌜ at ≤ 65536 ⌝ }
+{
+    line::byte(b" (", byte(part, at));
+    line::byte(b",", byte(part, at + 1));
+    line::byte(b",", byte(part, at + 2));
+    line::byte(b",", byte(part, at + 3));
+    line::text(b")");
+}
+
+// The part that is handed back: its bytes, and its first and its last condition.
+pub fn conditions(part: &[u8]) {
+    let length = part.len();
+    line::number(b"; part of ", length as u64);
+    if length < 4 {
+        return;
+    }
+    line::text(b":");
+    condition(part, 0);
+    if length <= 65536 {
+        line::text(b" to");
+        condition(part, length - 4);
+    }
 }

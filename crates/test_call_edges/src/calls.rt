@@ -29,6 +29,14 @@ pub fn answer(words: &[u8], sheet: &[u8], truth: &[u8]) {
     }
     if script::begins(words, b"best") {
         best(words, sheet);
+        return;
+    }
+    if script::begins(words, b"part") {
+        part(words, sheet);
+        return;
+    }
+    if script::begins(words, b"before") {
+        before(words, sheet);
     }
 }
 
@@ -117,4 +125,28 @@ fn best(words: &[u8], sheet: &[u8]) {
     answers::page(buffer, slots, 1);
     line::number(b"; total ", total);
     answers::untouched(b"; later bytes", buffer, slots);
+}
+
+// "part BIDDER": where the part is, and what is handed back.
+fn part(words: &[u8], sheet: &[u8]) {
+    let mut start = answers::UNTOUCHED_PLACE;
+    let mut length = answers::UNTOUCHED_PLACE;
+    let bidder = script::number(words, 1);
+    let refusal = pas::pas_owner_part(sheet, bidder, &mut start, &mut length);
+    answers::number(refusal);
+    if refusal != 0 {
+        answers::kept(b"; start", start == answers::UNTOUCHED_PLACE);
+        answers::kept(b", length", length == answers::UNTOUCHED_PLACE);
+    } else {
+        line::number(b"; start ", start as u64);
+        line::number(b", length ", length as u64);
+    }
+    answers::conditions(owner_part::part(sheet, bidder));
+}
+
+// "before the part of BIDDER": the call that only checks.
+fn before(words: &[u8], sheet: &[u8]) {
+    let checked = owner_part::check_part(sheet, script::number(words, 1));
+    answers::number(checked.refusal);
+    line::number(b"; bytes ", checked.bytes as u64);
 }

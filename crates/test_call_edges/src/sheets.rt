@@ -7,7 +7,8 @@ fn small(words: &[u8], index: u16) -> u8 {
     build::low(script::number(words, index))
 }
 
-// "sheet N M C": a right sheet of these counts, bidders first, and its length. "sheet N M C T": the same of version 2 with this tick.
+// "sheet N M C": a right sheet of these counts, bidders first, and its length. "sheet N M C T": the same of version 2 with this tick, its
+// conditions rising from (1,1,0,0).
 fn new_sheet(words: &[u8], sheet: &mut [u8]) -> usize {
     let bidders = small(words, 1);
     let slots = small(words, 2);
@@ -32,7 +33,8 @@ pub fn write(words: &[u8], sheet: &mut [u8], length: usize) -> usize {
     length
 }
 
-// "byte AT VALUE": one byte, at an offset from 0. The other lines give the first fields of a kind their values.
+// "byte AT VALUE": one byte, at an offset from 0. "rising C": from this condition on, each is the next above the one before. The other lines
+// give the first fields of a kind their values.
 fn write_fields(words: &[u8], sheet: &mut [u8]) {
     if script::begins(words, b"byte") {
         build::set_byte(sheet, script::number(words, 1) as usize, small(words, 2));
@@ -48,6 +50,10 @@ fn write_fields(words: &[u8], sheet: &mut [u8]) {
     }
     if script::begins(words, b"conditions") {
         write_constraints(words, sheet);
+        return;
+    }
+    if script::begins(words, b"rising") {
+        build::rise(sheet, (script::number(words, 1) % 65536) as u16);
     }
 }
 

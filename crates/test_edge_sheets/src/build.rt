@@ -81,11 +81,16 @@ pub fn set_tick(buf: &mut [u8], tick: u32) {
     set_word(buf, 9, tick);
 }
 
-// A byte of the header: the version's low one at 3, n at 5, m at 6.
+// One byte, 0 past the buffer's end.
+fn byte(buf: &[u8], at: usize) -> u8 {
+    if at < buf.len() { buf[at] } else { 0 }
+}
+
+// A byte of the header: the version's low one at 3, n at 5, m at 6, those of c at 7 and 8.
 fn header(buf: &[u8], at: usize) -> u32
     ensures { λ r. ⌜ r < 256 ⌝ }
 {
-    if at < buf.len() { wide(buf[at]) } else { 0 }
+    wide(byte(buf, at))
 }
 
 // Where a field of four bytes starts, of those after the header, counted from 1. The header has 9 bytes, and in version 2 the tick's 4 more.
@@ -121,11 +126,14 @@ pub fn base(buf: &mut [u8], bidders: u8, slots: u8, constraints: u16) -> usize {
     fill(buf, bidders, slots, constraints, 5)
 }
 
-// The same of version 2, right where its tick is too. Each bid is one tick.
+// The same of version 2, right where its tick is too and as far as there are constraints enough. Each bid is one tick, and the constraints
+// rise from (1,1,0,0).
 pub fn base_in_ticks(buf: &mut [u8], tick: u32, bidders: u8, slots: u8, constraints: u16) -> usize {
     set_version(buf, 2);
     set_tick(buf, tick);
-    fill(buf, bidders, slots, constraints, tick)
+    let length = fill(buf, bidders, slots, constraints, tick);
+    rise(buf, 2);
+    length
 }
 
 // 4 bytes each: "effect of places 1 to m", all of them.
@@ -160,7 +168,75 @@ fn set_fields(buf: &mut [u8], at: usize, fields: [u8; 4]) {
 
 // 4 bytes each: "condition: owner, own place, other bidder, other's place, one byte each", one of them.
 pub fn set_constraint(buf: &mut [u8], constraint: u16, fields: [u8; 4]) {
-    let before = header(buf, 6) + header(buf, 5);
-    let at = start(buf, before + constraint as u32);
+    let at = constraint_start(buf, constraint);
     set_fields(buf, at, fields);
+}
+
+fn constraint_start(buf: &[u8], constraint: u16) -> usize
+    ensures { λ r. ⌜ r ≤ 280009 ⌝ }
+{
+    start(buf, header(buf, 6) + header(buf, 5) + constraint as u32)
+}
+
+// The four bytes of a constraint.
+fn constraint_of(buf: &[u8], constraint: u16) -> [u8; 4] {
+    let at = constraint_start(buf, constraint);
+    [
+        byte(buf, at),
+        byte(buf, at + 1),
+        byte(buf, at + 2),
+        byte(buf, at + 3),
+    ]
+}
+
+// The next bidder after an other that is not the owner, 0 where there is none.
+fn next_other(owner: u8, other: u8, bidders: u8) -> u8 {
+    if bidders <= other {
+        return 0;
+    }
+    if other + 1 != owner {
+        return other + 1;
+    }
+    if bidders <= other + 1 {
+        return 0;
+    }
+    other + 2
+}
+
+// The next constraint in order of owner, own slot, other and other's slot; the last of all is its own next.
+fn next_constraint(fields: [u8; 4], bidders: u8, slots: u8) -> [u8; 4] {
+    let owner = fields[0];
+    let own = fields[1];
+    let other = fields[2];
+    let others = fields[3];
+    if other != 0 && others < slots {
+        return [owner, own, other, others + 1];
+    }
+    let second = next_other(owner, other, bidders);
+    if second != 0 {
+        return [owner, own, second, 1];
+    }
+    if own < slots {
+        return [owner, own + 1, 0, 0];
+    }
+    if owner < bidders {
+        return [owner + 1, 0, 1, 1];
+    }
+    fields
+}
+
+// The constraints from one on, as many as the header counts: each is the next after the one before.
+pub fn rise(buf: &mut [u8], from: u16) {
+    let bidders = low(header(buf, 5));
+    let slots = low(header(buf, 6));
+    let count = header(buf, 7) + 256 * header(buf, 8);
+    let mut constraint = from;
+    while constraint as u32 <= count {
+        if constraint == 0 || constraint == 65535 {
+            return;
+        }
+        let next = next_constraint(constraint_of(buf, constraint - 1), bidders, slots);
+        set_constraint(buf, constraint, next);
+        constraint += 1;
+    }
 }

@@ -11,6 +11,7 @@ const TICK: u32 = 0x01020304;
 pub fn report() {
     refused();
     small();
+    small_in_ticks();
     full();
 }
 
@@ -92,8 +93,8 @@ fn effects(round: Round) {
 fn bids(round: Round) {
     if round.bidders < 64 {
         bid(round, 0);
-        bid(round, 4);
         bid(round, 5);
+        bid(round, 6);
     }
     bid(round, 63);
 }
@@ -126,38 +127,49 @@ fn reading(name: &[u8], buf: &[u8], length: usize) {
     }
 }
 
-// Five bidders, three slots and 0x0102 constraints, with a bid out of range.
+// Six bidders, three slots and 0x0102 constraints, with a bid out of range.
 fn refused() {
     let mut space = [0u8; build::ROOM];
     let buf: &mut [u8] = &mut space;
-    let length = build::base(buf, 5, 3, 0x0102);
-    build::set_bid(buf, 5, 1000000001);
+    let length = build::base(buf, 6, 3, 0x0102);
+    build::set_bid(buf, 6, 1000000001);
     reading(b"reading a refused sheet", buf, length);
 }
 
-// On a sheet of five bidders, three slots and 0x0102 constraints: the effects, the first and the last bid, a constraint of each kind and the
-// last one.
+// On a sheet of six bidders, three slots and 0x0102 constraints: the effects, the first and the last bid.
 fn set_small(buf: &mut [u8], first_bid: u32, last_bid: u32) {
     build::set_effect(buf, 1, 0x010203);
     build::set_effect(buf, 2, 0x0201);
     build::set_effect(buf, 3, 0x0102);
     build::set_bid(buf, 1, first_bid);
-    build::set_bid(buf, 5, last_bid);
+    build::set_bid(buf, 6, last_bid);
+}
+
+// A constraint of each kind and the last one, in any order.
+fn small() {
+    let mut space = [0u8; build::ROOM];
+    let buf: &mut [u8] = &mut space;
+    let length = build::base(buf, 6, 3, 0x0102);
+    set_small(buf, 0x01020304, 0x04030201);
     build::set_constraint(buf, 1, [2, 3, 4, 1]);
     build::set_constraint(buf, 2, [3, 0, 1, 2]);
     build::set_constraint(buf, 3, [4, 2, 0, 0]);
     build::set_constraint(buf, 0x0102, [5, 1, 4, 3]);
+    reading(b"reading a small sheet", buf, length);
 }
 
-fn small() {
+// The same in version 2, where they rise.
+fn small_in_ticks() {
     let mut space = [0u8; build::ROOM];
     let buf: &mut [u8] = &mut space;
-    let length = build::base(buf, 5, 3, 0x0102);
-    set_small(buf, 0x01020304, 0x04030201);
-    reading(b"reading a small sheet", buf, length);
-    let longer = build::base_in_ticks(buf, TICK, 5, 3, 0x0102);
+    let length = build::base_in_ticks(buf, TICK, 6, 3, 0x0102);
     set_small(buf, 3 * TICK, 57 * TICK);
-    reading(b"reading a small sheet of version 2", buf, longer);
+    build::set_constraint(buf, 1, [1, 0, 4, 2]);
+    build::set_constraint(buf, 2, [1, 2, 0, 0]);
+    build::set_constraint(buf, 3, [1, 3, 5, 2]);
+    build::rise(buf, 4);
+    build::set_constraint(buf, 0x0102, [6, 1, 4, 3]);
+    reading(b"reading a small sheet of version 2", buf, length);
 }
 
 // On a sheet of the largest counts: the last field of each kind.

@@ -1,4 +1,4 @@
-// The lines that the program writes, in document 01's words.
+// The lines that the program writes, in the documents' words.
 use test_both_engines::counts;
 use test_chance::rounds;
 
@@ -138,13 +138,47 @@ fn answers(tally: &[u64]) {
     );
 }
 
+// Where the owners' parts stand, by both engines.
+fn owner_parts(tally: &[u64]) {
+    test_tally::count_line(tally, b"parts of the first owner", counts::FIRST_PARTS);
+    test_tally::count_line(tally, b"parts of the last owner", counts::LAST_PARTS);
+    test_tally::count_line(
+        tally,
+        b"parts of an owner in between",
+        counts::MIDDLE_PARTS,
+    );
+    test_tally::count_line(
+        tally,
+        b"empty parts before the first owner's",
+        counts::EMPTY_FIRST,
+    );
+    test_tally::count_line(
+        tally,
+        b"empty parts between two owners'",
+        counts::EMPTY_MIDDLE,
+    );
+    test_tally::count_line(
+        tally,
+        b"empty parts at the sheet's end",
+        counts::EMPTY_LAST,
+    );
+    test_tally::count_line(
+        tally,
+        b"parts of sheets with no conditions",
+        counts::EMPTY_SHEETS,
+    );
+}
+
 pub fn all(tally: &[u64]) {
     call_lines(tally, b"check", counts::CHECK);
     call_lines(tally, b"play", counts::PLAY);
     call_lines(tally, b"downward", counts::DOWNWARD);
     call_lines(tally, b"gain", counts::GAIN);
     call_lines(tally, b"best", counts::BEST);
+    call_lines(tally, b"owner part", counts::OWNER_PART);
+    call_lines(tally, b"check of an owner part", counts::CHECK_PART);
     answers(tally);
+    owner_parts(tally);
     small_shapes(tally);
     larger_shapes(tally);
     largest_sizes(tally);

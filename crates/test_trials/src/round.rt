@@ -2,6 +2,7 @@
 use test_both_engines::answers;
 use test_both_engines::bytes;
 use test_both_engines::counts;
+use test_both_engines::owners;
 use test_chance::lists;
 use test_chance::number;
 use test_chance::parts;
@@ -133,6 +134,7 @@ fn all_calls(state: &mut u64, tally: &mut [u64], kind: Kind, sheet: &[u8], truth
     answers::downward(state, tally, sheet);
     gain(state, tally, sheet, truth);
     best(state, tally, kind, sheet);
+    owners::parts_of(tally, sheet, faults::number(kind.fault));
 }
 
 fn with_truth(
