@@ -209,8 +209,10 @@ fn next_constraint(fields: [u8; 4], bidders: u8, slots: u8) -> [u8; 4] {
     let own = fields[1];
     let other = fields[2];
     let others = fields[3];
-    if other != 0 && others < slots {
-        return [owner, own, other, others + 1];
+    if other != 0 {
+        if others < slots {
+            return [owner, own, other, others + 1];
+        }
     }
     let second = next_other(owner, other, bidders);
     if second != 0 {
@@ -225,18 +227,24 @@ fn next_constraint(fields: [u8; 4], bidders: u8, slots: u8) -> [u8; 4] {
     fields
 }
 
-// The constraints from one on, as many as the header counts: each is the next after the one before.
-pub fn rise(buf: &mut [u8], from: u16) {
+// A constraint after the first: the next after the one before.
+fn rise_at(buf: &mut [u8], constraint: u32) {
+    let changed = (constraint % 65536) as u16;
+    if changed < 2 {
+        return;
+    }
     let bidders = low(header(buf, 5));
     let slots = low(header(buf, 6));
+    let next = next_constraint(constraint_of(buf, changed - 1), bidders, slots);
+    set_constraint(buf, changed, next);
+}
+
+// The constraints from one on, as many as the header counts: each is the next after the one before.
+pub fn rise(buf: &mut [u8], from: u16) {
     let count = header(buf, 7) + 256 * header(buf, 8);
-    let mut constraint = from;
-    while constraint as u32 <= count {
-        if constraint == 0 || constraint == 65535 {
-            return;
-        }
-        let next = next_constraint(constraint_of(buf, constraint - 1), bidders, slots);
-        set_constraint(buf, constraint, next);
+    let mut constraint = from as u32;
+    while constraint <= count {
+        rise_at(buf, constraint);
         constraint += 1;
     }
 }
