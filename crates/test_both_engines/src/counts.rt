@@ -97,6 +97,13 @@ pub const EMPTY_LAST: u32 = 241;
 // Parts of sheets with no constraint at all.
 pub const EMPTY_SHEETS: u32 = 242;
 
+// Sheets of version 2 with a fault of their constraints: out of order in one place alone or in more, and out of order with another fault first.
+pub const ONE_FALL: u32 = 243;
+
+pub const MORE_FALLS: u32 = 244;
+
+pub const OTHER_AND_FALL: u32 = 245;
+
 // By shape: rounds, pages that both engines played, and best pages that both found.
 pub const SHAPES: u32 = 260;
 

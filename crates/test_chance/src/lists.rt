@@ -36,6 +36,19 @@ pub fn rank(buf: &[u8], constraint: u32) -> u32 {
     65536 * upper + lower
 }
 
+// How many constraints are not above the one before.
+pub fn falls(buf: &[u8]) -> u32 {
+    let mut found: u32 = 0;
+    let mut left = parts::constraints(buf);
+    while 1 < left {
+        left -= 1;
+        if rank(buf, left) <= rank(buf, left - 1) {
+            found = std::num::wrapping_add_u32(found, 1);
+        }
+    }
+    found
+}
+
 // Where a constraint that stands after the others belongs: in version 1 there, in version 2 after those that are not above it.
 fn place(buf: &[u8], constraint: u32) -> u32 {
     if parts::version(buf) != parts::TICK_VERSION {

@@ -169,6 +169,25 @@ fn owner_parts(tally: &[u64]) {
     );
 }
 
+// What the sheets of version 2 with faults of their conditions are like.
+fn orders(tally: &[u64]) {
+    test_tally::count_line(
+        tally,
+        b"sheets with one condition not above the one before",
+        counts::ONE_FALL,
+    );
+    test_tally::count_line(
+        tally,
+        b"sheets with more conditions not above the one before",
+        counts::MORE_FALLS,
+    );
+    test_tally::count_line(
+        tally,
+        b"sheets of version 2 with such a condition and 10 to 13 first",
+        counts::OTHER_AND_FALL,
+    );
+}
+
 pub fn all(tally: &[u64]) {
     call_lines(tally, b"check", counts::CHECK);
     call_lines(tally, b"play", counts::PLAY);
@@ -183,6 +202,7 @@ pub fn all(tally: &[u64]) {
     larger_shapes(tally);
     largest_sizes(tally);
     versions(tally);
+    orders(tally);
     test_tally::count_line(tally, b"rounds", counts::ROUNDS);
     test_tally::count_line(tally, b"differences", counts::DIFFERENCES);
 }

@@ -72,7 +72,23 @@ fn note(tally: &mut [u64], sheet: &[u8], holds: bool, largest: u32, eight: u32, 
     }
 }
 
+// Counts what a fault of a constraint in version 2 goes with.
+fn note_order(tally: &mut [u64], kind: Kind, sheet: &[u8]) {
+    if kind.fault < faults::OUT_OF_RANGE {
+        return;
+    }
+    if parts::version(sheet) != parts::TICK_VERSION {
+        return;
+    }
+    let falls = lists::falls(sheet);
+    let order = kind.fault == faults::OUT_OF_ORDER;
+    test_tally::add_if(tally, order & (falls == 1), counts::ONE_FALL);
+    test_tally::add_if(tally, order & (1 < falls), counts::MORE_FALLS);
+    test_tally::add_if(tally, !order & (0 < falls), counts::OTHER_AND_FALL);
+}
+
 fn check(tally: &mut [u64], kind: Kind, sheet: &[u8]) {
+    note_order(tally, kind, sheet);
     answers::check(tally, sheet, faults::number(kind.fault));
     let right = kind.fault == 0;
     let two = right && parts::version(sheet) == parts::TICK_VERSION;
