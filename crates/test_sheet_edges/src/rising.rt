@@ -58,7 +58,11 @@ fn deciding_fields() {
 // 0 is the lowest in each field that may have it.
 fn zeros() {
     both(b"own place from 0", [2, 0, 3, 4], [2, 1, 1, 1]);
-    both(b"own place from 0, with no other", [2, 0, 3, 4], [2, 1, 0, 0]);
+    both(
+        b"own place from 0, with no other",
+        [2, 0, 3, 4],
+        [2, 1, 0, 0],
+    );
     both(b"other from none", [2, 1, 0, 0], [2, 1, 1, 1]);
     both(b"own place with no other", [2, 1, 0, 0], [2, 2, 0, 0]);
 }
@@ -75,31 +79,87 @@ fn largest() {
     build::set_constraint(buf, 2, [64, 16, 1, 1]);
     show::case(b"own place 0 and then 16 of 16", buf, length);
     build::set_constraint(buf, 1, [64, 16, 63, 16]);
-    show::case(b"own place 16 of 16 twice, other 63 and then 1", buf, length);
+    show::case(
+        b"own place 16 of 16 twice, other 63 and then 1",
+        buf,
+        length,
+    );
 }
 
 // "tested for each condition after its 13": a constraint that is not above the one before gives its own fault first.
 fn after_thirteen() {
-    two(b"10 and 28, owner 0 after owner 2", [2, 1, 0, 0], [0, 1, 0, 0]);
-    two(b"11 and 28, other is owner 1 after owner 2", [2, 1, 0, 0], [1, 1, 1, 1]);
-    two(b"12 and 28, other with no place", [2, 1, 0, 0], [1, 1, 2, 0]);
+    two(
+        b"10 and 28, owner 0 after owner 2",
+        [2, 1, 0, 0],
+        [0, 1, 0, 0],
+    );
+    two(
+        b"11 and 28, other is owner 1 after owner 2",
+        [2, 1, 0, 0],
+        [1, 1, 1, 1],
+    );
+    two(
+        b"12 and 28, other with no place",
+        [2, 1, 0, 0],
+        [1, 1, 2, 0],
+    );
     two(b"13 and 28, nothing forbidden", [2, 1, 0, 0], [1, 0, 0, 0]);
 }
 
 // One out of order stands before a constraint with a fault.
 fn before_a_fault() {
-    three(b"28, then fault 10", [2, 1, 0, 0], [1, 1, 0, 0], [0, 1, 0, 0]);
-    three(b"28, then fault 11", [2, 1, 0, 0], [1, 1, 0, 0], [3, 1, 3, 1]);
-    three(b"28, then fault 12", [2, 1, 0, 0], [2, 1, 0, 0], [3, 1, 2, 0]);
-    three(b"28, then fault 13", [2, 1, 0, 0], [1, 1, 0, 0], [3, 0, 0, 0]);
+    three(
+        b"28, then fault 10",
+        [2, 1, 0, 0],
+        [1, 1, 0, 0],
+        [0, 1, 0, 0],
+    );
+    three(
+        b"28, then fault 11",
+        [2, 1, 0, 0],
+        [1, 1, 0, 0],
+        [3, 1, 3, 1],
+    );
+    three(
+        b"28, then fault 12",
+        [2, 1, 0, 0],
+        [2, 1, 0, 0],
+        [3, 1, 2, 0],
+    );
+    three(
+        b"28, then fault 13",
+        [2, 1, 0, 0],
+        [1, 1, 0, 0],
+        [3, 0, 0, 0],
+    );
 }
 
 // One out of order stands after a constraint with a fault.
 fn after_a_fault() {
-    three(b"fault 10, then 28", [0, 1, 0, 0], [2, 1, 0, 0], [1, 1, 0, 0]);
-    three(b"fault 11, then 28", [2, 1, 2, 1], [2, 1, 0, 0], [1, 1, 0, 0]);
-    three(b"fault 12, then 28", [1, 1, 2, 0], [2, 1, 0, 0], [2, 1, 0, 0]);
-    three(b"fault 13, then 28", [2, 0, 0, 0], [1, 1, 0, 0], [1, 1, 0, 0]);
+    three(
+        b"fault 10, then 28",
+        [0, 1, 0, 0],
+        [2, 1, 0, 0],
+        [1, 1, 0, 0],
+    );
+    three(
+        b"fault 11, then 28",
+        [2, 1, 2, 1],
+        [2, 1, 0, 0],
+        [1, 1, 0, 0],
+    );
+    three(
+        b"fault 12, then 28",
+        [1, 1, 2, 0],
+        [2, 1, 0, 0],
+        [2, 1, 0, 0],
+    );
+    three(
+        b"fault 13, then 28",
+        [2, 0, 0, 0],
+        [1, 1, 0, 0],
+        [1, 1, 0, 0],
+    );
     bid_and_order();
 }
 
@@ -141,6 +201,10 @@ fn at_the_first_pair() {
 fn at_the_last_pair() {
     one_of_all(b" of 1024 as the one before", 1024, [1, 2, 2, 13]);
     one_of_all(b" of 1024 below the one before", 1024, [1, 2, 2, 12]);
-    one_of_all(b" of 1024 with a higher owner than the last", 1023, [2, 1, 0, 0]);
+    one_of_all(
+        b" of 1024 with a higher owner than the last",
+        1023,
+        [2, 1, 0, 0],
+    );
     one_of_all(b" of 1024 higher", 1024, [64, 16, 63, 16]);
 }

@@ -142,11 +142,7 @@ fn answers(tally: &[u64]) {
 fn owner_parts(tally: &[u64]) {
     test_tally::count_line(tally, b"parts of the first owner", counts::FIRST_PARTS);
     test_tally::count_line(tally, b"parts of the last owner", counts::LAST_PARTS);
-    test_tally::count_line(
-        tally,
-        b"parts of an owner in between",
-        counts::MIDDLE_PARTS,
-    );
+    test_tally::count_line(tally, b"parts of an owner in between", counts::MIDDLE_PARTS);
     test_tally::count_line(
         tally,
         b"empty parts before the first owner's",
@@ -157,11 +153,7 @@ fn owner_parts(tally: &[u64]) {
         b"empty parts between two owners'",
         counts::EMPTY_MIDDLE,
     );
-    test_tally::count_line(
-        tally,
-        b"empty parts at the sheet's end",
-        counts::EMPTY_LAST,
-    );
+    test_tally::count_line(tally, b"empty parts at the sheet's end", counts::EMPTY_LAST);
     test_tally::count_line(
         tally,
         b"parts of sheets with no conditions",
