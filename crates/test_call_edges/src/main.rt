@@ -1,5 +1,5 @@
-// The edges of document 01's calls, with document 02's version 2 of the sheet, and the rounds worked by hand: a script comes in, and goes out again
-// with the answer of each call.
+// The edges of document 01's calls and of document 02's owner part, on sheets of both versions, and the rounds worked by hand: a script comes in,
+// and goes out again with the answer of each call.
 //
 // The file `stdin` is the script. A line whose first word is one of `sheets` writes on the sheet in hand, one whose first word is one of
 // `calls` makes a call, and any other is there for the reader. Of the rest of a line only its numbers count, so that a line can be a
