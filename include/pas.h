@@ -130,12 +130,12 @@ extern "C" {
  * Bytes of stack that suffice for a call, counted from where its caller calls it.
  *
  *   call            measured    first call    figure below
- *   pas_check            216           216           1,024
+ *   pas_check            200           200           1,024
  *   pas_play          14,760  about 17,900          28,672
- *   pas_downward       2,344  about  5,400          24,576
+ *   pas_downward       2,328  about  5,400          24,576
  *   pas_gain          14,856  about 18,100          40,960
  *   pas_best           6,992  about  7,200          20,480
- *   pas_owner_part       248           248           1,024
+ *   pas_owner_part       232           232           1,024
  *
  * These are measured and not proved: nothing in the toolchain bounds a stack. examples/c/stack measures them, on the
  * largest sheets, on refused ones and on random ones, and fails where a call takes more than its figure. The table is

@@ -1,11 +1,12 @@
 -- `sheet_check::version_two::refusal` meets its contract: a sheet with the form of a sheet is of version 2, so its effects start at byte 13 and its tick
 -- stands at byte 9. A part that gives a number gives the sheet's, and one that gives none leaves it to the next; the counts that a part accepts keep
 -- the next within the sheet. Assumes nothing.
-use Prim.Native.Nat.{ℕ}
+use Prim.Native.Nat.{ℕ, suc, _-_}
 use borrow.Author.Needs.{needs}
 use mathlib.Core.List.{List}
-use mathlib.Core.Path.{sym, _∙_, ap₂}
+use mathlib.Core.Path.{_≡_, sym, _∙_, ap, ap₂}
 use native.Mathlib.Omega.{arith}
+use lib.ListN.{length, take}
 use Rattle.basis.specs.First.{firstOver}
 use Rattle.basis.proofs.word16.Reads as word16
 use Rattle.basis.proofs.word32.Reads as word32
@@ -15,7 +16,8 @@ use Rattle.check_numbers.proofs.counts_refusal.Reads as counts-refusal
 use Rattle.check_numbers.proofs.effects_refusal.Reads as effects-refusal
 use Rattle.check_numbers.proofs.form_refusal.Reads as form-refusal
 use Rattle.check_numbers.proofs.ticks_refusal.Reads as ticks-refusal
-use Rattle.sheet.specs.Refusal.{constraintRefusal}
+use Rattle.sheet.specs.Sheet.{bidderCount}
+use Rattle.sheet.specs.Refusal.{tickRefusal, constraintRefusal}
 use Rattle.sheet.proofs.HeaderLaws.{start-two, tick-two}
 use Rattle.sheet.proofs.AcceptedLaws.{form-accepted}
 use Rattle.sheet_check.proofs.PartLaws.{Header, header-two, by-form, by-counts, by-effects, by-bids, by-ticks, by-constraints, whole-sheet}
@@ -51,6 +53,11 @@ header c =
     let formed = c .before .before .before in
     let form = sym (formed .before .form-refusal .ensures) ∙ formed .if1 .left in
     header-two _ (formed .before .before .before .before .pre form) form (sym (c .before .counts-refusal .ensures) ∙ c .if2 .left)
+
+-- the bids of the slice made anew are the sheet's
+ticks-of-whole : (s : List ℕ) →
+    firstOver (λ i. tickRefusal (take (length s - 0) s) (suc i)) (bidderCount s) ≡ firstOver (λ i. tickRefusal s (suc i)) (bidderCount s)
+ticks-of-whole s = ap (λ (l : List ℕ). firstOver (λ i. tickRefusal l (suc i)) (bidderCount s)) (whole-sheet s)
 
 sub-whole : tie.Need-sub-whole
 sub-whole c = search needs
@@ -138,7 +145,7 @@ ticks-refusal-requires c κs =
     let counted = c .before .before .before .before .before .before .before in
     let known = header counted in
     let tick = counted .before .before .word32 .ensures ∙ sym (tick-two _ (known .of-version)) in
-    (omega arith, omega arith, tick, omega arith)
+    rw (whole-sheet (counted .before .before .before .before .before .before .before .args .sheet .now)) (omega arith, omega arith, tick, omega arith)
 
 returns-5 : tie.Need-returns-5
 returns-5 c =
@@ -146,7 +153,7 @@ returns-5 c =
     by-ticks _ (known .form) (known .none)
     (sym (c .before .before .before .before .before .effects-refusal .ensures) ∙ c .before .before .before .before .if3 .left)
     (sym (c .before .before .before .bids-refusal .ensures) ∙ c .before .before .if4 .left)
-    _ (c .before .ticks-refusal .ensures) (c .if5 .taken)
+    _ (c .before .ticks-refusal .ensures ∙ ticks-of-whole _) (c .if5 .taken)
 
 cast-constraints-start : tie.Need-cast-constraints-start
 cast-constraints-start c = let known = header (c .before .before .before .before .before .before .before .before .before) in omega arith
@@ -169,7 +176,7 @@ returns-6 c =
     by-constraints _ (known .form) (known .none)
     (sym (c .before .before .before .before .before .before .effects-refusal .ensures) ∙ c .before .before .before .before .before .if3 .left)
     (sym (c .before .before .before .before .bids-refusal .ensures) ∙ c .before .before .before .if4 .left)
-    (sym (c .before .before .ticks-refusal .ensures) ∙ c .before .if5 .left)
+    (sym (c .before .before .ticks-refusal .ensures ∙ ticks-of-whole _) ∙ c .before .if5 .left)
     _
     (c .rising-refusal .ensures
     ∙ ap₂ (λ (l : List ℕ) (n : ℕ). firstOver (constraintRefusal l) n) (whole-sheet _) (c .before .before .before .before .before .before .before .word16 .ensures .0))
