@@ -92,9 +92,9 @@ extern "C" {
 /* ---- Version ---- */
 
 /* The version of the library and of this file. CHANGELOG.md says what each one brought, and what a new number means. */
-#define PAS_VERSION "1.3.0"
-#define PAS_VERSION_MAJOR 1
-#define PAS_VERSION_MINOR 3
+#define PAS_VERSION "2.0.0"
+#define PAS_VERSION_MAJOR 2
+#define PAS_VERSION_MINOR 0
 #define PAS_VERSION_PATCH 0
 
 /* ---- Sizes ---- */
