@@ -27,6 +27,7 @@ use Rattle.owner_part.specs.OwnerPart.{
   PartOf,
 }
 use Rattle.owner_part.proofs.OwnerLaws.{first-at-most, first-no-later}
+use Rattle.owner_part.proofs.HeldLaws.{part-bytes}
 
 pub by-check : (s : List ℕ) (i k : ℕ) → k ≡ refusalOf s → (k ≡ 0 → ⊥) → k ≡ partRefusal s i
 unfolding partRefusal
@@ -71,32 +72,21 @@ module _ (s : List ℕ) (i k : ℕ) (number : k ≡ partRefusal s i) (refused : 
       by-cases zero h = absurd (h refl)
       by-cases (suc n) h = refl
 
-  pub refused-before : record { refusal = k; bytes = 0 } ≡ beforeOf s i
-  unfolding beforeOf beforeFor
-  refused-before = by-cases k refused ∙ ap (λ (n : ℕ). beforeFor n s i) number
-    where
-      by-cases : (n : ℕ) → (n ≡ 0 → ⊥) → record { refusal = n; bytes = 0 } ≡ beforeFor n s i
-      by-cases zero h = absurd (h refl)
-      by-cases (suc n) h = refl
-
 -- and those of one that is not
 module _ (s : List ℕ) (i : ℕ) (none : partRefusal s i ≡ 0) where
   pub given-bounds : boundsOf s i ≡ record { refusal = 0; start = bytesBefore s i; length = partLength s i }
   unfolding boundsOf boundsFor
   given-bounds = ap (λ (n : ℕ). boundsFor n s i) none
 
-  pub given-before : beforeOf s i ≡ record { refusal = 0; bytes = bytesBefore s i }
-  unfolding beforeOf beforeFor
-  given-before = ap (λ (n : ℕ). beforeFor n s i) none
-
   -- the part lies within the sheet
   pub part-within : bytesBefore s i + partLength s i ≤ length s
-  unfolding bytesBefore partLength
+  unfolding bytesBefore
   part-within =
       let known = answered s i none in
       let order = first-no-later s (known .accepted) (known .two) i in
       let most = first-at-most s (suc i) in
       let whole = accepted-sheet s (known .accepted) .counts .whole in
+      let bytes = part-bytes s (known .accepted) (known .two) i in
       omega arith
 
 -- the bounds lie within the sheet, refused or not
@@ -107,6 +97,15 @@ bounds-within s i b e = subst (λ (q : Bounds). q .start + q .length ≤ length 
     by-cases : (n : ℕ) → partRefusal s i ≡ n → boundsFor n s i .start + boundsFor n s i .length ≤ length s
     by-cases zero e = part-within s i e
     by-cases (suc n) e = omega arith
+
+-- the call that only checks says the number and the start of these bounds
+pub before-bounds : (s : List ℕ) (i : ℕ) (b : Bounds) → b ≡ boundsOf s i → record { refusal = b .refusal; bytes = b .start } ≡ beforeOf s i
+unfolding boundsOf boundsFor beforeOf beforeFor
+before-bounds s i b e = ap (λ (q : Bounds). record { refusal = q .refusal; bytes = q .start }) e ∙ by-cases (partRefusal s i)
+  where
+    by-cases : (n : ℕ) → record { refusal = boundsFor n s i .refusal; bytes = boundsFor n s i .start } ≡ beforeFor n s i
+    by-cases zero = refl
+    by-cases (suc n) = refl
 
 -- what stands within some bounds stands within equal ones
 pub within-same : (sheet part : RefT (List ℕ)) {b b′ : Bounds} → b ≡ b′ → PartOf sheet part (b .start) (b .length) → PartOf sheet part (b′ .start) (b′ .length)

@@ -1,4 +1,4 @@
 -- Where one bidder's conditions stand, that the part holds them, and what the calls answer.
 pub mod OwnerLaws
-pub mod PartLaws
+pub mod HeldLaws
 pub mod CallLaws

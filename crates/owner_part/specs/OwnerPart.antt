@@ -1,10 +1,10 @@
 -- Request S-5: "A new call hands back the part of the sheet with one bidder's conditions."
-use Prim.Native.Nat.{ℕ, zero, suc, _+_, _*_, _-_}
+use Prim.Native.Nat.{ℕ, zero, suc, _+_, _*_}
 use mathlib.Core.Bool.{cond, not, _||_}
 use mathlib.Core.List.{List, [], _∷_}
 use mathlib.Core.Path.{_≡_}
 use lib.Dec.{eqb, ltb}
-use lib.ListN.{take, drop}
+use lib.ListN.{length, take, drop}
 use denote.Ref.{RefT}
 use Rattle.basis.specs.First.{_when_otherwise_, orElse}
 use Rattle.basis.specs.Rows.{joined}
@@ -25,18 +25,26 @@ callRefusal version n i =
 unfoldable pub partRefusal : List ℕ → ℕ → ℕ
 partRefusal s i = orElse (refusalOf s) (callRefusal (version s) (bidderCount s) i)
 
--- the index of the first condition whose owner is i or higher, and the number of conditions where there is none
+-- the index of the first constraint whose owner is i or higher, and the number of constraints where there is none
 unfoldable pub firstFrom : List ℕ → ℕ → ℕ
 firstFrom s i = least (λ k. not (ltb (ownerField s k) i)) (constraintCount s)
 
--- "how many bytes of the sheet stand before the part": it starts with the first condition of bidder i or, "empty if it has none", "just before the first
+-- "how many bytes of the sheet stand before the part": it starts with the first constraint of bidder i or, "empty if it has none", "just before the first
 -- higher owner's, or at the sheet's end"
 unfoldable pub bytesBefore : List ℕ → ℕ → ℕ
 bytesBefore s i = constraintsStart s + 4 * firstFrom s i
 
--- and it ends before the first higher owner's, or at the sheet's end
+-- the four bytes of the constraint at index k, as they stand in the sheet
+unfoldable pub constraintBytes : List ℕ → ℕ → List ℕ
+constraintBytes s k = ownerField s k ∷ ownSlotField s k ∷ otherField s k ∷ otherSlotField s k ∷ []
+
+-- "one bidder's conditions": those with the owner i, one after another in sheet order, wherever they stand
+unfoldable pub constraintsOf : List ℕ → ℕ → List ℕ
+constraintsOf s i = joined (λ k. cond (eqb (ownerField s k) i) (constraintBytes s k) []) (constraintCount s)
+
+-- "the part of the sheet with one bidder's conditions" is as long as these
 unfoldable pub partLength : List ℕ → ℕ → ℕ
-partLength s i = 4 * (firstFrom s (suc i) - firstFrom s i)
+partLength s i = length (constraintsOf s i)
 
 -- where the part is: a refused call's is "the empty part at the sheet's start"
 unfoldable pub boundsFor : ℕ → List ℕ → ℕ → Bounds
@@ -53,14 +61,6 @@ beforeFor (suc k) s i = record { refusal = suc k; bytes = 0 }
 
 unfoldable pub beforeOf : List ℕ → ℕ → Before
 beforeOf s i = beforeFor (partRefusal s i) s i
-
--- the four bytes of the condition at index k, as they stand in the sheet
-unfoldable pub conditionBytes : List ℕ → ℕ → List ℕ
-conditionBytes s k = ownerField s k ∷ ownSlotField s k ∷ otherField s k ∷ otherSlotField s k ∷ []
-
--- "one bidder's conditions": those with the owner i, one after another in sheet order
-unfoldable pub conditionsOf : List ℕ → ℕ → List ℕ
-conditionsOf s i = joined (λ k. cond (eqb (ownerField s k) i) (conditionBytes s k) []) (constraintCount s)
 
 -- What is handed back of a lent sheet: the sheet's own memory, from so many bytes after its start, and so many bytes of it.
 pub record PartOf (sheet part : RefT (List ℕ)) (start size : ℕ) : Type 0 where

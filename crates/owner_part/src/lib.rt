@@ -104,15 +104,10 @@ pub fn part_bounds(sheet: &[u8], bidder: u32) -> Bounds
 pub fn check_part(sheet: &[u8], bidder: u32) -> Before
     ensures { λ r. ⌜ r ≡ beforeOf (now (sheet .entry)) bidder ⌝ }
 {
-    let refusal = refusal_of(sheet, bidder);
-    if refusal != 0 {
-        return Before { refusal, bytes: 0 };
-    }
-    let start = sheet_read::constraints_start(sheet);
-    let first = first_from(sheet, start, sheet_read::constraint_count(sheet), bidder);
+    let found = part_bounds(sheet, bidder);
     Before {
-        refusal: 0,
-        bytes: start + 4 * first,
+        refusal: found.refusal,
+        bytes: found.start,
     }
 }
 

@@ -41,6 +41,7 @@ use Rattle.sheet.specs.Refusal.{
   inRange,
   fieldsRefusal,
   termsRefusal,
+  constraintBelow,
   aboveBefore,
   orderRefusal,
   constraintRefusal,
@@ -48,7 +49,7 @@ use Rattle.sheet.specs.Refusal.{
   Accepted,
 }
 use Rattle.sheet.proofs.HeaderLaws.{start-two, start-other}
-use Rattle.sheet.proofs.OrderLaws.{SmallFields, constraint-below, order-free, order-kept, order-above}
+use Rattle.sheet.proofs.OrderLaws.{SmallFields, constraint-below, order-free, order-kept, order-above, rising-over}
 use Rattle.sheet.specs.Accepted.{Form, Counts, EffectAccepted, BidAccepted, ConstraintAccepted, orderNumber, AcceptedSheet}
 
 -- 1 to 3, and 1 again
@@ -292,7 +293,7 @@ unfolding termsRefusal
 terms-back s k f = fields-back (bidderCount s) (slotCount s) (ownerField s k) (ownSlotField s k) (otherField s k) (otherSlotField s k) f
 
 -- 28: the fields of an accepted condition are small, so that its place in the order is that of its number
-pub small-fields : (s : List ℕ) (k : ℕ) → Counts s →
+small-fields : (s : List ℕ) (k : ℕ) → Counts s →
     ConstraintAccepted (bidderCount s) (slotCount s) (ownerField s k) (ownSlotField s k) (otherField s k) (otherSlotField s k) → SmallFields s k
 small-fields s k c f =
     let n = c .most-bidders in
@@ -359,6 +360,14 @@ accepted-sheet s e =
       constraints = λ k l. terms-of s k (none k l .0);
       rising = λ v k l. rising-of s k (small k (omega arith)) (small (suc k) l) v (none (suc k) l .1);
     }
+
+-- in version 2 each condition is above every one before it
+pub constraints-rise : (s : List ℕ) → AcceptedSheet s → version s ≡ 2 → (j k : ℕ) → j < k → k < constraintCount s → constraintBelow s j k ≡ true
+constraints-rise s facts two j k l m =
+    constraint-below s j k
+    (small-fields s j (facts .counts) (facts .constraints j (omega arith)))
+    (small-fields s k (facts .counts) (facts .constraints k m))
+    ∙ lt-ltb (orderNumber s j) (orderNumber s k) (rising-over (orderNumber s) (constraintCount s) (facts .rising two) j k l m)
 
 -- and a sheet with the facts is accepted.
 pub sheet-accepted : (s : List ℕ) → AcceptedSheet s → Accepted s

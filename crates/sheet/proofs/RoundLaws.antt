@@ -1,8 +1,9 @@
 -- An accepted sheet's round has all that the laws ask of a round. Assumes nothing.
 use Prim.Native.Nat.{ℕ, zero, suc, _%_, _<_, _≤_}
+use mathlib.Core.Bool.{true}
 use mathlib.Core.List.{List}
 use mathlib.Core.Logic.{_⊎_, ⊎-elim}
-use mathlib.Core.Path.{_≡_, refl, sym, _∙_, ap, subst}
+use mathlib.Core.Path.{_≡_, refl, sym, _∙_, ap, ap₂, subst}
 use native.Mathlib.Nat.{not-suc-le-zero, zero-mod}
 use native.Mathlib.Omega.{arith}
 use Rattle.basis.proofs.RowLaws.{length-padded, getD-padded, getD-padded-after}
@@ -20,12 +21,11 @@ use Rattle.sheet.specs.Sheet.{
   otherField,
   otherSlotField,
 }
-use Rattle.sheet.specs.Refusal.{Accepted}
-use Rattle.sheet.specs.Round.{kindOf, constraintField, blank, roundOf, bidOf, effectOf, constraintAt, Has, SheetHas}
-use Rattle.sheet.proofs.AcceptedLaws.{accepted-sheet}
-use Rattle.sheet.proofs.OrderLaws.{rising-over}
-use Rattle.sheet.specs.Accepted.{ConstraintAccepted, fieldsNumber, orderNumber, AcceptedSheet}
-use Rattle.sheet.specs.Proper.{ProperKind, Proper, kindNumber, constraintNumber, ProperRound}
+use Rattle.sheet.specs.Refusal.{constraintBelow, Accepted}
+use Rattle.sheet.specs.Round.{kindOf, constraintField, writtenOwn, writtenOther, writtenOthers, standsBelow, blank, roundOf, bidOf, effectOf, constraintAt, Has, SheetHas}
+use Rattle.sheet.proofs.AcceptedLaws.{accepted-sheet, constraints-rise}
+use Rattle.sheet.specs.Accepted.{ConstraintAccepted, AcceptedSheet}
+use Rattle.sheet.specs.Proper.{ProperKind, Proper, ProperRound}
 use Rattle.basis.proofs.NumberLaws.{below-or-not}
 
 proper-kind : (n m owner own other others : ℕ) → n ≤ 64 → m ≤ 16 → ConstraintAccepted n m owner own other others →
@@ -50,13 +50,13 @@ proper-kind n m owner (suc own) (suc other) others x y a = (
   (let h = a .most-own in omega arith),
 )
 
--- the number of a constraint in the round is that of its fields
-kind-number : (n m owner own other others : ℕ) → ConstraintAccepted n m owner own other others →
-    kindNumber owner (kindOf own other others) ≡ fieldsNumber owner own other others
-unfolding kindOf
-kind-number n m owner own zero others a = let none = a .together refl in omega arith
-kind-number n m owner zero (suc other) others a = refl
-kind-number n m owner (suc own) (suc other) others a = refl
+-- a constraint of the round is written with its fields of the sheet
+written-fields : (n m owner own other others : ℕ) → ConstraintAccepted n m owner own other others →
+    (writtenOwn (kindOf own other others) ≡ own) × ((writtenOther (kindOf own other others) ≡ other) × (writtenOthers (kindOf own other others) ≡ others))
+unfolding kindOf writtenOwn writtenOther writtenOthers
+written-fields n m owner own zero others a = (refl, (refl, sym (a .together refl)))
+written-fields n m owner zero (suc other) others a = (refl, (refl, refl))
+written-fields n m owner (suc own) (suc other) others a = (refl, (refl, refl))
 
 -- the round's counts, its tick and its version are the sheet's
 pub round-bidders : (s : List ℕ) → roundOf s .bidders ≡ bidderCount s
@@ -157,20 +157,14 @@ module _ (s : List ℕ) (ok : Accepted s) where
             (facts .counts .most-bidders) (facts .counts .most-slots) a;
       }
 
-  round-number : (i : ℕ) → i < constraintCount s → constraintNumber (constraintAt (roundOf s) i) ≡ orderNumber s i
-  unfolding constraintNumber constraintField orderNumber
-  round-number i l =
-      ap constraintNumber (round-constraint i l)
-      ∙ kind-number (bidderCount s) (slotCount s) (ownerField s i) (ownSlotField s i) (otherField s i) (otherSlotField s i) (facts .constraints i l)
-
   -- in version 2 the constraints rise
-  numbers-rise : version s ≡ 2 → (i j : ℕ) → i < j → j < constraintCount s →
-      constraintNumber (constraintAt (roundOf s) i) < constraintNumber (constraintAt (roundOf s) j)
-  numbers-rise v i j l m =
-      let e = round-number i (omega arith) in
-      let e′ = round-number j m in
-      let h = rising-over (orderNumber s) (constraintCount s) (facts .rising v) i j l m in
-      omega arith
+  constraints-in-order : version s ≡ 2 → (i j : ℕ) → i < j → j < constraintCount s → standsBelow (constraintAt (roundOf s) i) (constraintAt (roundOf s) j) ≡ true
+  unfolding standsBelow constraintField constraintBelow
+  constraints-in-order v i j l m =
+      let here = written-fields (bidderCount s) (slotCount s) (ownerField s i) (ownSlotField s i) (otherField s i) (otherSlotField s i) (facts .constraints i (omega arith)) in
+      let there = written-fields (bidderCount s) (slotCount s) (ownerField s j) (ownSlotField s j) (otherField s j) (otherSlotField s j) (facts .constraints j m) in
+      ap₂ standsBelow (round-constraint i (omega arith)) (round-constraint j m)
+      ∙ rw (here .0, here .1 .0, here .1 .1, there .0, there .1 .0, there .1 .1) (constraints-rise s facts v i j l m)
 
   pub round-proper : ProperRound (roundOf s)
   unfolding roundOf
@@ -181,6 +175,7 @@ module _ (s : List ℕ) (ok : Accepted s) where
         some-slots = facts .counts .some-slots;
         most-slots = facts .counts .most-slots;
         most-used = facts .counts .most-constraints;
+        known-version = facts .form .known;
         some-tick = facts .counts .some-tick;
         most-tick = facts .counts .most-tick;
         sized-effects = length-padded (λ k. effectField s (suc k)) (slotCount s) 16 0 (facts .counts .most-slots);
@@ -191,7 +186,7 @@ module _ (s : List ℕ) (ok : Accepted s) where
         most-effect = low-effect;
         no-rise = effects-fall;
         proper = λ q h. subst Proper (sym (round-constraint (h .0) (h .1)) ∙ h .2) (field-proper (h .0) (h .1));
-        rising = numbers-rise;
+        rising = constraints-in-order;
       }
 
   -- what the sheet has is what its round has

@@ -66,7 +66,7 @@ pub record ConstraintAccepted (n m owner own other others : ℕ) : Type 0 where
   pub together-back : others ≡ 0 → other ≡ 0
   pub not-empty : own ≡ 0 → other ≡ 0 → ⊥
 
--- a condition's four fields as one number, the owner first: where each is below 256, the order of the conditions is that of their numbers
+-- a condition's four fields as one number, the owner first: where each is below 256, the order of the conditions is that of these numbers
 -- (proofs/OrderLaws.antt)
 abbrev pub fieldsNumber : (owner own other others : ℕ) → ℕ
 fieldsNumber owner own other others = 16777216 * owner + 65536 * own + 256 * other + others

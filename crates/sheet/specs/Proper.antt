@@ -1,14 +1,15 @@
 -- The laws' own: proved from the definitions, and nothing here need be believed.
 -- What an accepted round is known to satisfy, for every crate above to cite.
 use Prim.Native.Nat.{ℕ, suc, _%_, _<_, _≤_}
+use mathlib.Core.Bool.{true}
+use mathlib.Core.Logic.{_⊎_}
 use mathlib.Core.Path.{_≡_}
 use lib.ListN.{length}
 use Rattle.sheet.specs.declared.Kind.{Kind}
 use Rattle.sheet.specs.declared.Kind.the-variants.{OwnSlot, OtherSlot, Pair}
 use Rattle.sheet.specs.declared.Constraint.{Constraint}
 use Rattle.sheet.specs.declared.Round.{Round}
-use Rattle.sheet.specs.Round.{bidOf, effectOf, constraintAt, Has}
-use Rattle.sheet.specs.Accepted.{fieldsNumber}
+use Rattle.sheet.specs.Round.{standsBelow, bidOf, effectOf, constraintAt, Has}
 
 -- a constraint's slots are slots of a page, and its other is a bidder and not the owner
 abbrev pub ProperKind : ℕ → Kind → Type 0
@@ -23,21 +24,13 @@ pub record Proper (q : Constraint) : Type 0 where
   pub in-range : q .owner .0 ≤ 64
   pub parts : ProperKind (q .owner .0) (q .kind)
 
--- the four fields that a constraint is written with, as one number: the order of version 2 is that of these numbers
-abbrev pub kindNumber : ℕ → Kind → ℕ
-kindNumber owner (OwnSlot k) = fieldsNumber owner (k .0) 0 0
-kindNumber owner (OtherSlot j l) = fieldsNumber owner 0 (j .0) (l .0)
-kindNumber owner (Pair k j l) = fieldsNumber owner (k .0) (j .0) (l .0)
-
-unfoldable pub constraintNumber : Constraint → ℕ
-constraintNumber q = kindNumber (q .owner .0) (q .kind)
-
 pub record ProperRound (r : Round) : Type 0 where
   pub some-bidders : 0 < r .bidders
   pub most-bidders : r .bidders ≤ 64
   pub some-slots : 0 < r .slots
   pub most-slots : r .slots ≤ 16
   pub most-used : r .used ≤ 1024
+  pub known-version : (r .version ≡ 1) ⊎ (r .version ≡ 2)
   pub some-tick : 0 < r .tick
   pub most-tick : r .tick ≤ 1_000_000_000
   pub sized-effects : length (r .effects) ≡ 16
@@ -49,4 +42,4 @@ pub record ProperRound (r : Round) : Type 0 where
   pub no-rise : (k : ℕ) → 0 < k → effectOf r (suc k) ≤ effectOf r k
   pub proper : (q : Constraint) → Has r q → Proper q
   -- "The stated order becomes part of what an accepted version 2 round is known to satisfy."
-  pub rising : r .version ≡ 2 → (i j : ℕ) → i < j → j < r .used → constraintNumber (constraintAt r i) < constraintNumber (constraintAt r j)
+  pub rising : r .version ≡ 2 → (i j : ℕ) → i < j → j < r .used → standsBelow (constraintAt r i) (constraintAt r j) ≡ true

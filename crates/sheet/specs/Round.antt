@@ -1,5 +1,6 @@
 -- The round that a sheet's bytes say, in the types of the source.
 use Prim.Native.Nat.{ℕ, zero, suc, _<_}
+use mathlib.Core.Bool.{Bool}
 use mathlib.Core.List.{List}
 use mathlib.Core.Path.{_≡_}
 use lib.ListN.{getD}
@@ -17,6 +18,7 @@ use Rattle.sheet.specs.Sheet.{
   otherField,
   otherSlotField,
 }
+use Rattle.sheet.specs.Refusal.{fieldsBelow}
 use Rattle.sheet.specs.declared.Bidder.{Bidder}
 use Rattle.sheet.specs.declared.Slot.{Slot}
 use Rattle.sheet.specs.declared.Kind.{Kind}
@@ -41,6 +43,29 @@ kindOf (suc own) (suc other) others = Pair (slot (suc own)) (bidder (suc other))
 unfoldable pub constraintField : List ℕ → ℕ → Constraint
 constraintField s k =
     record { owner = bidder (ownerField s k); kind = kindOf (ownSlotField s k) (otherField s k) (otherSlotField s k) }
+
+-- the own place, other bidder and other's place that a constraint of a kind is written with, 0 for any and for none
+unfoldable pub writtenOwn : Kind → ℕ
+writtenOwn (OwnSlot k) = k .0
+writtenOwn (OtherSlot j l) = 0
+writtenOwn (Pair k j l) = k .0
+
+unfoldable pub writtenOther : Kind → ℕ
+writtenOther (OwnSlot k) = 0
+writtenOther (OtherSlot j l) = j .0
+writtenOther (Pair k j l) = j .0
+
+unfoldable pub writtenOthers : Kind → ℕ
+writtenOthers (OwnSlot k) = 0
+writtenOthers (OtherSlot j l) = l .0
+writtenOthers (Pair k j l) = l .0
+
+-- of two constraints the first stands below the second in the order of "owner, own place, other bidder, other's place"
+unfoldable pub standsBelow : Constraint → Constraint → Bool
+standsBelow q r =
+    fieldsBelow
+    (q .owner .0) (writtenOwn (q .kind)) (writtenOther (q .kind)) (writtenOthers (q .kind))
+    (r .owner .0) (writtenOwn (r .kind)) (writtenOther (r .kind)) (writtenOthers (r .kind))
 
 -- "unused ones blank"
 abbrev pub blank : Constraint

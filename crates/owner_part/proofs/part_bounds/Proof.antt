@@ -7,8 +7,9 @@ use native.Mathlib.Omega.{arith}
 use borrow.Author.Needs.{needs}
 use Rattle.sheet.proofs.HeaderLaws.{start-most}
 use Rattle.sheet_read.proofs.RoomLaws.{room}
-use Rattle.owner_part.specs.OwnerPart.{partRefusal, firstFrom, bytesBefore, partLength}
+use Rattle.owner_part.specs.OwnerPart.{partRefusal, firstFrom, bytesBefore}
 use Rattle.owner_part.proofs.OwnerLaws.{first-no-later}
+use Rattle.owner_part.proofs.HeldLaws.{part-bytes}
 use Rattle.owner_part.proofs.CallLaws.{Answered, answered, refused-bounds, given-bounds}
 use Rattle.owner_part.proofs.part_bounds.Statement.{statement}
 use Rattle.owner_part.proofs.part_bounds.Tie as tie
@@ -65,11 +66,12 @@ bounds-between-requires c κs =
     (omega arith, in-order c, omega arith)
 
 returns-2 : tie.Need-returns-2
-unfolding bytesBefore partLength
+unfolding bytesBefore
 returns-2 c =
     let first = c .before .before .first-from .ensures .0 in
     let stands = ap₂ (λ (a b : ℕ). a + 4 * b) (c .before .before .before .before .constraints-start .ensures) first in
-    let size = ap₂ (λ (a b : ℕ). 4 * (a - b)) (end-is (c .before)) first in
+    let k = known (c .before .before .before .before .before) in
+    let size = ap₂ (λ (a b : ℕ). 4 * (a - b)) (end-is (c .before)) first ∙ sym (part-bytes _ (k .accepted) (k .two) _) in
     c .bounds-between .ensures
     ∙ ap₂ (λ (a b : ℕ). record { refusal = 0; start = a; length = b }) stands size
     ∙ sym (given-bounds _ _ (unrefused (c .before .before .before .before .before)))

@@ -7,8 +7,8 @@ use mathlib.Core.List.{List, [], _∷_, _++_, append-nil}
 use mathlib.Core.Path.{_≡_, refl, sym, _∙_, ap, ap₂}
 use native.Mathlib.Omega.{arith}
 use lib.Dec.{eqb}
-use lib.ListN.{length, take, drop}
-use lib.Seq.{drop-cons, drop-drop, take-add}
+use lib.ListN.{length, take, drop, length-drop}
+use lib.Seq.{drop-cons, drop-drop, take-add, length-take-le}
 use Rattle.basis.specs.Bytes.{byteAt}
 use Rattle.basis.specs.Rows.{joined}
 use Rattle.sheet.specs.Sheet.{
@@ -22,18 +22,18 @@ use Rattle.sheet.specs.Sheet.{
 }
 use Rattle.sheet.specs.Refusal.{Accepted}
 use Rattle.sheet.proofs.AcceptedLaws.{accepted-sheet}
-use Rattle.owner_part.specs.OwnerPart.{firstFrom, bytesBefore, partLength, conditionBytes, conditionsOf}
+use Rattle.owner_part.specs.OwnerPart.{firstFrom, bytesBefore, partLength, constraintBytes, constraintsOf}
 use Rattle.owner_part.proofs.OwnerLaws.{first-at-most, before-first, from-first, first-no-later}
 
 -- what each condition adds to the conditions of i
 abbrev adds : List ℕ → ℕ → ℕ → List ℕ
-adds s i k = cond (eqb (ownerField s k) i) (conditionBytes s k) []
+adds s i k = cond (eqb (ownerField s k) i) (constraintBytes s k) []
 
-own-adds : (s : List ℕ) (i k : ℕ) → ownerField s k ≡ i → adds s i k ≡ conditionBytes s k
-own-adds s i k e = ap (λ (t : Bool). cond t (conditionBytes s k) []) (eq-eqb (ownerField s k) i e)
+own-adds : (s : List ℕ) (i k : ℕ) → ownerField s k ≡ i → adds s i k ≡ constraintBytes s k
+own-adds s i k e = ap (λ (t : Bool). cond t (constraintBytes s k) []) (eq-eqb (ownerField s k) i e)
 
 other-adds : (s : List ℕ) (i k : ℕ) → (ownerField s k ≡ i → ⊥) → adds s i k ≡ []
-other-adds s i k h = ap (λ (t : Bool). cond t (conditionBytes s k) []) (ne-eqb (ownerField s k) i h)
+other-adds s i k h = ap (λ (t : Bool). cond t (constraintBytes s k) []) (ne-eqb (ownerField s k) i h)
 
 append-none : (xs ys : List ℕ) → ys ≡ [] → xs ++ ys ≡ xs
 append-none xs ys e = ap (λ (l : List ℕ). xs ++ l) e ∙ append-nil xs
@@ -66,9 +66,9 @@ module _ (s : List ℕ) (ok : Accepted s) where
   within : (k : ℕ) → k < constraintCount s → constraintsStart s + 4 * k + 4 ≤ length s
   within k l = let whole = accepted-sheet s ok .counts .whole in omega arith
 
-  condition-stands : (k : ℕ) → k < constraintCount s → take 4 (drop (constraintsStart s + 4 * k) s) ≡ conditionBytes s k
-  unfolding conditionBytes ownerField ownSlotField otherField otherSlotField
-  condition-stands k l = four s (constraintsStart s + 4 * k) (within k l)
+  constraint-stands : (k : ℕ) → k < constraintCount s → take 4 (drop (constraintsStart s + 4 * k) s) ≡ constraintBytes s k
+  unfolding constraintBytes ownerField ownSlotField otherField otherSlotField
+  constraint-stands k l = four s (constraintsStart s + 4 * k) (within k l)
 
   -- d conditions of i from index a on, with none before them
   stretch : (i a d : ℕ) → a + d ≤ constraintCount s → ((k : ℕ) → k < a → ownerField s k ≡ i → ⊥) → ((k : ℕ) → a ≤ k → k < a + d → ownerField s k ≡ i) →
@@ -86,31 +86,50 @@ module _ (s : List ℕ) (ok : Accepted s) where
       ∙ ap₂ _++_
       (stretch i a d (omega arith) none (λ k l m. all k l (omega arith)))
       (own-adds s i (a + d) (all (a + d) (omega arith) (omega arith))
-      ∙ sym (condition-stands (a + d) (omega arith))
+      ∙ sym (constraint-stands (a + d) (omega arith))
       ∙ ap (λ (n : ℕ). take 4 (drop n s)) (sym place)
       ∙ ap (take 4) (sym (drop-drop (4 * d) start s)))
       ∙ sym (take-add (4 * d) 4 (drop start s))
       ∙ ap (λ (n : ℕ). take n (drop start s)) (sym size)
 
-  -- so the part is the bidder's conditions
-  pub part-holds : version s ≡ 2 → (i : ℕ) → take (partLength s i) (drop (bytesBefore s i) s) ≡ conditionsOf s i
-  unfolding partLength bytesBefore conditionsOf
-  part-holds two i =
-      let a = firstFrom s i in
-      let b = firstFrom s (suc i) in
-      let c = constraintCount s in
-      let order = first-no-later s ok two i in
-      let most = first-at-most s (suc i) in
-      let up-to-b : a + (b - a) ≡ b = omega arith in
-      let up-to-c : b + (c - b) ≡ c = omega arith in
-      sym
-      (ap (joined (adds s i)) (sym up-to-c)
-      ∙ joined-no-more (adds s i) b (c - b)
-      (λ k l m. other-adds s i k (λ e. let h = from-first s ok two (suc i) k l (omega arith) in absurd (omega arith)))
-      ∙ ap (joined (adds s i)) (sym up-to-b)
-      ∙ stretch i a (b - a) (omega arith)
-      (λ k l e. let h = before-first s i k l in absurd (omega arith))
-      (λ k l m.
-      let low = from-first s ok two i k l (omega arith) in
-      let high = before-first s (suc i) k (omega arith) in
-      omega arith))
+  -- so the bytes from the first constraint of i or a higher owner to the first of a higher one are the bidder's constraints,
+  module _ (two : version s ≡ 2) (i : ℕ) where
+    bytes : ℕ
+    bytes = 4 * (firstFrom s (suc i) - firstFrom s i)
+
+    held : take bytes (drop (bytesBefore s i) s) ≡ constraintsOf s i
+    unfolding bytesBefore constraintsOf bytes
+    held =
+        let a = firstFrom s i in
+        let b = firstFrom s (suc i) in
+        let c = constraintCount s in
+        let order = first-no-later s ok two i in
+        let most = first-at-most s (suc i) in
+        let up-to-b : a + (b - a) ≡ b = omega arith in
+        let up-to-c : b + (c - b) ≡ c = omega arith in
+        sym
+        (ap (joined (adds s i)) (sym up-to-c)
+        ∙ joined-no-more (adds s i) b (c - b)
+        (λ k l m. other-adds s i k (λ e. let h = from-first s ok two (suc i) k l (omega arith) in absurd (omega arith)))
+        ∙ ap (joined (adds s i)) (sym up-to-b)
+        ∙ stretch i a (b - a) (omega arith)
+        (λ k l e. let h = before-first s i k l in absurd (omega arith))
+        (λ k l m.
+        let low = from-first s ok two i k l (omega arith) in
+        let high = before-first s (suc i) k (omega arith) in
+        omega arith))
+
+    -- which are as many as there are of them,
+    pub part-bytes : partLength s i ≡ 4 * (firstFrom s (suc i) - firstFrom s i)
+    unfolding partLength bytesBefore bytes
+    part-bytes =
+        let order = first-no-later s ok two i in
+        let most = first-at-most s (suc i) in
+        let whole = accepted-sheet s ok .counts .whole in
+        let rest = length-drop (constraintsStart s + 4 * firstFrom s i) s in
+        sym (ap length held) ∙ length-take-le (4 * (firstFrom s (suc i) - firstFrom s i)) (drop (constraintsStart s + 4 * firstFrom s i) s) (omega arith)
+
+    -- and the part holds just these
+    pub part-holds : take (partLength s i) (drop (bytesBefore s i) s) ≡ constraintsOf s i
+    unfolding bytes
+    part-holds = ap (λ (n : ℕ). take n (drop (bytesBefore s i) s)) part-bytes ∙ held
