@@ -15,8 +15,8 @@ use Rattle.basis.specs.Rows.{row}
 use Rattle.sheet.specs.declared.Page.{Page}
 use Rattle.sheet.specs.declared.Round.{Round}
 use Rattle.sheet.specs.Sheet.{version, bidderCount, slotCount, constraintCount, constraintsStart, tickField, bidField, ownerField}
-use Rattle.sheet.specs.Refusal.{constraintBelow, termsRefusal, constraintRefusal, refusalOf, Accepted}
-use Rattle.sheet.specs.Round.{roundOf}
+use Rattle.sheet.specs.Refusal.{constraintBelow, aboveBefore, termsRefusal, constraintRefusal, refusalOf, Accepted}
+use Rattle.sheet.specs.Round.{standsBelow, roundOf, constraintAt}
 use Rattle.auction.specs.declared.Eligibility.{Eligibility}
 use Rattle.auction.specs.declared.Eligibility.the-variants.{Eligible, Placed, EarlierWinners, Own}
 use Rattle.auction.specs.Page.{at, put, placed}
@@ -34,7 +34,8 @@ use Rattle.best_page.specs.Best.{Best}
 use Rattle.best_page.specs.BestPage.{bestPage}
 use Rattle.best_search.specs.Call.{bestRefusal, bestBuffer}
 use Rattle.honesty.specs.Honesty.{DifferOnlyInList}
-use Rattle.owner_part.specs.OwnerPart.{partRefusal, bytesBefore, partLength, beforeOf, conditionsOf, PartHanded}
+use Rattle.owner_part.specs.declared.Before.{Before}
+use Rattle.owner_part.specs.OwnerPart.{partRefusal, bytesBefore, constraintsOf, partLength, beforeOf, PartHanded}
 use Rattle.pas.specs.Calls.{yesNumber, DownwardGiven, GainGiven, BestPageGiven, PartGiven}
 
 -- DEMAND 1. "Every sheet or call that breaks a rule gets the first number that applies, and no lent byte changes; every other gets its full
@@ -170,7 +171,9 @@ pub record RequestFour : Type 0 where
 -- REQUEST S-5. "In version 2 the conditions stand in strictly rising order of owner, own place, other bidder, other's place; version 1 stays free. A new
 -- call hands back the part of the sheet with one bidder's conditions, which is empty if it has none and then stands just before the first higher owner's,
 -- or at the sheet's end. A refused call hands back the empty part at the sheet's start, and a call that only checks gives the number, or else how many
--- bytes of the sheet stand before the part."
+-- bytes of the sheet stand before the part. The stated order becomes part of what an accepted version 2 round is known to satisfy. Turned away: 28 for a
+-- version 2 condition not above the one before, tested for each condition after its 13 and counted in 14; 29 where either call gets a version 1 sheet that
+-- is otherwise accepted, before 16."
 
 -- What the call (`part`, owner_part/src/lib.rt) hands back of a lent sheet, which is a reference: `ptr` says where its bytes stand in memory (the block and
 -- the byte of it), `now` what they are. The part is in the sheet's own memory. A refused call's is empty and at the sheet's start. Any other starts
@@ -179,7 +182,7 @@ pub record HandedRight (sheet part : RefT (List ℕ)) (i : ℕ) : Type 0 where
   pub own-memory : part .ptr .0 ≡ sheet .ptr .0
   pub refused : (partRefusal (sheet .now) i ≡ 0 → ⊥) → (part .ptr .1 ≡ sheet .ptr .1) × (part .now ≡ [])
   pub stands : partRefusal (sheet .now) i ≡ 0 → part .ptr .1 ≡ sheet .ptr .1 + bytesBefore (sheet .now) i
-  pub conditions : partRefusal (sheet .now) i ≡ 0 → part .now ≡ conditionsOf (sheet .now) i
+  pub conditions : partRefusal (sheet .now) i ≡ 0 → part .now ≡ constraintsOf (sheet .now) i
 
 -- Where a part starts: with the first condition whose owner is i or, where i has none, just before the first of a higher owner; or at the sheet's end.
 -- Every condition before it has a lower owner.
@@ -189,21 +192,39 @@ pub record StartsRight (s : List ℕ) (i : ℕ) : Type 0 where
   pub lower : (k : ℕ) → k < index → ownerField s k < i
   pub here : ((index ≡ constraintCount s) × (bytesBefore s i ≡ length s)) ⊎ ((index < constraintCount s) × (i ≤ ownerField s index))
 
+-- What the call that only checks (`check_part`) answers: the number, or else how many bytes of the sheet stand before the part; 0 bytes beside a number.
+pub record CheckedRight (s : List ℕ) (i : ℕ) (answer : Before) : Type 0 where
+  pub first-number : answer .refusal ≡ partRefusal s i
+  pub answered : partRefusal s i ≡ 0 → answer .bytes ≡ bytesBefore s i
+  pub refused : (partRefusal s i ≡ 0 → ⊥) → answer .bytes ≡ 0
+
+-- What pas_owner_part says of a part: it lies within the sheet, and its bytes are the bidder's conditions.
+pub record PointedRight (s : List ℕ) (i start size : ℕ) : Type 0 where
+  pub within : start + size ≤ length s
+  pub conditions : take size (drop start s) ≡ constraintsOf s i
+
 pub record RequestFive : Type 0 where
-  -- in an accepted sheet of version 2 each condition is above every one before it
+  -- in an accepted sheet of version 2 each condition is above every one before it, and so is each constraint of its round
   pub in-order : (s : List ℕ) → Accepted s → version s ≡ 2 → (j k : ℕ) → j < k → k < constraintCount s → constraintBelow s j k ≡ true
+  pub round-in-order : (s : List ℕ) → Accepted s → roundOf s .version ≡ 2 → (j k : ℕ) → j < k → k < roundOf s .used →
+      standsBelow (constraintAt (roundOf s) j) (constraintAt (roundOf s) k) ≡ true
   -- "version 1 stays free": its conditions have the numbers 10 to 13 alone
   pub free : (s : List ℕ) → version s ≡ 1 → (k : ℕ) → constraintRefusal s k ≡ termsRefusal s k
-  -- the part that is handed back
+  -- 28 for a condition of version 2 that is not above the one before; "after its 13", so one that breaks 10 to 13 has that number. (14 counts it:
+  -- `truth-refused` above is for a truth sheet that breaks any rule.)
+  pub twenty-eight : (s : List ℕ) (k : ℕ) → version s ≡ 2 → termsRefusal s k ≡ 0 → Exactly (constraintRefusal s k ≡ 28) (aboveBefore s k ≡ false)
+  pub after-thirteen : (s : List ℕ) (k : ℕ) → (termsRefusal s k ≡ 0 → ⊥) → constraintRefusal s k ≡ termsRefusal s k
+  -- the part that is handed back, and where it starts
   pub part : (sheet part : RefT (List ℕ)) (i : ℕ) → PartHanded sheet i part → HandedRight sheet part i
   pub starts : (s : List ℕ) (i : ℕ) → partRefusal s i ≡ 0 → StartsRight s i
-  -- it is empty if the bidder has no conditions
-  pub empty : (s : List ℕ) (i : ℕ) → partRefusal s i ≡ 0 → ((k : ℕ) → k < constraintCount s → ownerField s k ≡ i → ⊥) → partLength s i ≡ 0
-  -- the call that only checks (`check_part`)
-  pub checks : (s : List ℕ) (i : ℕ) →
-      Owed (beforeOf s i .refusal) (partRefusal s i) (beforeOf s i .bytes ≡ 0) (beforeOf s i .bytes ≡ bytesBefore s i)
-  -- pas_owner_part: the bytes that it points at are the bidder's conditions
-  pub edge : (s : List ℕ) (i start size start′ size′ : ℕ) → PartGiven s i start size 0 start′ size′ → take size′ (drop start′ s) ≡ conditionsOf s i
-  -- "29 where either call gets a version 1 sheet that is otherwise accepted, before 16"
+  -- "which is empty if it has none"
+  pub empty : (s : List ℕ) (i : ℕ) → ((k : ℕ) → k < constraintCount s → ownerField s k ≡ i → ⊥) → constraintsOf s i ≡ []
+  -- the call that only checks
+  pub checks : (s : List ℕ) (i : ℕ) (answer : Before) → answer ≡ beforeOf s i → CheckedRight s i answer
+  -- pas_owner_part, where it is not refused
+  pub edge : (s : List ℕ) (i start size start′ size′ : ℕ) → PartGiven s i start size 0 start′ size′ → PointedRight s i start′ size′
+  -- the calls' numbers: the sheet's first, then 29 for version 1, then 16 for a bidder that the sheet has not, and none for any other
+  pub sheet-first : (s : List ℕ) (i : ℕ) → (refusalOf s ≡ 0 → ⊥) → partRefusal s i ≡ refusalOf s
   pub twenty-nine : (s : List ℕ) (i : ℕ) → Accepted s → version s ≡ 1 → partRefusal s i ≡ 29
-  pub sixteen : (s : List ℕ) (i : ℕ) → Accepted s → version s ≡ 2 → Exactly (partRefusal s i ≡ 16) ((i ≡ 0) ⊎ (bidderCount s < i))
+  pub sixteen : (s : List ℕ) (i : ℕ) → Accepted s → version s ≡ 2 → (i ≡ 0) ⊎ (bidderCount s < i) → partRefusal s i ≡ 16
+  pub answered : (s : List ℕ) (i : ℕ) → Accepted s → version s ≡ 2 → 0 < i → i ≤ bidderCount s → partRefusal s i ≡ 0

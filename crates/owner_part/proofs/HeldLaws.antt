@@ -47,6 +47,13 @@ joined-no-more f a (suc d) none =
     ∙ append-none (joined f (a + d)) (f (a + d)) (none (a + d) (omega arith) (omega arith))
     ∙ joined-no-more f a d (λ k l m. none k l (omega arith))
 
+-- a bidder that owns none has none
+pub none-of-its-own : (s : List ℕ) (i : ℕ) → ((k : ℕ) → k < constraintCount s → ownerField s k ≡ i → ⊥) → constraintsOf s i ≡ []
+unfolding constraintsOf joined
+none-of-its-own s i nowhere =
+    ap (joined (adds s i)) (let e : constraintCount s ≡ 0 + constraintCount s = omega arith in e)
+    ∙ joined-no-more (adds s i) 0 (constraintCount s) (λ k l m. other-adds s i k (nowhere k (omega arith)))
+
 -- four bytes from a place within a list
 next : (l : List ℕ) (j i : ℕ) → j ≡ i → i < length l → drop j l ≡ byteAt l i ∷ drop (suc i) l
 next l j i e room = ap (λ (n : ℕ). drop n l) e ∙ drop-cons l i 0 room

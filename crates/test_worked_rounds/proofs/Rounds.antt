@@ -41,7 +41,7 @@ use Rattle.auction.specs.Allowed.{totalUpTo, total}
 use Rattle.best_page.specs.BestPage.{nobodyTwice, isAllowed, keep, eachChoice, tryAll, bestPage}
 use Rattle.best_search.specs.Call.{boundsRefusal, bestRefusal, bestBuffer, chosenFor}
 use Rattle.play.specs.Play.{playRefusal, slotEntry, playedBuffer}
-use Rattle.owner_part.specs.OwnerPart.{callRefusal, partRefusal, firstFrom, bytesBefore, partLength, boundsFor, boundsOf, beforeFor, beforeOf}
+use Rattle.owner_part.specs.OwnerPart.{callRefusal, partRefusal, firstFrom, bytesBefore, constraintBytes, constraintsOf, partLength, boundsFor, boundsOf, beforeFor, beforeOf}
 use Rattle.test_worked_rounds.specs.Sheets.{A, B, C, D, E, F, F-true, F-version-3, F-eight-bytes, F-in-ticks, F-off-tick, F-tick-0, F-twelve-bytes, F-without-tick, G, H, H-longer, earlier-winner, earlier-winner-and-own, placed-and-own, overbid, overbid-barred, tie-in-ticks, lower-number-in-ticks, tick-above-bids, too-high-and-off-tick, H-in-order, owners-two-and-four, equal-neighbours, repeated-in-version-1, own-place-falls, falls-and-names-itself, falls-before-a-fault, falls-after-a-fault, nine-bidders, two-faults}
 use Rattle.test_worked_rounds.specs.Worked.{Worked, lent, givenByPlay, givenByBest, given, entries, rounds, Candidate, givenByStep, candidates, PartAsked, givenByPart, parts}
 
@@ -56,5 +56,5 @@ candidates-hold = refl
 
 -- The parts of single bidders.
 pub parts-hold : map givenByPart parts ≡ map (λ (p : PartAsked). p .said) parts
-unfolding word16At word32At bytes32 firstOver least tickField effectsStart effectField bidField ownerField ownSlotField otherField otherSlotField formRefusal countsRefusal effectRefusal bidRefusal tickRefusal inRange fieldsRefusal termsRefusal fieldsBelow constraintBelow aboveBefore orderRefusal constraintRefusal refusalOf callRefusal partRefusal firstFrom bytesBefore partLength boundsFor boundsOf beforeFor beforeOf words quads countBytes bodyBytes sheetOf sheetInTicks F-in-ticks F-version-3 H H-in-order owners-two-and-four own-place-falls givenByPart parts
+unfolding word16At word32At bytes32 firstOver least tickField effectsStart effectField bidField ownerField ownSlotField otherField otherSlotField formRefusal countsRefusal effectRefusal bidRefusal tickRefusal inRange fieldsRefusal termsRefusal fieldsBelow constraintBelow aboveBefore orderRefusal constraintRefusal refusalOf callRefusal partRefusal firstFrom bytesBefore joined constraintBytes constraintsOf partLength boundsFor boundsOf beforeFor beforeOf words quads countBytes bodyBytes sheetOf sheetInTicks F-in-ticks F-version-3 H H-in-order owners-two-and-four own-place-falls givenByPart parts
 parts-hold = refl
