@@ -296,7 +296,8 @@ uint32_t pas_best(const uint8_t *sheet, size_t sheet_len, uint8_t *result, size_
  * The part of a bidder without conditions is empty, *length 0, and stands just before the first condition of an owner
  * with a higher number or, where there is none, at the sheet's end: *start is sheet_len then.
  *
- * Time: that of pas_check, and besides it a number of steps that grows with the logarithm of c.
+ * Time: that of pas_check, and besides it a number of steps that grows with the logarithm of c. (This is how the search
+ * goes; no time is proved.)
  *
  * Refused with 1 to 13 or 26 to 28, with 29 for a sheet of version 1 that is otherwise accepted, or 16.
  */

@@ -77,7 +77,8 @@ FULL = sheet(
     tick=7,
 )
 
-# The same size again, as it was drawn at random once and put in order; this file is kept and not written.
+# The same size again, drawn at random once, altered by hand so that its last condition decides place 1, and put in order; this file is kept and
+# not written.
 LARGEST = (SHEETS_FOLDER / "largest.pas").read_bytes()
 
 # What each program of the gate reads.

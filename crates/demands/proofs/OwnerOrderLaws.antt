@@ -12,7 +12,6 @@ use lib.ListN.{length, take, drop}
 use denote.Ref.{RefT}
 use Rattle.basis.specs.First.{_when_otherwise_, orElse}
 use Rattle.basis.proofs.FirstLaws.{orElse-left, orElse-right, answered-gives}
-use Rattle.basis.proofs.NumberLaws.{below-or-not}
 use Rattle.basis.proofs.TestLaws.{or-left, or-right}
 use Rattle.sheet.specs.Sheet.{version, bidderCount, constraintCount, ownerField}
 use Rattle.sheet.specs.Refusal.{constraintBelow, aboveBefore, termsRefusal, orderRefusal, constraintRefusal, refusalOf, Accepted}

@@ -16,7 +16,7 @@ pub fn refusal(sheet: &[u8]) -> u32
     requires { ⌜ (formRefusal (now sheet) ≡ 0 → version (now sheet) ≡ 2) ⌝ }
     ensures { λ r. ⌜ r ≡ refusalOf (now (sheet .entry)) ⌝ }
 {
-    // Made anew for the calls, as in `check`.
+    // Made anew for the two calls that are left calls, as in `check`.
     let whole = &sheet[0..];
     let form = form_refusal(sheet);
     if form != 0 {

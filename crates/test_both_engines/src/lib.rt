@@ -1,5 +1,5 @@
 // The library's six calls held against the second engine's, each on the same bytes: the numbers that they return, their answers, and
-// every byte of the buffers that were lent or stand beside what was lent. The program `trials` has the rounds.
+// every byte of the buffers that were lent or stand beside what was lent. The program `test_trials` has the rounds.
 pub mod answers;
 pub mod bytes;
 mod calls;

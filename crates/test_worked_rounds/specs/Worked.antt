@@ -72,7 +72,7 @@ pub record BestLeft : Type 0 where
   pub returned : Chosen
   pub buffer : List ℕ
 
--- what the five calls return, and what they leave in the buffers lent to them
+-- what the five calls of document 01 return, and what they leave in the buffers lent to them
 pub record Said : Type 0 where
   pub check : ℕ
   pub play : Left
@@ -154,7 +154,7 @@ gainsNot k = record { refusal = k; gain = pos 0 }
 abbrev pub findsNot : (k m : ℕ) → BestLeft
 findsNot k m = record { returned = record { refusal = k; total = 0 }; buffer = lent m }
 
--- a sheet, the truth sheet, a bidder, its worth, and the answers of the five calls
+-- a sheet, the truth sheet, a bidder, its worth, and the answers of these five calls
 abbrev pub calls : List ℕ → List ℕ → ℕ → ℕ → ℕ → Left → Tested → Gained → BestLeft → Worked
 calls sheet truth bidder worth check play test gain best =
     record {
