@@ -60,7 +60,11 @@ fn small_shapes(tally: &[u64]) {
     shape_line(tally, b"downward monotonic lists", rounds::DOWNWARD);
     shape_line(tally, b"bidders that bar each other", rounds::EXCLUSIONS);
     shape_line(tally, b"each bidder above the next", rounds::CHAINS);
-    shape_line(tally, b"repeated conditions, which version 1 keeps", rounds::REPEATS);
+    shape_line(
+        tally,
+        b"repeated conditions, which version 1 keeps",
+        rounds::REPEATS,
+    );
 }
 
 fn larger_shapes(tally: &[u64]) {
