@@ -1,10 +1,10 @@
--- Pages of a round, those that break no constraint, and a page's total: what greedy and best pages are held against.
+-- Pages of a round, those that break no constraint and obey the floors, and a page's total: what greedy and best pages are held against.
 use Prim.Native.Nat.{ℕ, zero, suc, _+_, _*_, _<_, _≤_}
 use mathlib.Core.Bool.{false}
 use mathlib.Core.Path.{_≡_}
 use Rattle.sheet.specs.declared.Page.{Page}
 use Rattle.sheet.specs.declared.Round.{Round}
-use Rattle.sheet.specs.Round.{bidOf, effectOf}
+use Rattle.sheet.specs.Round.{bidOf, effectOf, floorOf}
 use Rattle.auction.specs.Page.{at, Sized}
 use Rattle.auction.specs.Broken.{breaks}
 
@@ -15,10 +15,11 @@ pub record PageOf (r : Round) (p : Page) : Type 0 where
   pub slots : (k : ℕ) → r .slots < k → at p k ≡ 0
   pub once : (j k : ℕ) → (at p j ≡ 0 → ⊥) → at p j ≡ at p k → j ≡ k
 
--- a page of the round that breaks no constraint
+-- a page of the round that breaks no constraint, and whose filled slots have a bid at or above their floor
 pub record Allowed (r : Round) (p : Page) : Type 0 where
   pub page : PageOf r p
   pub unbroken : breaks r p ≡ false
+  pub reached : (k : ℕ) → (at p k ≡ 0 → ⊥) → floorOf r k ≤ bidOf r (at p k)
 
 -- "A page's total is the sum of bid × effect over filled places." The bid of nobody, bidder 0, is 0, so an empty slot adds nothing. Slots 1 to k:
 unfoldable pub totalUpTo : Round → Page → ℕ → ℕ

@@ -1,5 +1,5 @@
 -- "The price": "the smallest whole bid from 0 which, written in the sheet for the winner of place k, still wins place k"; with ticks, "the smallest
--- bid that the sheet would accept and that still wins the place".
+-- bid that the sheet would accept and that still wins the place"; a floor counts, since who bids less is not eligible.
 use Prim.Native.Nat.{ℕ, zero, suc}
 use mathlib.Core.Bool.{Bool, _&&_}
 use lib.Dec.{eqb}
@@ -22,6 +22,7 @@ withBid r (suc i) x =
       tick = r .tick;
       version = r .version;
       effects = r .effects;
+      floors = r .floors;
       bids = set (r .bids) i x;
       constraints = r .constraints;
     }

@@ -4,12 +4,13 @@ use Prim.Native.Nat.{ℕ, suc, _+_, _*_, _-_, _^_, _<_, _≤_}
 use mathlib.Core.Bool.{Bool, not, _&&_, _||_}
 use mathlib.Core.List.{List}
 use mathlib.Core.Path.{_≡_}
-use lib.Dec.{eqb, ltb}
+use lib.Dec.{eqb, ltb, leb}
 use lib.ListN.{getD}
 use Rattle.basis.specs.Bits.{bitOf}
 use Rattle.basis.specs.Tests.{anyBelow}
 use Rattle.sheet.specs.declared.Page.{Page}
 use Rattle.sheet.specs.declared.Round.{Round}
+use Rattle.sheet.specs.Round.{bidOf, floorOf}
 use Rattle.auction.specs.Page.{at, put, emptyPage, placed}
 use Rattle.auction.specs.Broken.{breaks}
 use Rattle.best_clash.specs.EngineMarks.{someMarks}
@@ -31,12 +32,16 @@ clashes r p k b =
 unfoldable pub mayStand : Round → Page → ℕ → ℕ → Bool
 mayStand r p k b = not (placed p b) && not (breaks r (put p k b))
 
+-- and its bid reaches the slot's floor
+unfoldable pub mayHave : Round → Page → ℕ → ℕ → Bool
+mayHave r p k b = leb (floorOf r k) (bidOf r b) && mayStand r p k b
+
 -- the word tells, for the slots after the first k and the first eight ranks, who may stand there: the bidders of the ranks below n may or may not, and
 -- no other rank and no slot after the last has a bit
 pub record FreeFor (r : Round) (ranked : List ℕ) (p : Page) (k free : ℕ) : Type 0 where
   pub low : free < 2 ^ (8 * (r .slots - k))
   pub told : (l i : ℕ) → k + l < r .slots → i < 8 →
-      bitOf free (8 * l + i) ≡ (ltb i (r .bidders) && mayStand r p (suc (k + l)) (getD ranked i 0))
+      bitOf free (8 * l + i) ≡ (ltb i (r .bidders) && mayHave r p (suc (k + l)) (getD ranked i 0))
 
 -- the list by bidder number tells each bidder's rank in the list by rank
 pub record RanksOf (n : ℕ) (ranked ranks : List ℕ) : Type 0 where

@@ -4,8 +4,8 @@ use Prim.Native.Nat.{ℕ, _+_, _*_, _-_, _%_, _^_, _<_, _≤_}
 use mathlib.Core.Bool.{Bool, not, _&&_, _||_}
 use mathlib.Core.List.{List}
 use mathlib.Core.Path.{_≡_}
-use lib.Dec.{eqb, ltb}
-use lib.ListN.{getD}
+use lib.Dec.{eqb, ltb, leb}
+use lib.ListN.{length, getD}
 use Rattle.basis.specs.Bits.{bitOf}
 use Rattle.basis.specs.Tests.{anyBelow}
 use Rattle.sheet.specs.declared.Kind.{Kind}
@@ -13,6 +13,7 @@ use Rattle.sheet.specs.declared.Kind.the-variants.{OwnSlot, OtherSlot, Pair}
 use Rattle.sheet.specs.declared.Constraint.{Constraint}
 use Rattle.sheet.specs.declared.Round.{Round}
 use Rattle.sheet.specs.Round.{constraintAt}
+use Rattle.choice.specs.EngineBids.{bidIn}
 
 -- two bidders of at most 8, each at a slot of at most 8
 pub record Entry (b k j l : ℕ) : Type 0 where
@@ -100,7 +101,15 @@ pub record WordsOf (table shut : List ℕ) : Type 0 where
       bitOf (getD shut (8 * k + i) 0) z
       ≡ ((bitOf (getD table (8 * k + i) 0) (8 * k + z) || bitOf (getD table (65 + i) 0) (8 * k + z)) || eqb (z % 8) i)
 
--- the seats of so many bidders and slots that the table does not shut from the start
-pub record LeftBy (table : List ℕ) (bidders slots free : ℕ) : Type 0 where
+-- the list has the bidders 1 to n, in falling order of the bids in another
+pub record RankedBids (bids : List ℕ) (n : ℕ) (ranked : List ℕ) : Type 0 where
+  pub room : n ≤ length ranked
+  pub bidders : (i : ℕ) → i < n → (0 < getD ranked i 0) × (getD ranked i 0 ≤ length bids)
+  pub falls : (i j : ℕ) → i ≤ j → j < n → bidIn bids (getD ranked j 0) ≤ bidIn bids (getD ranked i 0)
+
+-- the seats of so many bidders and slots where the bidder reaches the slot's floor, and that the table does not shut from the start
+pub record LeftBy (table ranked bids floors : List ℕ) (bidders slots free : ℕ) : Type 0 where
   pub low : free < 2 ^ (8 * slots)
-  pub told : (l i : ℕ) → l < 8 → i < 8 → bitOf free (8 * l + i) ≡ ((ltb l slots && ltb i bidders) && not (bitOf (getD table 64 0) (8 * l + i)))
+  pub told : (l i : ℕ) → l < 8 → i < 8 →
+      bitOf free (8 * l + i)
+      ≡ ((ltb l slots && (ltb i bidders && leb (getD floors l 0) (bidIn bids (getD ranked i 0)))) && not (bitOf (getD table 64 0) (8 * l + i)))

@@ -2,13 +2,14 @@
 ghost use mathlib.Core.Bool.{_&&_, _||_};
 ghost use mathlib.Core.Path.{_≡_};
 ghost use Prim.Native.Nat.{ℕ, _+_, _-_, _*_, _%_, _^_, _<_, _≤_};
-ghost use lib.Dec.{eqb, ltb};
+ghost use lib.Dec.{eqb, ltb, leb};
 ghost use lib.ListN.{length, getD};
 ghost use Rattle.basis.specs.Bits.{bitOf};
 ghost use Rattle.sheet.specs.Refusal.{Accepted};
 ghost use Rattle.sheet.specs.Round.{roundOf};
 ghost use Rattle.sheet.specs.Sheet.{bidderCount, slotCount};
-ghost use Rattle.best_clash.specs.EngineMarks.{seatOf, Small, shuts, FilledBy, WordsOf, LeftBy};
+ghost use Rattle.choice.specs.EngineBids.{bidIn};
+ghost use Rattle.best_clash.specs.EngineMarks.{seatOf, Small, shuts, FilledBy, WordsOf, RankedBids, LeftBy};
 use best_seats::Rank;
 use best_seats::Seat;
 use best_seats::Seats;
@@ -153,26 +154,60 @@ pub fn shut_by(shut: &[u64; 64], seat: Seat) -> Seats
     Seats(shut[seat.0 as usize])
 }
 
-// The seats of a round's bidders and slots.
-fn all_seats(bidders: usize, slots: usize) -> Seats
-    requires { ⌜ (bidders ≤ 8) × (slots ≤ 8) ⌝ }
-    ensures { λ r. ⌜ (r .0 < 2 ^ (8 * slots)) × ((l i : ℕ) → l < 8 → i < 8 → bitOf (r .0) (8 * l + i) ≡ (ltb l slots && ltb i bidders)) ⌝ }
+// How many of the first ranks bid at least a floor: bids fall from rank to rank, so these are the first so many.
+fn reaching(ranked: &[u8], bids: &[u32], bidders: usize, floor: u32) -> usize
+    requires { ⌜ (bidders ≤ 8) × RankedBids (now bids) bidders (now ranked) ⌝ }
+    ensures { λ r. ⌜ (r ≤ bidders) × ((i : ℕ) → i < bidders → ltb i r ≡ leb floor (bidIn (now (bids .entry)) (getD (now (ranked .entry)) i 0))) ⌝ }
 {
-    let ranks = best_seats::first_ranks(bidders);
+    if floor == 0 {
+        return bidders;
+    }
+    let mut count = bidders;
+    while count != 0 {
+        let bidder = choice::ranked_at(ranked, count - 1);
+        if floor <= bids[bidder.0 as usize - 1] {
+            return count;
+        }
+        count -= 1;
+    }
+    0
+}
+
+// The seats of a round's bidders and slots where the bidder reaches the slot's floor.
+fn open_seats(ranked: &[u8], bids: &[u32], floors: &[u32], bidders: usize, slots: usize) -> Seats
+    requires { ⌜ (bidders ≤ 8) × (slots ≤ 8) × (slots ≤ length (now floors)) × RankedBids (now bids) bidders (now ranked) ⌝ }
+    ensures { λ r. ⌜ (r .0 < 2 ^ (8 * slots)) × ((l i : ℕ) → l < 8 → i < 8 → bitOf (r .0) (8 * l + i) ≡ (ltb l slots && (ltb i bidders && leb (getD (now (floors .entry)) l 0) (bidIn (now (bids .entry)) (getD (now (ranked .entry)) i 0))))) ⌝ }
+{
     let mut all = Seats(0);
     let mut slot = Slot(1);
     while slot.0 as usize <= slots {
+        let ranks = best_seats::first_ranks(reaching(
+            ranked,
+            bids,
+            bidders,
+            floors[slot.0 as usize - 1],
+        ));
         all = best_seats::either(all, best_seats::at_slot(ranks, slot));
         slot = best_seats::next_slot(slot);
     }
     all
 }
 
-// What is free on an empty page.
-pub fn first_free(table: &[u64; 73], bidders: usize, slots: usize) -> Seats
-    requires { ⌜ (bidders ≤ 8) × (slots ≤ 8) ⌝ }
-    ensures { λ r. ⌜ LeftBy (now (table .entry)) bidders slots (r .0) ⌝ }
+// What is free on an empty page: the open seats that no constraint shuts from the start.
+pub fn first_free(
+    table: &[u64; 73],
+    ranked: &[u8],
+    bids: &[u32],
+    floors: &[u32],
+    bidders: usize,
+    slots: usize,
+) -> Seats
+    requires { ⌜ (bidders ≤ 8) × (slots ≤ 8) × (slots ≤ length (now floors)) × RankedBids (now bids) bidders (now ranked) ⌝ }
+    ensures { λ r. ⌜ LeftBy (now (table .entry)) (now (ranked .entry)) (now (bids .entry)) (now (floors .entry)) bidders slots (r .0) ⌝ }
 {
     let line = always();
-    best_seats::without(all_seats(bidders, slots), Seats(table[line.0 as usize]))
+    best_seats::without(
+        open_seats(ranked, bids, floors, bidders, slots),
+        Seats(table[line.0 as usize]),
+    )
 }

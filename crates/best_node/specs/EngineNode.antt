@@ -9,7 +9,7 @@ use Rattle.basis.specs.Bits.{bitOf}
 use Rattle.sheet.specs.declared.Page.{Page}
 use Rattle.sheet.specs.declared.Round.{Round}
 use Rattle.sheet.specs.Proper.{ProperRound}
-use Rattle.sheet.specs.Round.{bidOf, effectOf}
+use Rattle.sheet.specs.Round.{bidOf, effectOf, floorOf}
 use Rattle.auction.specs.Allowed.{PageOf, totalUpTo}
 use Rattle.auction.specs.Broken.{breaks}
 use Rattle.auction.specs.Page.{at}
@@ -34,12 +34,13 @@ pub record TablesOf (r : Round) (ranked shut gains : List ℕ) : Type 0 where
   pub gains-are : (i k : ℕ) → i < r .bidders → k < 16 → gainIn gains i k ≡ bidOf r (getD ranked i 0) * effectOf r (suc k)
   pub shuts : ShutOf r ranked shut
 
--- slots 1 to k are settled, the later ones are empty, no constraint is broken, and what the settled ones add is known
+-- slots 1 to k are settled, the later ones are empty, no constraint is broken, the floors are reached, and what the settled ones add is known
 pub record Node (r : Round) (p : Page) (k had : ℕ) : Type 0 where
   pub page : PageOf r p
   pub room : k ≤ r .slots
   pub later : (j : ℕ) → k < j → at p j ≡ 0
   pub unbroken : breaks r p ≡ false
+  pub reached : (j : ℕ) → (at p j ≡ 0 → ⊥) → floorOf r j ≤ bidOf r (at p j)
   pub had-is : had ≡ totalUpTo r p k
 
 -- what the rank i at the slot with index k leads to: what is free then, what is had then, and the most that can be had

@@ -6,6 +6,7 @@ use lib.Dec.{eqb, leb}
 use Rattle.basis.specs.Tests.{allBelow}
 use Rattle.sheet.specs.declared.Page.{Page}
 use Rattle.sheet.specs.declared.Round.{Round}
+use Rattle.sheet.specs.Round.{bidOf, floorOf}
 use Rattle.auction.specs.Page.{at, put, emptyPage}
 use Rattle.auction.specs.Broken.{breaks}
 use Rattle.auction.specs.Allowed.{total}
@@ -16,9 +17,13 @@ unfoldable pub nobodyTwice : Page → ℕ → Bool
 nobodyTwice p m =
     allBelow (λ i. allBelow (λ j. (eqb (at p (suc i)) 0 || not (eqb (at p (suc i)) (at p (suc j)))) || eqb i j) m) m
 
--- no bidder twice, and no constraint broken
+-- every filled slot has a bid at or above its floor
+unfoldable pub reachesFloors : Round → Page → Bool
+reachesFloors r p = allBelow (λ k. eqb (at p (suc k)) 0 || leb (floorOf r (suc k)) (bidOf r (at p (suc k)))) (r .slots)
+
+-- no bidder twice, no constraint broken, and every floor reached
 unfoldable pub isAllowed : Round → Page → Bool
-isAllowed r p = nobodyTwice p (r .slots) && not (breaks r p)
+isAllowed r p = (nobodyTwice p (r .slots) && not (breaks r p)) && reachesFloors r p
 
 -- a page is kept where it is allowed and has the total that is needed; then one more is needed
 unfoldable pub keep : Round → Page → Answer → Answer

@@ -6,14 +6,16 @@ ghost use lib.ListN.{length, getD, drop};
 ghost use mathlib.Core.List.{_++_};
 ghost use Rattle.basis.specs.Rows.{row};
 ghost use Rattle.sheet.specs.Refusal.{Accepted};
-ghost use Rattle.sheet.specs.Round.{roundOf};
+ghost use Rattle.sheet.specs.Round.{roundOf, withFloors};
+ghost use Rattle.sheet.specs.Proper.{ProperFloors};
+ghost use Rattle.basis.specs.First.{unlessRefused};
 ghost use Rattle.sheet.specs.Sheet.{bidderCount, slotCount};
 ghost use Rattle.choice.specs.EngineRanking.{InOrder};
 ghost use Rattle.auction.specs.Allowed.{total};
 ghost use Rattle.auction.specs.Page.{at};
 ghost use Rattle.best_page.specs.Best.{Best};
 ghost use Rattle.best_clash.specs.EngineClash.{RanksOf};
-ghost use Rattle.best_search.specs.Call.{BestGiven};
+ghost use Rattle.best_search.specs.Call.{boundsRefusal, bestBuffer, chosenFor, BestGiven, BestFloorsGiven};
 ghost use Rattle.best_search.specs.EngineFound.{Raised, Sought};
 use best_seats::Rank;
 use best_seats::Seats;
@@ -153,10 +155,11 @@ fn search(
     FirstPage { found: false, page }
 }
 
-// The best page of a small round. Bids and effects are read and the constraints gone through once, and no round is made of them.
-fn best_page(sheet: &[u8]) -> BestFound
-    requires { ⌜ Accepted (now sheet) × (bidderCount (now sheet) ≤ 8) × (slotCount (now sheet) ≤ 8) ⌝ }
-    ensures { λ r. ⌜ Best (roundOf (now (sheet .entry))) (r .page) × (r .total ≡ total (roundOf (now (sheet .entry))) (r .page)) ⌝ }
+// The best page of a small round with a floor under each slot. Bids and effects are read and the constraints gone through once, and no round is made
+// of them.
+fn best_page(sheet: &[u8], floors: &[u32]) -> BestFound
+    requires { ⌜ Accepted (now sheet) × (bidderCount (now sheet) ≤ 8) × (slotCount (now sheet) ≤ 8) × ProperFloors (slotCount (now sheet)) (now floors) ⌝ }
+    ensures { λ r. ⌜ Best (withFloors (roundOf (now (sheet .entry))) (now (floors .entry))) (r .page) × (r .total ≡ total (withFloors (roundOf (now (sheet .entry))) (now (floors .entry))) (r .page)) ⌝ }
 {
     let bidders = sheet[5] as usize;
     let slots = sheet[6] as usize;
@@ -168,7 +171,7 @@ fn best_page(sheet: &[u8]) -> BestFound
     let mut table = [0u64; 73];
     best_clash::fill_table(&mut table, &ranks, sheet);
     let shut = best_clash::shut_words(&table);
-    let free = best_clash::first_free(&table, bidders, slots);
+    let free = best_clash::first_free(&table, &ranked, &bids, floors, bidders, slots);
     let page = auction::empty_page();
     let largest = raise(&shut, &gains, Slot(1), free, 0, 0);
     let first = search(
@@ -202,6 +205,40 @@ fn write_page(page: Page, slots: usize, result: &mut [u8])
     }
 }
 
+// 18 or 19, or 0 and the total of the best page, which goes to the buffer: of an accepted sheet with a floor under each slot.
+fn best_accepted(sheet: &[u8], floors: &[u32], result: &mut [u8]) -> Chosen
+    requires { ⌜ Accepted (now sheet) × ProperFloors (slotCount (now sheet)) (now floors) ⌝ }
+    ensures { λ r. ⌜ (r ≡ chosenFor (boundsRefusal (now (sheet .entry)) (now (result .entry))) (withFloors (roundOf (now (sheet .entry))) (now (floors .entry)))) × (now (result .exit) ≡ unlessRefused (boundsRefusal (now (sheet .entry)) (now (result .entry))) (bestBuffer (withFloors (roundOf (now (sheet .entry))) (now (floors .entry))) (now (result .entry))) (now (result .entry))) ⌝ }
+{
+    let bidders = sheet[5] as usize;
+    let slots = sheet[6] as usize;
+    if 8 < bidders {
+        return refused(18);
+    }
+    if 8 < slots {
+        return refused(18);
+    }
+    if result.len() < slots {
+        return refused(19);
+    }
+    let answer = best_page(sheet, floors);
+    write_page(answer.page, slots, result);
+    Chosen {
+        refusal: 0,
+        total: answer.total,
+    }
+}
+
+// A refusal's number alone.
+fn refused(number: u32) -> Chosen
+    ensures { λ r. ⌜ r ≡ record { refusal = number; total = 0 } ⌝ }
+{
+    Chosen {
+        refusal: number,
+        total: 0,
+    }
+}
+
 // The number of the first rule that the call breaks, the check's, 18 or 19, with every byte of the buffer as it was; or 0 and the total of the
 // best page, with the page's bidder numbers in the buffer, one byte a slot, and every later byte as it was.
 pub fn best(sheet: &[u8], result: &mut [u8]) -> Chosen
@@ -209,32 +246,24 @@ pub fn best(sheet: &[u8], result: &mut [u8]) -> Chosen
 {
     let refusal = sheet_check::check(sheet);
     if refusal != 0 {
-        return Chosen { refusal, total: 0 };
+        return refused(refusal);
     }
-    let bidders = sheet[5] as usize;
+    let none = [0u32; 16];
+    best_accepted(sheet, &none, result)
+}
+
+// The same with a floor under each slot, and 30 and 31 after the check's numbers.
+pub fn best_floors(sheet: &[u8], floors: &[u32], result: &mut [u8]) -> Chosen
+    ensures { λ r. ⌜ BestFloorsGiven (now (floors .entry)) (now (sheet .entry)) (now (result .entry)) r (now (result .exit)) ⌝ }
+{
+    let refusal = sheet_check::check(sheet);
+    if refusal != 0 {
+        return refused(refusal);
+    }
     let slots = sheet[6] as usize;
-    if 8 < bidders {
-        return Chosen {
-            refusal: 18,
-            total: 0,
-        };
+    let wrong = floors::check_floors(floors, slots);
+    if wrong != 0 {
+        return refused(wrong);
     }
-    if 8 < slots {
-        return Chosen {
-            refusal: 18,
-            total: 0,
-        };
-    }
-    if result.len() < slots {
-        return Chosen {
-            refusal: 19,
-            total: 0,
-        };
-    }
-    let answer = best_page(sheet);
-    write_page(answer.page, slots, result);
-    Chosen {
-        refusal: 0,
-        total: answer.total,
-    }
+    best_accepted(sheet, floors, result)
 }

@@ -1,10 +1,11 @@
 -- The laws' own: proved from the definitions, and nothing here need be believed.
--- The critical bid of a winner, the least that its eligible rivals leave it: the handier form of the price, over any test of who is
+-- The critical bid of a winner, the least that its eligible rivals and the slot's floor leave it: the handier form of the price, over any test of who is
 -- eligible and any bids in ticks. That it is the price of documents 01 and 02, the smallest legal bid that still wins, is a theorem.
-use Prim.Native.Nat.{ℕ, zero, suc, _+_, _%_, _<_, _≤_, max}
+use Prim.Native.Nat.{ℕ, zero, suc, _+_, _*_, _-_, _/_, _%_, _<_, _≤_, max}
 use mathlib.Core.Bool.{Bool, cond, not, _&&_}
 use mathlib.Core.Path.{_≡_}
 use lib.Dec.{eqb, ltb}
+use Rattle.choice.specs.Winner.{winner}
 
 -- a tick of 1 to 1,000,000,000, and bids up to 1,000,000,000 that are multiples of it
 pub record InTicks (tick : ℕ) (bid : ℕ → ℕ) : Type 0 where
@@ -17,8 +18,18 @@ pub record InTicks (tick : ℕ) (bid : ℕ → ℕ) : Type 0 where
 unfoldable pub criticalAgainst : ℕ → (ℕ → ℕ) → ℕ → ℕ → ℕ
 criticalAgainst tick bid w j = cond (ltb j w) (bid j + tick) (bid j)
 
--- the least bid with which w ranks no lower than every eligible rival among bidders 1 to n
-unfoldable pub criticalBid : ℕ → (ℕ → Bool) → (ℕ → ℕ) → ℕ → ℕ → ℕ
-criticalBid tick eligible bid w zero = 0
-criticalBid tick eligible bid w (suc i) =
-    max (criticalBid tick eligible bid w i) (cond (eligible (suc i) && not (eqb (suc i) w)) (criticalAgainst tick bid w (suc i)) 0)
+-- what a floor asks: the least multiple of the tick that is not below it
+unfoldable pub floorAsks : (tick floor : ℕ) → ℕ
+floorAsks tick floor = (floor + (tick - 1)) / tick * tick
+
+-- the least bid that the floor asks and with which w ranks no lower than every eligible rival among bidders 1 to n
+unfoldable pub criticalBid : (tick floor : ℕ) → (ℕ → Bool) → (ℕ → ℕ) → ℕ → ℕ → ℕ
+criticalBid tick floor eligible bid w zero = floorAsks tick floor
+criticalBid tick floor eligible bid w (suc i) =
+    max (criticalBid tick floor eligible bid w i) (cond (eligible (suc i) && not (eqb (suc i) w)) (criticalAgainst tick bid w (suc i)) 0)
+
+-- a slot's winner and what it must bid, from who is eligible and the bids; nobody pays 0
+pub record Awarded (tick floor : ℕ) (eligible : ℕ → Bool) (bid : ℕ → ℕ) (n won paid : ℕ) : Type 0 where
+  pub won-by : won ≡ winner eligible bid n
+  pub nobody-pays : won ≡ 0 → paid ≡ 0
+  pub paid-as : (won ≡ 0 → ⊥) → paid ≡ criticalBid tick floor eligible bid won n

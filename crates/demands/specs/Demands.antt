@@ -1,4 +1,4 @@
--- The three demands, over the contracts of the six calls that programs link (pas/src/lib.rt), and then what the requests of document 02 that have
+-- The three demands, over the contracts of the nine calls that programs link (pas/src/lib.rt), and then what the requests of document 02 that have
 -- landed add. Each call promises one record or equation, for every input; here is what follows for a reader, and the proofs are in proofs/Demands.antt. Lists of
 -- numbers are bytes; s is a sheet, out and out′ are a result buffer before and after a call, `number` is what a call returns.
 use Prim.Native.Nat.{ℕ, suc, _+_, _*_, _%_, _<_, _≤_}
@@ -7,7 +7,7 @@ use mathlib.Core.List.{List, [], _++_}
 use mathlib.Core.Logic.{_⊎_}
 use mathlib.Core.Path.{_≡_}
 use lib.IntN.{ℤ}
-use lib.ListN.{length, take, drop}
+use lib.ListN.{length, take, drop, getD, replicate}
 use lib.Signed.{_≤ℤ_}
 use denote.Ref.{RefT}
 use Rattle.basis.specs.Bytes.{word32At}
@@ -16,27 +16,28 @@ use Rattle.sheet.specs.declared.Page.{Page}
 use Rattle.sheet.specs.declared.Round.{Round}
 use Rattle.sheet.specs.Sheet.{version, bidderCount, slotCount, constraintCount, constraintsStart, tickField, bidField, ownerField}
 use Rattle.sheet.specs.Refusal.{constraintBelow, aboveBefore, termsRefusal, constraintRefusal, refusalOf, Accepted}
-use Rattle.sheet.specs.Round.{standsBelow, roundOf, constraintAt}
+use Rattle.sheet.specs.Round.{standsBelow, roundOf, bidOf, withFloors, floorOf, constraintAt}
 use Rattle.auction.specs.declared.Eligibility.{Eligibility}
-use Rattle.auction.specs.declared.Eligibility.the-variants.{Eligible, Placed, EarlierWinners, Own}
+use Rattle.auction.specs.declared.Eligibility.the-variants.{Eligible, Placed, EarlierWinners, Own, BelowFloor}
 use Rattle.auction.specs.Page.{at, put, placed}
-use Rattle.auction.specs.Broken.{breaksOwn}
+use Rattle.auction.specs.Broken.{breaks, breaksOwn}
 use Rattle.auction.specs.Eligible.{breaksEarlier, firstFailed, failedTest, eligible}
-use Rattle.auction.specs.Allowed.{Allowed, total}
+use Rattle.auction.specs.Allowed.{PageOf, Allowed, total}
+use Rattle.auction.specs.Greedy.{pageUpTo}
 use Rattle.auction.specs.Filled.{FilledGreedily}
 use Rattle.auction.specs.Write.{writeBid}
-use Rattle.play.specs.Play.{playRefusal, playedBuffer, Played, bidderSaid, priceSaid}
+use Rattle.play.specs.Play.{playRefusal, playFloorsRefusal, playedBuffer, Played, PlayedFloors, bidderSaid, priceSaid}
 use Rattle.downward.specs.Downward.{downward}
 use Rattle.downward.specs.Call.{testRefusal}
 use Rattle.gain.specs.Gain.{gainOf}
-use Rattle.gain.specs.Call.{gainRefusal}
+use Rattle.gain.specs.Call.{gainRefusal, gainFloorsRefusal}
 use Rattle.best_page.specs.Best.{Best}
 use Rattle.best_page.specs.BestPage.{bestPage}
-use Rattle.best_search.specs.Call.{bestRefusal, bestBuffer}
+use Rattle.best_search.specs.Call.{bestRefusal, bestFloorsRefusal, bestBuffer}
 use Rattle.honesty.specs.Honesty.{DifferOnlyInList}
 use Rattle.owner_part.specs.declared.Before.{Before}
 use Rattle.owner_part.specs.OwnerPart.{partRefusal, bytesBefore, constraintsOf, partLength, beforeOf, PartHanded}
-use Rattle.pas.specs.Calls.{yesNumber, DownwardGiven, GainGiven, BestPageGiven, PartGiven}
+use Rattle.pas.specs.Calls.{yesNumber, DownwardGiven, GainGiven, GainFloorsGiven, BestPageGiven, BestFloorsPageGiven, PartGiven}
 
 -- DEMAND 1. "Every sheet or call that breaks a rule gets the first number that applies, and no lent byte changes; every other gets its full
 -- result."
@@ -66,6 +67,17 @@ pub record DemandOne : Type 0 where
   -- pas_owner_part, those of pas_check, 29, 16
   pub owner-part : (s : List ℕ) (i start size number start′ size′ : ℕ) → PartGiven s i start size number start′ size′ →
       Owed number (partRefusal s i) ((start′ ≡ start) × (size′ ≡ size)) ((start′ ≡ bytesBefore s i) × (size′ ≡ partLength s i))
+  -- pas_play_floors, those of pas_check, 30, 31, 19
+  pub play-floors : (floors s out out′ : List ℕ) (number : ℕ) → PlayedFloors floors s out number out′ →
+      Owed number (playFloorsRefusal floors s out) (out′ ≡ out) (out′ ≡ playedBuffer (withFloors (roundOf s) floors) out)
+  -- pas_gain_floors, those of pas_check, 30, 31, 14 to 17
+  pub gain-floors : (floors s t : List ℕ) (i worth : ℕ) (before : ℤ) (number : ℕ) (after : ℤ) → GainFloorsGiven floors s t i worth before number after →
+      Owed number (gainFloorsRefusal floors s t i worth) (after ≡ before) (after ≡ gainOf (withFloors (roundOf s) floors) (roundOf t) i worth)
+  -- pas_best_floors, those of pas_check, 30, 31, 18, 19
+  pub best-floors : (floors s out out′ : List ℕ) (before number after : ℕ) → BestFloorsPageGiven floors s out before number out′ after →
+      Owed number (bestFloorsRefusal floors s out) ((out′ ≡ out) × (after ≡ before))
+      ((out′ ≡ bestBuffer (withFloors (roundOf s) floors) out)
+      × (after ≡ total (withFloors (roundOf s) floors) (bestPage (withFloors (roundOf s) floors))))
 
 -- DEMAND 2. "The page is the greedy page. A price is the smallest bid with which its winner, all else unchanged, still wins that place. Up to 8
 -- bidders and 8 places, the best page breaks no condition and no other such page has a larger total." With request S-4 "a price becomes the smallest
@@ -73,37 +85,38 @@ pub record DemandOne : Type 0 where
 
 -- The price that a result says for slot k, with w the bidder there: at most w's bid (an empty slot's bid is 0), and a multiple of the tick; playing the
 -- sheet with the price written for w, into any buffer with room, is not refused and gives w the slot; playing it with any smaller number written that
--- the sheet would accept does not.
-pub record PricedRight (s result : List ℕ) (k : ℕ) : Type 0 where
+-- the sheet would accept does not. `Plays` is the promise of the call that is meant, `Played`.
+pub record PricedRight (Plays : (s out : List ℕ) (number : ℕ) (out′ : List ℕ) → Type 0) (s result : List ℕ) (k : ℕ) : Type 0 where
   pub at-most-bid : priceSaid result k ≤ bidField s (bidderSaid result k)
   pub multiple : priceSaid result k % tickField s ≡ 0
   pub wins : (bidderSaid result k ≡ 0 → ⊥) → (again again′ : List ℕ) (number : ℕ) → 5 * slotCount s ≤ length again →
-      Played (writeBid s (bidderSaid result k) (priceSaid result k)) again number again′ → (number ≡ 0) × (bidderSaid again′ k ≡ bidderSaid result k)
+      Plays (writeBid s (bidderSaid result k) (priceSaid result k)) again number again′ → (number ≡ 0) × (bidderSaid again′ k ≡ bidderSaid result k)
   pub smaller-loses : (x : ℕ) → x < priceSaid result k → Accepted (writeBid s (bidderSaid result k) x) → (again again′ : List ℕ) (number : ℕ) → 5 * slotCount s ≤ length again →
-      Played (writeBid s (bidderSaid result k) x) again number again′ → (number ≡ 0) × (bidderSaid again′ k ≡ bidderSaid result k → ⊥)
+      Plays (writeBid s (bidderSaid result k) x) again number again′ → (number ≡ 0) × (bidderSaid again′ k ≡ bidderSaid result k → ⊥)
 
--- What a result says of an accepted sheet: a page of the round that breaks no condition, each slot filled by the greedy rule and priced right.
-pub record PlayedRight (s result : List ℕ) : Type 0 where
+-- What a result says of an accepted sheet, whose round is r: a page of the round that breaks no condition, each slot filled by the greedy rule and
+-- priced right.
+pub record PlayedRight (Plays : (s out : List ℕ) (number : ℕ) (out′ : List ℕ) → Type 0) (r : Round) (s result : List ℕ) : Type 0 where
   pub page : Page
   pub said : (k : ℕ) → 0 < k → k ≤ slotCount s → bidderSaid result k ≡ at page k
-  pub allowed : Allowed (roundOf s) page
-  pub greedy : (k : ℕ) → 0 < k → k ≤ slotCount s → FilledGreedily (roundOf s) page k
-  pub priced : (k : ℕ) → 0 < k → k ≤ slotCount s → PricedRight s result k
+  pub allowed : Allowed r page
+  pub greedy : (k : ℕ) → 0 < k → k ≤ slotCount s → FilledGreedily r page k
+  pub priced : (k : ℕ) → 0 < k → k ≤ slotCount s → PricedRight Plays s result k
 
--- What a buffer and a total say of the best page.
-pub record BestRight (s out out′ : List ℕ) (given : ℕ) : Type 0 where
+-- What a buffer and a total say of the best page of a round.
+pub record BestRight (r : Round) (out out′ : List ℕ) (given : ℕ) : Type 0 where
   pub page : Page
-  pub best : Best (roundOf s) page
-  pub said : out′ ≡ row (λ k. at page (suc k)) (slotCount s) ++ drop (slotCount s) out
-  pub own-total : given ≡ total (roundOf s) page
+  pub best : Best r page
+  pub said : out′ ≡ row (λ k. at page (suc k)) (r .slots) ++ drop (r .slots) out
+  pub own-total : given ≡ total r page
 
 pub record DemandTwo : Type 0 where
   -- pas_play
   pub play : (s out out′ : List ℕ) (number : ℕ) → Accepted s → 5 * slotCount s ≤ length out → Played s out number out′ →
-      (number ≡ 0) × PlayedRight s out′
+      (number ≡ 0) × PlayedRight Played (roundOf s) s out′
   -- pas_best
   pub best : (s out out′ : List ℕ) (before number after : ℕ) → Accepted s → bidderCount s ≤ 8 → slotCount s ≤ 8 → slotCount s ≤ length out →
-      BestPageGiven s out before number out′ after → (number ≡ 0) × BestRight s out out′ after
+      BestPageGiven s out before number out′ after → (number ≡ 0) × BestRight (roundOf s) out out′ after
 
 -- DEMAND 3. "A bidder that lists its true conditions (of any kind) and bids at most its worth gains at least as much as with any downward
 -- monotonic list sent instead, whatever the others do."
@@ -120,7 +133,7 @@ DemandThree =
     (number-honest ≡ 0) × (number-instead ≡ 0) × (gain-instead ≤ℤ gain-honest)
 
 -- REQUEST S-3. "Let the eligibility step answer with the first of these tests that fails, or that none does: not yet placed, then earlier winners'
--- conditions, then the candidate's own. Its promise says exactly when each answer is given."
+-- conditions, then the candidate's own. Its promise says exactly when each answer is given." S-7 adds the floor, "tested after S-3's three".
 
 -- each of two follows from the other
 abbrev pub Exactly : Type 0 → Type 0 → Type 0
@@ -131,6 +144,8 @@ pub record AnsweredInOrder (r : Round) (p : Page) (k b : ℕ) (answer : Eligibil
   pub has-slot : Exactly (answer ≡ Placed) (placed p b ≡ true)
   pub earlier-winners : Exactly (answer ≡ EarlierWinners) ((placed p b ≡ false) × (breaksEarlier r p (put p k b) ≡ true))
   pub own : Exactly (answer ≡ Own) ((placed p b ≡ false) × (breaksEarlier r p (put p k b) ≡ false) × (breaksOwn r (put p k b) b ≡ true))
+  pub below-floor : Exactly (answer ≡ BelowFloor)
+      ((placed p b ≡ false) × (breaksEarlier r p (put p k b) ≡ false) × (breaksOwn r (put p k b) b ≡ false) × (bidOf r b < floorOf r k))
   pub none-fails : Exactly (answer ≡ Eligible) (eligible r p k b ≡ true)
 
 pub record RequestThree : Type 0 where
@@ -138,8 +153,8 @@ pub record RequestThree : Type 0 where
   -- is eligible from its answers, and from nowhere else
   pub step : (r : Round) (p : Page) (k b : ℕ) (answer : Eligibility) → failedTest answer ≡ firstFailed r p k b → AnsweredInOrder r p k b answer
   -- "An unplaced bidder is eligible for place k if, with the places already filled and it at k, neither its own conditions nor those of an earlier
-  -- winner are broken."
-  pub sentence : (r : Round) (p : Page) (k b : ℕ) →
+  -- winner are broken." A floor is reached by every bid where it is 0, as in a call without floors.
+  pub sentence : (r : Round) (p : Page) (k b : ℕ) → floorOf r k ≤ bidOf r b →
       eligible r p k b ≡ (not (placed p b) && not (breaksOwn r (put p k b) b || breaksEarlier r p (put p k b)))
 
 -- REQUEST S-4. "Sheet version 2 has a 4-byte tick after the condition count …; version 1 means tick 1 … Every bid is a multiple of the tick. A price
@@ -228,3 +243,74 @@ pub record RequestFive : Type 0 where
   pub twenty-nine : (s : List ℕ) (i : ℕ) → Accepted s → version s ≡ 1 → partRefusal s i ≡ 29
   pub sixteen : (s : List ℕ) (i : ℕ) → Accepted s → version s ≡ 2 → (i ≡ 0) ⊎ (bidderCount s < i) → partRefusal s i ≡ 16
   pub answered : (s : List ℕ) (i : ℕ) → Accepted s → version s ≡ 2 → 0 < i → i ≤ bidderCount s → partRefusal s i ≡ 0
+
+-- REQUEST S-7. "Some places cost more to show. A second form of playing, gain and best page also takes a lent list of m floors. A bidder is eligible for a
+-- place only with a bid at or above its floor, tested after S-3's three, and the eligibility step's promise says so to all who use it. A price remains the
+-- smallest legal bid that still wins the place, floor counted. The best page obeys floors as well. Honest lists must still be at least as good with floors
+-- in any order, falling or rising, the same floors for both sheets. Turned away: after 28 and before 14, 30 for a list that is not m long and 31 for a floor
+-- above 1,000,000,000." The step's promise is `RequestThree .step`.
+
+-- no floors: m times 0
+abbrev pub noFloors : List ℕ → List ℕ
+noFloors s = replicate (slotCount s) 0
+
+-- a list of floors that an accepted sheet can be played with
+pub record Floored (floors s : List ℕ) : Type 0 where
+  pub accepted : Accepted s
+  pub as-many : length floors ≡ slotCount s
+  pub none-too-high : (k : ℕ) → k < slotCount s → getD floors k 0 ≤ 1_000_000_000
+
+-- what the three calls with floors return, where all return one number
+abbrev pub AllReturn : (floors s : List ℕ) (number : ℕ) → Type 0
+AllReturn floors s number =
+    ((out : List ℕ) → playFloorsRefusal floors s out ≡ number)
+    × ((t : List ℕ) (i worth : ℕ) → gainFloorsRefusal floors s t i worth ≡ number)
+    × ((out : List ℕ) → bestFloorsRefusal floors s out ≡ number)
+
+pub record RequestSeven : Type 0 where
+  -- each call without floors promises what the call with floors does where they are 0, and the other way round
+  pub play-without : (s out out′ : List ℕ) (number : ℕ) → Exactly (Played s out number out′) (PlayedFloors (noFloors s) s out number out′)
+  pub gain-without : (s t : List ℕ) (i worth : ℕ) (before : ℤ) (number : ℕ) (after : ℤ) →
+      Exactly (GainGiven s t i worth before number after) (GainFloorsGiven (noFloors s) s t i worth before number after)
+  pub best-without : (s out out′ : List ℕ) (before number after : ℕ) →
+      Exactly (BestPageGiven s out before number out′ after) (BestFloorsPageGiven (noFloors s) s out before number out′ after)
+  -- the round of a call with floors has the list's, and that of a call without floors has none
+  pub floors-are : (floors s : List ℕ) → Floored floors s → (k : ℕ) → k < slotCount s → floorOf (withFloors (roundOf s) floors) (suc k) ≡ getD floors k 0
+  pub no-floors : (s : List ℕ) (k : ℕ) → floorOf (roundOf s) k ≡ 0
+  -- eligible only with a bid at or above the floor: the other tests are those of 01's sentence
+  pub eligible-only : (r : Round) (p : Page) (k b : ℕ) →
+      Exactly (eligible r p k b ≡ true)
+      (((not (placed p b) && not (breaksOwn r (put p k b) b || breaksEarlier r p (put p k b))) ≡ true) × (floorOf r k ≤ bidOf r b))
+  -- the page is the greedy page, it breaks no condition and obeys the floors, and each price is the smallest legal bid that wins the place when the
+  -- sheet is played with the same floors
+  pub play : (floors s out out′ : List ℕ) (number : ℕ) → Floored floors s → 5 * slotCount s ≤ length out → PlayedFloors floors s out number out′ →
+      (number ≡ 0) × PlayedRight (PlayedFloors floors) (withFloors (roundOf s) floors) s out′
+  -- the price of a filled place is at or above its floor,
+  pub floor-counted : (floors s out out′ : List ℕ) (number : ℕ) → Floored floors s → 5 * slotCount s ≤ length out → PlayedFloors floors s out number out′ →
+      (k : ℕ) → k < slotCount s → (bidderSaid out′ (suc k) ≡ 0 → ⊥) → getD floors k 0 ≤ priceSaid out′ (suc k)
+  -- and where nobody else is eligible it is the smallest multiple of the tick that is: at most every other
+  pub alone : (floors s out out′ : List ℕ) (number : ℕ) → Floored floors s → 5 * slotCount s ≤ length out → PlayedFloors floors s out number out′ →
+      (k : ℕ) → k < slotCount s → (bidderSaid out′ (suc k) ≡ 0 → ⊥) →
+      ((b : ℕ) → 0 < b → b ≤ bidderCount s → (b ≡ bidderSaid out′ (suc k) → ⊥) →
+      eligible (withFloors (roundOf s) floors) (pageUpTo (withFloors (roundOf s) floors) k) (suc k) b ≡ false) →
+      (x : ℕ) → x % tickField s ≡ 0 → getD floors k 0 ≤ x → priceSaid out′ (suc k) ≤ x
+  -- "best" is 01's, among the pages that break no condition and have a bid at or above the floor at every filled place; without floors these are all
+  -- that break none
+  pub best : (floors s out out′ : List ℕ) (before number after : ℕ) → Floored floors s → bidderCount s ≤ 8 → slotCount s ≤ 8 → slotCount s ≤ length out →
+      BestFloorsPageGiven floors s out before number out′ after → (number ≡ 0) × BestRight (withFloors (roundOf s) floors) out out′ after
+  pub allowed-without : (s : List ℕ) (p : Page) → Exactly (Allowed (roundOf s) p) (PageOf (roundOf s) p × (breaks (roundOf s) p ≡ false))
+  -- demand 3 with floors, the same for both sheets, in any order
+  pub honest : (floors honest instead : List ℕ) (i worth : ℕ) → Floored floors honest → Accepted instead → DifferOnlyInList i honest instead →
+      (before : ℕ) → DownwardGiven instead i before 0 1 → bidField honest i ≤ worth → worth ≤ 1_000_000_000 →
+      (before-honest before-instead : ℤ) (number-honest number-instead : ℕ) (gain-honest gain-instead : ℤ) →
+      GainFloorsGiven floors honest honest i worth before-honest number-honest gain-honest →
+      GainFloorsGiven floors instead honest i worth before-instead number-instead gain-instead →
+      (number-honest ≡ 0) × (number-instead ≡ 0) × (gain-instead ≤ℤ gain-honest)
+  -- the sheet's numbers first; then 30; then 31; and with floors that break neither, what the call without floors returns
+  pub sheet-first : (floors s : List ℕ) → (refusalOf s ≡ 0 → ⊥) → AllReturn floors s (refusalOf s)
+  pub thirty : (floors s : List ℕ) → Accepted s → (length floors ≡ slotCount s → ⊥) → AllReturn floors s 30
+  pub thirty-one : (floors s : List ℕ) → Accepted s → length floors ≡ slotCount s → (k : ℕ) → k < slotCount s → 1_000_000_000 < getD floors k 0 →
+      AllReturn floors s 31
+  pub play-then : (floors s out : List ℕ) → Floored floors s → playFloorsRefusal floors s out ≡ playRefusal s out
+  pub gain-then : (floors s t : List ℕ) (i worth : ℕ) → Floored floors s → gainFloorsRefusal floors s t i worth ≡ gainRefusal s t i worth
+  pub best-then : (floors s out : List ℕ) → Floored floors s → bestFloorsRefusal floors s out ≡ bestRefusal s out

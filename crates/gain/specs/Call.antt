@@ -5,9 +5,11 @@ use mathlib.Core.List.{List}
 use lib.Dec.{eqb, ltb}
 use lib.IntN.{pos}
 use Rattle.basis.specs.First.{_when_otherwise_, orElse}
+use Rattle.sheet.specs.declared.Round.{Round}
 use Rattle.sheet.specs.Sheet.{bidderCount, slotCount}
 use Rattle.sheet.specs.Refusal.{refusalOf}
-use Rattle.sheet.specs.Round.{roundOf}
+use Rattle.sheet.specs.Round.{roundOf, withFloors}
+use Rattle.floors.specs.Floors.{floorsRefusal}
 use Rattle.gain.specs.Gain.{gainOf}
 use Rattle.gain.specs.declared.Gained.{Gained}
 
@@ -25,11 +27,19 @@ laterRefusal s t i worth =
 unfoldable pub gainRefusal : List ℕ → List ℕ → ℕ → ℕ → ℕ
 gainRefusal s t i worth = orElse (refusalOf s) (laterRefusal s t i worth)
 
+-- with floors: the check's numbers of the played sheet, then 30 and 31, and then 14 to 17
+unfoldable pub gainFloorsRefusal : (floors s t : List ℕ) → ℕ → ℕ → ℕ
+gainFloorsRefusal floors s t i worth = orElse (refusalOf s) (orElse (floorsRefusal (slotCount s) floors) (laterRefusal s t i worth))
+
 -- a refused call returns its number alone
-unfoldable pub gainedFor : ℕ → List ℕ → List ℕ → ℕ → ℕ → Gained
-gainedFor zero s t i worth = record { refusal = 0; gain = gainOf (roundOf s) (roundOf t) i worth }
-gainedFor (suc k) s t i worth = record { refusal = suc k; gain = pos 0 }
+unfoldable pub gainedFor : ℕ → Round → List ℕ → ℕ → ℕ → Gained
+gainedFor zero played t i worth = record { refusal = 0; gain = gainOf played (roundOf t) i worth }
+gainedFor (suc k) played t i worth = record { refusal = suc k; gain = pos 0 }
 
 -- all that the call returns: s is played, t tells the truth
 unfoldable pub gainedOf : List ℕ → List ℕ → ℕ → ℕ → Gained
-gainedOf s t i worth = gainedFor (gainRefusal s t i worth) s t i worth
+gainedOf s t i worth = gainedFor (gainRefusal s t i worth) (roundOf s) t i worth
+
+-- and the call with floors
+unfoldable pub gainedFloorsOf : (floors s t : List ℕ) → ℕ → ℕ → Gained
+gainedFloorsOf floors s t i worth = gainedFor (gainFloorsRefusal floors s t i worth) (withFloors (roundOf s) floors) t i worth

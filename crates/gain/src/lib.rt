@@ -6,10 +6,11 @@ ghost use mathlib.Core.Path.{_≡_};
 ghost use Prim.Native.Nat.{_*_, _≤_, _<_};
 ghost use lib.IntN.{pos, negℤ};
 ghost use Rattle.sheet.specs.Refusal.{Accepted};
-ghost use Rattle.sheet.specs.Proper.{Proper};
-ghost use Rattle.sheet.specs.Round.{roundOf};
+ghost use Rattle.sheet.specs.Sheet.{slotCount};
+ghost use Rattle.sheet.specs.Proper.{Proper, ProperFloors};
+ghost use Rattle.sheet.specs.Round.{roundOf, withFloors};
 ghost use Rattle.gain.specs.Gain.{slotOf, gainIf, gainOf};
-ghost use Rattle.gain.specs.Call.{laterRefusal, gainedOf};
+ghost use Rattle.gain.specs.Call.{laterRefusal, gainedFor, gainedOf, gainedFloorsOf};
 use sheet::Bidder;
 use sheet::Constraint;
 use sheet::Page;
@@ -98,21 +99,25 @@ fn minus(size: u64) -> i64
     0 - size as i64
 }
 
-// The gain of a bidder from a played sheet.
-fn gain_of(played: &[u8], truth: &[u8], bidder: Bidder, worth: u32) -> i64
-    requires { ⌜ Accepted (now played) × Accepted (now truth) × (worth ≤ 1000000000) × (0 < bidder .0) ⌝ }
-    ensures { λ r. ⌜ r ≡ gainOf (roundOf (now (played .entry))) (roundOf (now (truth .entry))) (bidder .0) worth ⌝ }
+// The gain of a bidder from a sheet played with a floor under each slot.
+fn gain_of(played: &[u8], floors: &[u32], truth: &[u8], bidder: Bidder, worth: u32) -> i64
+    requires { ⌜ Accepted (now played) × ProperFloors (slotCount (now played)) (now floors) × Accepted (now truth) × (worth ≤ 1000000000) × (0 < bidder .0) ⌝ }
+    ensures { λ r. ⌜ r ≡ gainOf (withFloors (roundOf (now (played .entry))) (now (floors .entry))) (roundOf (now (truth .entry))) (bidder .0) worth ⌝ }
 {
-    let outcome = greedy::played(played);
+    let outcome = greedy::played(played, floors);
     let page = outcome.page;
-    let prices = outcome.prices;
     let slot = slot_of(page, bidder);
     if slot.0 == 0 {
         return 0;
     }
     let k = slot.0 as usize - 1;
     let effect = sheet_read::effect_at(played, slot);
-    gain_if(breaks_own(truth, page, bidder), effect, worth, prices[k])
+    gain_if(
+        breaks_own(truth, page, bidder),
+        effect,
+        worth,
+        outcome.prices[k],
+    )
 }
 
 // 14 to 17: the truth sheet, and the numbers of the call.
@@ -141,6 +146,31 @@ fn later_refusal(played: &[u8], truth: &[u8], bidder: u32, worth: u32) -> u32
     0
 }
 
+// 14 to 17, or 0 and the gain, of an accepted sheet with a floor under each slot.
+fn gain_accepted(played: &[u8], floors: &[u32], truth: &[u8], bidder: u32, worth: u32) -> Gained
+    requires { ⌜ Accepted (now played) × ProperFloors (slotCount (now played)) (now floors) ⌝ }
+    ensures { λ r. ⌜ r ≡ gainedFor (laterRefusal (now (played .entry)) (now (truth .entry)) bidder worth) (withFloors (roundOf (now (played .entry))) (now (floors .entry))) (now (truth .entry)) bidder worth ⌝ }
+{
+    let later = later_refusal(played, truth, bidder, worth);
+    if later != 0 {
+        return refused(later);
+    }
+    Gained {
+        refusal: 0,
+        gain: gain_of(played, floors, truth, Bidder(bidder as u16), worth),
+    }
+}
+
+// A refusal's number alone.
+fn refused(number: u32) -> Gained
+    ensures { λ r. ⌜ r ≡ record { refusal = number; gain = pos 0 } ⌝ }
+{
+    Gained {
+        refusal: number,
+        gain: 0,
+    }
+}
+
 // The number of the first rule that the call breaks, the check's or 14 to 17; or 0 and the bidder's gain from the played sheet at a worth per click,
 // by its constraints in the truth sheet.
 pub fn gain(played: &[u8], truth: &[u8], bidder: u32, worth: u32) -> Gained
@@ -148,17 +178,24 @@ pub fn gain(played: &[u8], truth: &[u8], bidder: u32, worth: u32) -> Gained
 {
     let refusal = sheet_check::check(played);
     if refusal != 0 {
-        return Gained { refusal, gain: 0 };
+        return refused(refusal);
     }
-    let later = later_refusal(played, truth, bidder, worth);
-    if later != 0 {
-        return Gained {
-            refusal: later,
-            gain: 0,
-        };
+    let none = [0u32; 16];
+    gain_accepted(played, &none, truth, bidder, worth)
+}
+
+// The same with a floor under each slot of the played sheet, and 30 and 31 after the check's numbers.
+pub fn gain_floors(played: &[u8], floors: &[u32], truth: &[u8], bidder: u32, worth: u32) -> Gained
+    ensures { λ r. ⌜ r ≡ gainedFloorsOf (now (floors .entry)) (now (played .entry)) (now (truth .entry)) bidder worth ⌝ }
+{
+    let refusal = sheet_check::check(played);
+    if refusal != 0 {
+        return refused(refusal);
     }
-    Gained {
-        refusal: 0,
-        gain: gain_of(played, truth, Bidder(bidder as u16), worth),
+    let slots = played[6] as usize;
+    let wrong = floors::check_floors(floors, slots);
+    if wrong != 0 {
+        return refused(wrong);
     }
+    gain_accepted(played, floors, truth, bidder, worth)
 }

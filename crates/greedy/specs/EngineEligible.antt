@@ -1,18 +1,17 @@
 -- The engine's own: nothing here need be believed.
 -- What the engine's marks know of a page so far, and what the functions that fill it are lent and leave.
-use Prim.Native.Nat.{ℕ, _<_, _≤_}
+use Prim.Native.Nat.{ℕ, suc, _<_, _≤_}
 use mathlib.Core.Bool.{Bool, false, _&&_, _||_}
 use mathlib.Core.List.{List}
 use mathlib.Core.Path.{_≡_}
 use lib.Dec.{eqb}
+use lib.ListN.{length, getD}
 use Rattle.basis.specs.Tests.{anyBelow}
 use Rattle.sheet.specs.declared.Constraint.{Constraint}
 use Rattle.sheet.specs.declared.Page.{Page}
 use Rattle.sheet.specs.declared.Round.{Round}
-use Rattle.sheet.specs.Round.{constraintAt, Has, roundOf}
+use Rattle.sheet.specs.Round.{constraintAt, floorOf, Has, roundOf}
 use Rattle.sheet.specs.Proper.{ProperRound}
-use Rattle.choice.specs.Winner.{winner}
-use Rattle.choice.specs.Critical.{criticalBid}
 use Rattle.auction.specs.Page.{at, Sized}
 use Rattle.auction.specs.Broken.{broken}
 use Rattle.greedy_links.specs.EngineKeys.{key, isSo, chainSo, madeSo, isMarked}
@@ -24,20 +23,18 @@ pub record Known (r : Round) (p : Page) (barred held : List ℕ) : Type 0 where
   pub nobody : isMarked held 0 ≡ false
   pub bars : (y : ℕ) → isMarked barred y ≡ anyBelow (λ i. eqb (linkOwner r i) y && chainSo p (constraintAt r i)) (r .used)
 
--- a round with the lent sheet's constraints, its page so far, which breaks none and has nobody at slot l yet, and the marks that know it
-pub record SoFar (r : Round) (p : Page) (s barred held : List ℕ) (l : ℕ) : Type 0 where
+-- a round with the lent sheet's constraints, the lent bids and the lent floor under slot l, its page so far, which breaks none and has nobody at l
+-- yet, and the marks that know it
+pub record SoFar (r : Round) (p : Page) (s barred held bids : List ℕ) (floor l : ℕ) : Type 0 where
   pub proper : ProperRound r
   pub constraints-are : r .constraints ≡ roundOf s .constraints
   pub used-are : r .used ≡ roundOf s .used
+  pub bids-are : bids ≡ r .bids
+  pub floor-is : floor ≡ floorOf r l
   pub sized : Sized p
   pub unbroken : (q : Constraint) → Has r q → broken p q ≡ false
   pub vacant : at p l ≡ 0
   pub known : Known r p barred held
-
--- a slot's winner and price, from who may have it and the bids
-pub record Awarded (tick : ℕ) (eligible : ℕ → Bool) (bid : ℕ → ℕ) (n won paid : ℕ) : Type 0 where
-  pub won-by : won ≡ winner eligible bid n
-  pub paid-as : paid ≡ criticalBid tick eligible bid won n
 
 -- the marks before and after w, or nobody, gets slot k
 pub record Settled (r : Round) (w k : ℕ) (barred held barred′ held′ : List ℕ) : Type 0 where
@@ -47,12 +44,14 @@ pub record Settled (r : Round) (w k : ℕ) (barred held barred′ held′ : List
       × ((y : ℕ) → isMarked barred′ y ≡ (isMarked barred y || someOwner r (key w k) (λ z. eqb z y) (r .used)))
 
 -- what the page is filled from is the round's: its constraints are those of the lent sheet, whose links are lent too
-pub record Lent (r : Round) (s : List ℕ) (start : ℕ) (last links bids : List ℕ) (bidders slots tick : ℕ) : Type 0 where
+pub record Lent (r : Round) (s : List ℕ) (start : ℕ) (last links bids floors : List ℕ) (bidders slots tick : ℕ) : Type 0 where
   pub proper : ProperRound r
   pub kept : Kept s start last links
   pub constraints-are : r .constraints ≡ roundOf s .constraints
   pub used-are : r .used ≡ roundOf s .used
   pub bids-are : bids ≡ r .bids
+  pub some-floors : slots ≤ length floors
+  pub floors-are : (k : ℕ) → k < slots → getD floors k 0 ≡ floorOf r (suc k)
   pub bidders-are : bidders ≡ r .bidders
   pub slots-are : slots ≡ r .slots
   pub tick-is : tick ≡ r .tick

@@ -170,10 +170,10 @@ fn enter(last: &mut [u16], links: &mut [u16], constraint: Constraint, number: us
     link(last, links, chain, number);
 }
 
-// The constraints of an accepted sheet are linked, in lent lists of zeros. The round is made here and used where it was made; its bids go on.
-pub fn link_all(last: &mut [u16], links: &mut [u16], sheet: &[u8]) -> [u32; 64]
+// The constraints of an accepted sheet are linked, in lent lists of zeros. The round is made here and used where it was made.
+pub fn link_all(last: &mut [u16], links: &mut [u16], sheet: &[u8])
     requires { ⌜ Accepted (now sheet) × Linked (roundOf (now sheet)) 0 (now last) (now links) ⌝ }
-    ensures { λ r. ⌜ (r ≡ roundOf (now (sheet .entry)) .bids) × Linked (roundOf (now (sheet .entry))) (roundOf (now (sheet .entry)) .used) (now (last .exit)) (now (links .exit)) ⌝ }
+    ensures { λ r. ⌜ Linked (roundOf (now (sheet .entry))) (roundOf (now (sheet .entry)) .used) (now (last .exit)) (now (links .exit)) ⌝ }
 {
     let round = sheet_read::accepted_round(sheet);
     let used = round.used;
@@ -182,7 +182,6 @@ pub fn link_all(last: &mut [u16], links: &mut [u16], sheet: &[u8]) -> [u32; 64]
         enter(last, links, round.constraints[i], i);
         i += 1;
     }
-    round.bids
 }
 
 // A winner stands at its slot: the keys that this makes true are marked.

@@ -1,19 +1,19 @@
 -- The calls by the C convention: what each returns, and all that it leaves in what it was lent. `pas_check` has the check's own
--- equation and `pas_play` the record of play; the other four write their answer to memory that the caller lends, `before` and `after` the call.
+-- equation, `pas_play` and `pas_play_floors` the records of play; the others write their answer to memory that the caller lends, `before` and `after` the call.
 use Prim.Native.Nat.{ℕ}
 use mathlib.Core.Bool.{Bool, cond}
 use mathlib.Core.List.{List}
 use mathlib.Core.Path.{_≡_}
 use lib.IntN.{ℤ}
 use Rattle.basis.specs.First.{unlessRefused}
-use Rattle.sheet.specs.Round.{roundOf}
+use Rattle.sheet.specs.Round.{roundOf, withFloors}
 use Rattle.downward.specs.Downward.{downward}
 use Rattle.downward.specs.Call.{testRefusal}
 use Rattle.gain.specs.Gain.{gainOf}
-use Rattle.gain.specs.Call.{gainRefusal}
+use Rattle.gain.specs.Call.{gainRefusal, gainFloorsRefusal}
 use Rattle.auction.specs.Allowed.{total}
 use Rattle.best_page.specs.BestPage.{bestPage}
-use Rattle.best_search.specs.Call.{bestRefusal, bestBuffer}
+use Rattle.best_search.specs.Call.{bestRefusal, bestFloorsRefusal, bestBuffer}
 use Rattle.owner_part.specs.OwnerPart.{partRefusal, bytesBefore, partLength}
 
 -- 1 yes, 0 no
@@ -30,11 +30,22 @@ pub record GainGiven (s t : List ℕ) (i worth : ℕ) (before : ℤ) (returned :
   pub number : returned ≡ gainRefusal s t i worth
   pub written : after ≡ unlessRefused (gainRefusal s t i worth) (gainOf (roundOf s) (roundOf t) i worth) before
 
+-- the same with floors under the slots of s
+pub record GainFloorsGiven (floors s t : List ℕ) (i worth : ℕ) (before : ℤ) (returned : ℕ) (after : ℤ) : Type 0 where
+  pub number : returned ≡ gainFloorsRefusal floors s t i worth
+  pub written : after ≡ unlessRefused (gainFloorsRefusal floors s t i worth) (gainOf (withFloors (roundOf s) floors) (roundOf t) i worth) before
+
 -- the best page in the buffer, and its total
 pub record BestPageGiven (s out : List ℕ) (before returned : ℕ) (out′ : List ℕ) (after : ℕ) : Type 0 where
   pub number : returned ≡ bestRefusal s out
   pub buffer : out′ ≡ unlessRefused (bestRefusal s out) (bestBuffer (roundOf s) out) out
   pub written : after ≡ unlessRefused (bestRefusal s out) (total (roundOf s) (bestPage (roundOf s))) before
+
+-- the same with floors
+pub record BestFloorsPageGiven (floors s out : List ℕ) (before returned : ℕ) (out′ : List ℕ) (after : ℕ) : Type 0 where
+  pub number : returned ≡ bestFloorsRefusal floors s out
+  pub buffer : out′ ≡ unlessRefused (bestFloorsRefusal floors s out) (bestBuffer (withFloors (roundOf s) floors) out) out
+  pub written : after ≡ unlessRefused (bestFloorsRefusal floors s out) (total (withFloors (roundOf s) floors) (bestPage (withFloors (roundOf s) floors))) before
 
 -- where the part of bidder i is: the bytes of the sheet before it, and its own
 pub record PartGiven (s : List ℕ) (i start size returned start′ size′ : ℕ) : Type 0 where

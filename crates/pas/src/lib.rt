@@ -1,11 +1,11 @@
-// The six calls by the C convention, for programs that link the static library (include/pas.h is their manual).
+// The nine calls by the C convention, for programs that link the static library (include/pas.h is their manual).
 //
 // Each returns 0 or the number of the first rule that the call breaks. On a refusal nothing lent changes, the answer's own memory
 // included.
 ghost use mathlib.Core.Path.{_≡_};
 ghost use Rattle.sheet.specs.Refusal.{refusalOf};
-ghost use Rattle.play.specs.Play.{Played};
-ghost use Rattle.pas.specs.Calls.{DownwardGiven, GainGiven, BestPageGiven, PartGiven, yesNumber};
+ghost use Rattle.play.specs.Play.{Played, PlayedFloors};
+ghost use Rattle.pas.specs.Calls.{DownwardGiven, GainGiven, GainFloorsGiven, BestPageGiven, BestFloorsPageGiven, PartGiven, yesNumber};
 
 // 1 to 13 or 26 to 28, or 0 for an accepted sheet.
 #[no_mangle]
@@ -101,5 +101,54 @@ pub extern "C" fn pas_owner_part(
     }
     *start = found.start;
     *length = found.length;
+    0
+}
+
+// As `pas_play`, with a floor under each slot: the check's numbers, 30, 31 or 19; or 0, with the page and the prices in the buffer.
+#[no_mangle]
+pub extern "C" fn pas_play_floors(sheet: &[u8], floors: &[u32], result: &mut [u8]) -> u32
+    ensures { λ r. ⌜ PlayedFloors (now (floors .entry)) (now (sheet .entry)) (now (result .entry)) r (now (result .exit)) ⌝ }
+{
+    play::play_floors(sheet, floors, result)
+}
+
+// As `pas_gain`, with a floor under each slot of the played sheet: the check's numbers, 30, 31 or 14 to 17; or 0, with the gain.
+#[no_mangle]
+pub extern "C" fn pas_gain_floors(
+    played: &[u8],
+    floors: &[u32],
+    truth: &[u8],
+    bidder: u32,
+    worth: u32,
+    gain: &mut i64,
+) -> u32
+    ensures { λ r. ⌜ GainFloorsGiven (now (floors .entry)) (now (played .entry)) (now (truth .entry)) bidder worth (now (gain .entry)) r (now (gain .exit)) ⌝ }
+{
+    let gained = gain::gain_floors(played, floors, truth, bidder, worth);
+    let refusal = gained.refusal;
+    if refusal != 0 {
+        return refusal;
+    }
+    let worked_out = gained.gain;
+    *gain = worked_out;
+    0
+}
+
+// As `pas_best`, with a floor under each slot: the check's numbers, 30, 31, 18 or 19; or 0, with the best page and its total.
+#[no_mangle]
+pub extern "C" fn pas_best_floors(
+    sheet: &[u8],
+    floors: &[u32],
+    result: &mut [u8],
+    total: &mut u64,
+) -> u32
+    ensures { λ r. ⌜ BestFloorsPageGiven (now (floors .entry)) (now (sheet .entry)) (now (result .entry)) (now (total .entry)) r (now (result .exit)) (now (total .exit)) ⌝ }
+{
+    let chosen = best_search::best_floors(sheet, floors, result);
+    let refusal = chosen.refusal;
+    if refusal != 0 {
+        return refusal;
+    }
+    *total = chosen.total;
     0
 }

@@ -10,14 +10,23 @@ use Rattle.basis.specs.Rows.{joined}
 use Rattle.sheet.specs.declared.Round.{Round}
 use Rattle.sheet.specs.Sheet.{slotCount}
 use Rattle.sheet.specs.Refusal.{refusalOf}
-use Rattle.sheet.specs.Round.{roundOf}
+use Rattle.sheet.specs.Round.{roundOf, withFloors}
+use Rattle.floors.specs.Floors.{floorsRefusal}
 use Rattle.auction.specs.Page.{at}
 use Rattle.auction.specs.Greedy.{greedyPage}
 use Rattle.auction.specs.Price.{price}
 
--- the check's numbers, and then 19. The result buffer is shorter than the bytes to be written.
+-- 19. The result buffer is shorter than the bytes to be written.
+unfoldable pub roomRefusal : List ℕ → List ℕ → ℕ
+roomRefusal s out = 19 when ltb (length out) (5 * slotCount s) otherwise 0
+
+-- the check's numbers, and then 19
 unfoldable pub playRefusal : List ℕ → List ℕ → ℕ
-playRefusal s out = orElse (refusalOf s) (19 when ltb (length out) (5 * slotCount s) otherwise 0)
+playRefusal s out = orElse (refusalOf s) (roomRefusal s out)
+
+-- with floors: the check's numbers, then 30 and 31, and then 19
+unfoldable pub playFloorsRefusal : (floors s out : List ℕ) → ℕ
+playFloorsRefusal floors s out = orElse (refusalOf s) (orElse (floorsRefusal (slotCount s) floors) (roomRefusal s out))
 
 -- 5 bytes for slot k: "bidder (0 if empty) and 4 bytes of price"
 unfoldable pub slotEntry : Round → ℕ → List ℕ
@@ -31,6 +40,11 @@ playedBuffer r out = joined (λ k. slotEntry r (suc k)) (r .slots) ++ drop (5 * 
 pub record Played (s out : List ℕ) (returned : ℕ) (out′ : List ℕ) : Type 0 where
   pub number : returned ≡ playRefusal s out
   pub buffer : out′ ≡ unlessRefused (playRefusal s out) (playedBuffer (roundOf s) out) out
+
+-- The same of the call with floors: the round is the sheet's with these floors.
+pub record PlayedFloors (floors s out : List ℕ) (returned : ℕ) (out′ : List ℕ) : Type 0 where
+  pub number : returned ≡ playFloorsRefusal floors s out
+  pub buffer : out′ ≡ unlessRefused (playFloorsRefusal floors s out) (playedBuffer (withFloors (roundOf s) floors) out) out
 
 -- What a result says of slot k: its bidder, and its price.
 unfoldable pub bidderSaid : List ℕ → ℕ → ℕ

@@ -5,9 +5,27 @@ ghost use Prim.Native.Nat.{ℕ, _*_, _<_, _≤_};
 ghost use lib.ListN.{length, drop};
 ghost use Rattle.basis.specs.Rows.{joined};
 ghost use Rattle.auction.specs.Page.{at};
-ghost use Rattle.play.specs.Play.{Played};
+ghost use Rattle.basis.specs.First.{unlessRefused};
+ghost use Rattle.sheet.specs.Refusal.{Accepted};
+ghost use Rattle.sheet.specs.Sheet.{slotCount};
+ghost use Rattle.sheet.specs.Round.{roundOf, withFloors};
+ghost use Rattle.sheet.specs.Proper.{ProperFloors};
+ghost use Rattle.play.specs.Play.{roomRefusal, playedBuffer, Played, PlayedFloors};
 ghost use Rattle.play.specs.EngineEntries.{entryIn};
 use greedy::Outcome;
+
+// An accepted sheet is played with a floor under each slot, where the buffer has room: 19, or 0.
+fn play_accepted(sheet: &[u8], floors: &[u32], result: &mut [u8]) -> u32
+    requires { ⌜ Accepted (now sheet) × ProperFloors (slotCount (now sheet)) (now floors) ⌝ }
+    ensures { λ r. ⌜ (r ≡ roomRefusal (now (sheet .entry)) (now (result .entry))) × (now (result .exit) ≡ unlessRefused (roomRefusal (now (sheet .entry)) (now (result .entry))) (playedBuffer (withFloors (roundOf (now (sheet .entry))) (now (floors .entry))) (now (result .entry))) (now (result .entry))) ⌝ }
+{
+    let slots = sheet[6] as usize;
+    if result.len() < 5 * slots {
+        return 19;
+    }
+    write_result(greedy::played(sheet, floors), slots, result);
+    0
+}
 
 // The number of the first rule that the call breaks, the check's or 19, with every byte of the buffer as it was; or 0, with 5 bytes a
 // slot in the buffer, the bidder and the price low byte first, and every later byte as it was.
@@ -18,12 +36,24 @@ pub fn play(sheet: &[u8], result: &mut [u8]) -> u32
     if refusal != 0 {
         return refusal;
     }
-    let slots = sheet[6] as usize;
-    if result.len() < 5 * slots {
-        return 19;
+    let none = [0u32; 16];
+    play_accepted(sheet, &none, result)
+}
+
+// The same with a floor under each slot, and 30 and 31 after the check's numbers.
+pub fn play_floors(sheet: &[u8], floors: &[u32], result: &mut [u8]) -> u32
+    ensures { λ r. ⌜ PlayedFloors (now (floors .entry)) (now (sheet .entry)) (now (result .entry)) r (now (result .exit)) ⌝ }
+{
+    let refusal = sheet_check::check(sheet);
+    if refusal != 0 {
+        return refusal;
     }
-    write_result(greedy::played(sheet), slots, result);
-    0
+    let slots = sheet[6] as usize;
+    let wrong = floors::check_floors(floors, slots);
+    if wrong != 0 {
+        return wrong;
+    }
+    play_accepted(sheet, floors, result)
 }
 
 // The page and the prices go to the front of the buffer.

@@ -3,7 +3,7 @@ use Prim.Native.Nat.{ℕ, zero, suc, _<_}
 use mathlib.Core.Bool.{Bool}
 use mathlib.Core.List.{List}
 use mathlib.Core.Path.{_≡_}
-use lib.ListN.{getD}
+use lib.ListN.{getD, replicate}
 use Rattle.basis.specs.Rows.{padded}
 use Rattle.sheet.specs.Sheet.{
   version,
@@ -71,7 +71,7 @@ standsBelow q r =
 abbrev pub blank : Constraint
 blank = record { owner = bidder 0; kind = OwnSlot (slot 0) }
 
--- n, m, c, the tick, the version, the effects, the bids and the constraints in sheet order, with 0 and blank ones after them
+-- n, m, c, the tick, the version, the effects, the bids and the constraints in sheet order, with 0 and blank ones after them; every floor is 0
 unfoldable pub roundOf : List ℕ → Round
 roundOf s =
     record {
@@ -81,6 +81,7 @@ roundOf s =
       tick = tickField s;
       version = version s;
       effects = padded (λ k. effectField s (suc k)) (slotCount s) 16 0;
+      floors = replicate 16 0;
       bids = padded (λ i. bidField s (suc i)) (bidderCount s) 64 0;
       constraints = padded (constraintField s) (constraintCount s) 1024 blank;
     }
@@ -94,6 +95,26 @@ bidOf r (suc i) = getD (r .bids) i 0
 unfoldable pub effectOf : Round → ℕ → ℕ
 effectOf r zero = 0
 effectOf r (suc k) = getD (r .effects) k 0
+
+-- S-7, "a lent list of m floors": the round with the list's floors under slots 1 to m, and all else as it was
+unfoldable pub withFloors : Round → List ℕ → Round
+withFloors r floors =
+    record {
+      bidders = r .bidders;
+      slots = r .slots;
+      used = r .used;
+      tick = r .tick;
+      version = r .version;
+      effects = r .effects;
+      floors = padded (λ k. getD floors k 0) (r .slots) 16 0;
+      bids = r .bids;
+      constraints = r .constraints;
+    }
+
+-- the floor under slot k in a round
+unfoldable pub floorOf : Round → ℕ → ℕ
+floorOf r zero = 0
+floorOf r (suc k) = getD (r .floors) k 0
 
 -- the round's constraint at index i
 unfoldable pub constraintAt : Round → ℕ → Constraint

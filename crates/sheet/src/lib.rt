@@ -38,7 +38,7 @@ pub struct Constraint {
 }
 
 // A round in memory: the sheet's numbers, and its constraints in sheet order. `used` counts them; the rest are blank. Every bid is a multiple of
-// the tick; in version 2 the constraints rise.
+// the tick; in version 2 the constraints rise. The floors are 0 where a call has none (document 02, S-7).
 pub struct Round {
     pub bidders: usize,
     pub slots: usize,
@@ -46,6 +46,7 @@ pub struct Round {
     pub tick: u32,
     pub version: u32,
     pub effects: [u32; 16],
+    pub floors: [u32; 16],
     pub bids: [u32; 64],
     pub constraints: [Constraint; 1024],
 }

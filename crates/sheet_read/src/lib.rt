@@ -154,6 +154,7 @@ pub fn accepted_round(sheet: &[u8]) -> Round
         tick,
         version: word16(sheet, 3),
         effects,
+        floors: [0u32; 16],
         bids,
         constraints: [blank_constraint(); 1024],
     };
