@@ -20,13 +20,21 @@ returns c = sheet-refused (c .before .before .before .before .args .sheet .now) 
 accepted : (c : tie.Else1) → Accepted (c .before .before .before .before .args .sheet .now)
 accepted c = sym (c .before .check .ensures) ∙ c .if1 .left
 
+slice-aggregate-play-accepted : tie.Need-slice-aggregate-play-accepted
+slice-aggregate-play-accepted c = search needs
+
 play-accepted-requires : tie.Need-play-accepted-requires
-play-accepted-requires c κs = (accepted (c .before), zeros-proper _ (accepted-sheet _ (accepted (c .before)) .counts .most-slots))
+play-accepted-requires c κs =
+    let ok = accepted (c .before .before) in
+    (ok, zeros-proper _ (accepted-sheet _ ok .counts .most-slots))
+
+same-length : tie.Need-same-length
+same-length c = search needs
 
 returns-2 : tie.Need-returns-2
 returns-2 c =
-    let ok = accepted (c .before .before) in
-    accepted-plays _ _ _ _ _ ok (without-floors _ _ (accepted-sheet _ ok .counts .most-slots) (λ k l. zeros 16 k)) (c .play-accepted .ensures)
+    let ok = accepted (c .before .before .before .before .before) in
+    accepted-plays _ _ _ _ _ ok (without-floors _ _ (accepted-sheet _ ok .counts .most-slots) (λ k l. zeros 16 k)) (c .before .before .play-accepted .ensures)
 
 pub play-spec : {M : Type 1} → statement M
-play-spec = tie.close (tie.spec check-requires returns play-accepted-requires returns-2)
+play-spec = tie.close (tie.spec check-requires returns slice-aggregate-play-accepted play-accepted-requires same-length returns-2)

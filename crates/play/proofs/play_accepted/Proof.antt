@@ -41,26 +41,26 @@ outcome-fits r o c e = (
 )
 
 shared-slice-read-slots : tie.Need-shared-slice-read-slots
-shared-slice-read-slots c = let known = accepted-sheet _ (c .before .pre .0) .counts in omega arith
+shared-slice-read-slots c = let known = accepted-sheet _ (c .before .before .before .before .pre .0) .counts in omega arith
 
 cast-slots : tie.Need-cast-slots
-cast-slots c = let known = accepted-sheet _ (c .before .pre .0) .counts in omega arith
+cast-slots c = let known = accepted-sheet _ (c .before .before .before .before .pre .0) .counts in omega arith
 
 mul-if1 : tie.Need-mul-if1
-mul-if1 c = let known = accepted-sheet _ (c .before .pre .0) .counts in omega arith
+mul-if1 c = let known = accepted-sheet _ (c .before .before .before .before .pre .0) .counts in omega arith
 
 returns : tie.Need-returns
-returns c = buffer-short (c .before .before .before .args .sheet .now) (c .before .before .before .args .result .now) _ (c .if1 .taken)
+returns c = buffer-short (c .before .before .before .before .before .args .sheet .now) (c .before .before .before .before .before .args .result .now) _ (c .if1 .taken)
 
 played-requires : tie.Need-played-requires
-played-requires c κs = c .before .before .before .pre
+played-requires c κs = c .before .before .before .before .before .pre
 
 write-result-requires : tie.Need-write-result-requires
 write-result-requires c κs =
-    let start = c .before .before .before .before .before in
+    let start = c .before .before .before .before .before .before .before in
     let known = accepted-sheet _ (start .pre .0) .counts in (
       (omega arith, c .before .before .if1 .left),
-      outcome-fits _ (c .before .played .result) (floors-proper _ _ (round-proper _ (start .pre .0)) (start .pre .1)) (c .before .played .ensures),
+      outcome-fits _ (c .before .played .result) (floors-proper _ _ (round-proper _ (start .pre .0)) (rw (round-slots (start .args .sheet .now)) (start .pre .1))) (c .before .played .ensures),
     )
 
 same-length : tie.Need-same-length
@@ -69,7 +69,7 @@ same-length c = search needs
 returns-2 : tie.Need-returns-2
 unfolding roundOf withFloors playedBuffer
 returns-2 c =
-    let start = c .before .before .before .before .before .before .before .before in
+    let start = c .before .before .before .before .before .before .before .before .before .before in
     let s = start .args .sheet .now in
     let out = start .args .result .now in
     let r = withFloors (roundOf s) (start .args .floors .now) in

@@ -16,11 +16,11 @@ check-requires c κs = search needs
 
 returns : tie.Need-returns
 returns c =
-    let given = c .before .before .before .before .args in
+    let given = c .before .before .before .before .before .args in
     floors-sheet-refused (given .floors .now) (given .sheet .now) (given .result .now) _ (c .before .check .ensures) (c .if1 .taken)
 
 -- past the check the sheet is accepted
-accepted : (c : tie.Else1) → Accepted (c .before .before .before .before .args .sheet .now)
+accepted : (c : tie.Else1) → Accepted (c .before .before .before .before .before .args .sheet .now)
 accepted c = sym (c .before .check .ensures) ∙ c .if1 .left
 
 shared-slice-read-slots : tie.Need-shared-slice-read-slots
@@ -33,15 +33,22 @@ check-floors-requires : tie.Need-check-floors-requires
 check-floors-requires c κs = search needs
 
 returns-2 : tie.Need-returns-2
-returns-2 c = floors-refused _ _ _ _ (accepted (c .before .before .before)) (c .before .check-floors .ensures) (c .if2 .taken)
+returns-2 c =
+    let given = c .before .before .before .before .before .before .before .before .args in
+    floors-refused (given .floors .now) (given .sheet .now) (given .result .now) _ (accepted (c .before .before .before)) (c .before .check-floors .ensures) (c .if2 .taken)
+
+-- and past 30 and 31 so are the floors
+floored : (c : tie.Else2) → floorsRefusal (slotCount (c .before .before .before .before .before .before .before .before .args .sheet .now)) (c .before .before .before .before .before .before .before .before .args .floors .now) ≡ 0
+floored c = sym (c .before .check-floors .ensures) ∙ c .if2 .left
 
 play-accepted-requires : tie.Need-play-accepted-requires
-play-accepted-requires c κs = (accepted (c .before .before .before), passed-proper _ _ (sym (c .before .check-floors .ensures) ∙ c .if2 .left))
+play-accepted-requires c κs = (accepted (c .before .before .before .before), passed-proper _ _ (floored (c .before)))
+
+same-length : tie.Need-same-length
+same-length c = search needs
 
 returns-3 : tie.Need-returns-3
-returns-3 c =
-    floored-plays _ _ _ _ _ (accepted (c .before .before .before .before)) (sym (c .before .before .check-floors .ensures) ∙ c .before .if2 .left)
-    (c .play-accepted .ensures)
+returns-3 c = floored-plays _ _ _ _ _ (accepted (c .before .before .before .before .before .before .before)) (floored (c .before .before .before .before)) (c .before .before .play-accepted .ensures)
 
 pub play-floors-spec : {M : Type 1} → statement M
 play-floors-spec =
@@ -54,4 +61,5 @@ play-floors-spec =
     check-floors-requires
     returns-2
     play-accepted-requires
+    same-length
     returns-3)
