@@ -1,6 +1,5 @@
 // The floors of a call: what a lent list of them must be, for a page of so many slots (document 02, S-7).
 ghost use mathlib.Core.Path.{_≡_};
-ghost use Prim.Native.Nat.{ℕ};
 ghost use Rattle.basis.specs.First.{_when_otherwise_};
 ghost use Rattle.floors.specs.Floors.{someTooHigh, floorsRefusal};
 
