@@ -7,10 +7,13 @@ use mathlib.Core.Path.{_≡_, refl, sym, _∙_, ap, ap₂, subst}
 use native.Mathlib.Nat.{eq-or-lt-of-le, le-antisymm, le-max-left, zero-mod, mul-comm, mul-mod-left, mod-lt, div-add-mod, div-mul-le-self}
 use native.Mathlib.Omega.{arith}
 use lib.Dec.{eqb, ltb}
+use lib.ListN.{replicate, length-replicate}
 use Rattle.basis.proofs.NumberLaws.{below-or-not, multiple-above, multiple-next}
-use Rattle.basis.proofs.TestLaws.{holds-or-fails, not-both, and-holds, not-holds}
+use Rattle.basis.proofs.RowLaws.{zeros}
+use Rattle.basis.proofs.TestLaws.{holds-or-fails, not-both, same-tests, and-holds, not-holds}
+use Rattle.sheet.proofs.FloorLaws.{zeros-proper}
 use Rattle.choice.specs.Winner.{ranksNoLower, winner}
-use Rattle.choice.specs.Critical.{InTicks, floorAsks, criticalAgainst, criticalBid}
+use Rattle.choice.specs.Critical.{InTicks, floorAsks, criticalAgainst, criticalBid, Asked}
 use Rattle.choice.proofs.WinnerLaws.{Wins, ranks-higher, ranks-equal, ranks-cases, ranks-self, wins-winner, winner-wins}
 
 -- Bids that differ at most in bidder w's.
@@ -97,6 +100,35 @@ floor-asks-least tick floor x some multiple reaches =
     absurd (omega arith))
     (λ (l : floorAsks tick floor ≤ x). l)
     (below-or-not x (floorAsks tick floor))
+
+-- So a bid in ticks is below a floor exactly where it is below what the floor asks, and no floor asks nothing.
+pub asks-tells : (tick floor bid : ℕ) → 0 < tick → bid % tick ≡ 0 → ltb bid (floorAsks tick floor) ≡ ltb bid floor
+asks-tells tick floor bid some multiple =
+    same-tests (ltb bid (floorAsks tick floor)) (ltb bid floor)
+    (λ t.
+    lt-ltb bid floor
+    (⊎-elim
+    (λ (l : bid < floor). l)
+    (λ (l : floor ≤ bid).
+    let least = floor-asks-least tick floor bid some multiple l in
+    let less = ltb-true bid (floorAsks tick floor) t in
+    absurd (omega arith))
+    (below-or-not bid floor)))
+    (λ t.
+    let less = ltb-true bid floor t in
+    let reaches = floor-asks-reaches tick floor some in
+    lt-ltb bid (floorAsks tick floor) (omega arith))
+
+zero-asks : (tick : ℕ) → 0 < tick → floorAsks tick 0 ≡ 0
+zero-asks tick some = let h = floor-asks-least tick 0 0 some (zero-mod tick) (omega arith) in omega arith
+
+pub zeros-asked : (tick m : ℕ) → 0 < tick → m ≤ 16 → Asked tick m (replicate 16 0) (replicate 16 0)
+zeros-asked tick m some few =
+    record {
+      proper = zeros-proper m few;
+      enough = (let e = length-replicate {A = ℕ} 16 0 in omega arith);
+      asks-are = λ k l. zeros 16 k ∙ sym (ap (floorAsks tick) (zeros 16 k) ∙ zero-asks tick some);
+    }
 
 module _ (tick floor : ℕ) (eligible : ℕ → Bool) (bid : ℕ → ℕ) (w : ℕ) where
   -- one bidder more: an eligible rival counts, and nobody else

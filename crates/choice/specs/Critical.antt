@@ -3,8 +3,11 @@
 -- eligible and any bids in ticks. That it is the price of documents 01 and 02, the smallest legal bid that still wins, is a theorem.
 use Prim.Native.Nat.{ℕ, zero, suc, _+_, _*_, _-_, _/_, _%_, _<_, _≤_, max}
 use mathlib.Core.Bool.{Bool, cond, not, _&&_}
+use mathlib.Core.List.{List}
 use mathlib.Core.Path.{_≡_}
 use lib.Dec.{eqb, ltb}
+use lib.ListN.{length, getD}
+use Rattle.sheet.specs.Proper.{ProperFloors}
 use Rattle.choice.specs.Winner.{winner}
 
 -- a tick of 1 to 1,000,000,000, and bids up to 1,000,000,000 that are multiples of it
@@ -33,3 +36,9 @@ pub record Awarded (tick floor : ℕ) (eligible : ℕ → Bool) (bid : ℕ → �
   pub won-by : won ≡ winner eligible bid n
   pub nobody-pays : won ≡ 0 → paid ≡ 0
   pub paid-as : (won ≡ 0 → ⊥) → paid ≡ criticalBid tick floor eligible bid won n
+
+-- what the floors of m slots ask, slot by slot
+pub record Asked (tick m : ℕ) (floors asks : List ℕ) : Type 0 where
+  pub proper : ProperFloors m floors
+  pub enough : m ≤ length asks
+  pub asks-are : (k : ℕ) → k < m → getD asks k 0 ≡ floorAsks tick (getD floors k 0)

@@ -1,6 +1,9 @@
 // The floors of a call: what a lent list of them must be, for a page of so many slots (document 02, S-7).
 ghost use mathlib.Core.Path.{_≡_};
 ghost use Rattle.basis.specs.First.{_when_otherwise_};
+ghost use Prim.Native.Nat.{_<_, _≤_};
+ghost use Rattle.sheet.specs.Proper.{ProperFloors};
+ghost use Rattle.choice.specs.Critical.{floorAsks, Asked};
 ghost use Rattle.floors.specs.Floors.{someTooHigh, floorsRefusal};
 
 // "a floor above 1,000,000,000"
@@ -39,4 +42,29 @@ pub fn check_floors(floors: &[u32], slots: usize) -> u32
 {
     let too_high = some_too_high(floors);
     first_of(floors.len() != slots, too_high)
+}
+
+// What a floor asks: the least multiple of the tick that is not below it. No floor asks nothing, and is not divided.
+fn floor_asks(tick: u32, floor: u32) -> u32
+    requires { ⌜ (0 < tick) × (tick ≤ 1000000000) × (floor ≤ 1000000000) ⌝ }
+    ensures { λ r. ⌜ r ≡ floorAsks tick floor ⌝ }
+{
+    if floor == 0 {
+        return 0;
+    }
+    (floor + (tick - 1)) / tick * tick
+}
+
+// What the floors of so many slots ask, with 0 after them.
+pub fn asked(floors: &[u32], slots: usize, tick: u32) -> [u32; 16]
+    requires { ⌜ (slots ≤ 16) × ProperFloors slots (now floors) × (0 < tick) × (tick ≤ 1000000000) ⌝ }
+    ensures { λ r. ⌜ Asked tick slots (now (floors .entry)) r ⌝ }
+{
+    let mut asks = [0u32; 16];
+    let mut k = 0;
+    while k < slots {
+        asks[k] = floor_asks(tick, floors[k]);
+        k += 1;
+    }
+    asks
 }

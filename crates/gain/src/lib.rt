@@ -100,12 +100,12 @@ fn minus(size: u64) -> i64
     0 - size as i64
 }
 
-// The gain of a bidder from a sheet played with a floor under each slot.
-fn gain_of(played: &[u8], floors: &[u32], truth: &[u8], bidder: Bidder, worth: u32) -> i64
+// The gain of a bidder from a sheet played with floors that ask so much.
+fn gain_of(played: &[u8], asks: &[u32], truth: &[u8], bidder: Bidder, worth: u32) -> i64
     requires { ⌜ Accepted (now played) × ProperFloors (slotCount (now played)) (now floors) × Accepted (now truth) × (worth ≤ 1000000000) × (0 < bidder .0) ⌝ }
     ensures { λ r. ⌜ r ≡ gainOf (withFloors (roundOf (now (played .entry))) (now (floors .entry))) (roundOf (now (truth .entry))) (bidder .0) worth ⌝ }
 {
-    let outcome = greedy::played(played, floors);
+    let outcome = greedy::played(played, asks);
     let page = outcome.page;
     let slot = slot_of(page, bidder);
     if slot.0 == 0 {
@@ -147,8 +147,8 @@ fn later_refusal(played: &[u8], truth: &[u8], bidder: u32, worth: u32) -> u32
     0
 }
 
-// 14 to 17, or 0 and the gain, of an accepted sheet with a floor under each slot.
-fn gain_accepted(played: &[u8], floors: &[u32], truth: &[u8], bidder: u32, worth: u32) -> Gained
+// 14 to 17, or 0 and the gain, of an accepted sheet with floors that ask so much.
+fn gain_accepted(played: &[u8], asks: &[u32], truth: &[u8], bidder: u32, worth: u32) -> Gained
     requires { ⌜ Accepted (now played) × ProperFloors (slotCount (now played)) (now floors) ⌝ }
     ensures { λ r. ⌜ r ≡ gainedFor (laterRefusal (now (played .entry)) (now (truth .entry)) bidder worth) (withFloors (roundOf (now (played .entry))) (now (floors .entry))) (now (truth .entry)) bidder worth ⌝ }
 {
@@ -158,7 +158,7 @@ fn gain_accepted(played: &[u8], floors: &[u32], truth: &[u8], bidder: u32, worth
     }
     Gained {
         refusal: 0,
-        gain: gain_of(played, floors, truth, Bidder(bidder as u16), worth),
+        gain: gain_of(played, asks, truth, Bidder(bidder as u16), worth),
     }
 }
 
@@ -198,5 +198,6 @@ pub fn gain_floors(played: &[u8], floors: &[u32], truth: &[u8], bidder: u32, wor
     if wrong != 0 {
         return refused(wrong);
     }
-    gain_accepted(played, floors, truth, bidder, worth)
+    let asks = floors::asked(floors, slots, sheet::tick_of(played));
+    gain_accepted(played, &asks, truth, bidder, worth)
 }

@@ -12,6 +12,7 @@ use Rattle.sheet.specs.declared.Page.{Page}
 use Rattle.sheet.specs.declared.Round.{Round}
 use Rattle.sheet.specs.Round.{constraintAt, floorOf, Has, roundOf}
 use Rattle.sheet.specs.Proper.{ProperRound}
+use Rattle.choice.specs.Critical.{floorAsks}
 use Rattle.auction.specs.Page.{at, Sized}
 use Rattle.auction.specs.Broken.{broken}
 use Rattle.greedy_links.specs.EngineKeys.{key, isSo, chainSo, madeSo, isMarked}
@@ -23,14 +24,14 @@ pub record Known (r : Round) (p : Page) (barred held : List ℕ) : Type 0 where
   pub nobody : isMarked held 0 ≡ false
   pub bars : (y : ℕ) → isMarked barred y ≡ anyBelow (λ i. eqb (linkOwner r i) y && chainSo p (constraintAt r i)) (r .used)
 
--- a round with the lent sheet's constraints, the lent bids and the lent floor under slot l, its page so far, which breaks none and has nobody at l
+-- a round with the lent sheet's constraints, the lent bids and a floor under slot l that asks what is lent, its page so far, which breaks none and has nobody at l
 -- yet, and the marks that know it
-pub record SoFar (r : Round) (p : Page) (s barred held bids : List ℕ) (floor l : ℕ) : Type 0 where
+pub record SoFar (r : Round) (p : Page) (s barred held bids : List ℕ) (asks l : ℕ) : Type 0 where
   pub proper : ProperRound r
   pub constraints-are : r .constraints ≡ roundOf s .constraints
   pub used-are : r .used ≡ roundOf s .used
   pub bids-are : bids ≡ r .bids
-  pub floor-is : floor ≡ floorOf r l
+  pub asks-is : asks ≡ floorAsks (r .tick) (floorOf r l)
   pub sized : Sized p
   pub unbroken : (q : Constraint) → Has r q → broken p q ≡ false
   pub vacant : at p l ≡ 0
@@ -44,14 +45,14 @@ pub record Settled (r : Round) (w k : ℕ) (barred held barred′ held′ : List
       × ((y : ℕ) → isMarked barred′ y ≡ (isMarked barred y || someOwner r (key w k) (λ z. eqb z y) (r .used)))
 
 -- what the page is filled from is the round's: its constraints are those of the lent sheet, whose links are lent too
-pub record Lent (r : Round) (s : List ℕ) (start : ℕ) (last links bids floors : List ℕ) (bidders slots tick : ℕ) : Type 0 where
+pub record Lent (r : Round) (s : List ℕ) (start : ℕ) (last links bids asks : List ℕ) (bidders slots tick : ℕ) : Type 0 where
   pub proper : ProperRound r
   pub kept : Kept s start last links
   pub constraints-are : r .constraints ≡ roundOf s .constraints
   pub used-are : r .used ≡ roundOf s .used
   pub bids-are : bids ≡ r .bids
-  pub some-floors : slots ≤ length floors
-  pub floors-are : (k : ℕ) → k < slots → getD floors k 0 ≡ floorOf r (suc k)
+  pub some-asks : slots ≤ length asks
+  pub asks-are : (k : ℕ) → k < slots → getD asks k 0 ≡ floorAsks (r .tick) (floorOf r (suc k))
   pub bidders-are : bidders ≡ r .bidders
   pub slots-are : slots ≡ r .slots
   pub tick-is : tick ≡ r .tick

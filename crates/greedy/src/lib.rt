@@ -7,21 +7,21 @@
 //
 // What depends on the constraints (`greedy_links::link_all`) stands apart from what depends on the bids (`fill`). A sheet is lent on for its
 // constraints, which start at `start`; its own bids and tick are not read there: those handed on count, and so do the floors, slot by slot.
+ghost use mathlib.Core.List.{List};
 ghost use mathlib.Core.Path.{_≡_};
 ghost use Prim.Native.Nat.{ℕ, _+_, _-_, _<_, _≤_};
 ghost use lib.Dec.{eqb, ltb};
 ghost use lib.ListN.{length, getD};
 ghost use Rattle.basis.specs.First.{_when_otherwise_};
 ghost use Rattle.sheet.specs.Refusal.{Accepted};
-ghost use Rattle.sheet.specs.Sheet.{slotCount};
-ghost use Rattle.sheet.specs.Round.{roundOf, withFloors};
-ghost use Rattle.sheet.specs.Proper.{ProperFloors};
+ghost use Rattle.sheet.specs.Sheet.{slotCount, tickField};
+ghost use Rattle.sheet.specs.Round.{roundOf, withFloors, floorOf};
 ghost use Rattle.auction.specs.Eligible.{firstFailed, failedTest, eligible};
 ghost use Rattle.greedy_links.specs.EngineLinks.{Kept};
 ghost use Rattle.greedy.specs.EngineOutcome.{outcomeOf};
 ghost use Rattle.greedy.specs.EngineEligible.{SoFar, Settled, Lent};
 ghost use Rattle.choice.specs.EngineRanking.{InOrder, NextAt};
-ghost use Rattle.choice.specs.Critical.{InTicks, Awarded};
+ghost use Rattle.choice.specs.Critical.{InTicks, Awarded, Asked};
 ghost use Rattle.choice.specs.EngineBids.{bidIn};
 use auction::Eligibility;
 use choice::Placing;
@@ -36,29 +36,13 @@ pub struct Outcome {
     pub prices: [u32; 16],
 }
 
-// The first of the later tests that fails, for a candidate that has no slot.
-fn first_of(earlier: bool, own: bool, below: bool) -> Eligibility
-    ensures { λ r. ⌜ failedTest r ≡ (2 when earlier otherwise 3 when own otherwise 4 when below otherwise 0) ⌝ }
-{
-    if earlier {
-        return Eligibility::EarlierWinners;
-    }
-    if own {
-        return Eligibility::Own;
-    }
-    if below {
-        return Eligibility::BelowFloor;
-    }
-    Eligibility::Eligible
-}
-
-// Whether a candidate's bid is below the slot's floor.
-fn is_below(bids: &[u32], floor: u32, bidder: Bidder) -> bool
+// Whether a candidate bids less than the slot's floor asks.
+fn is_below(bids: &[u32], asks: u32, bidder: Bidder) -> bool
     requires { ⌜ (0 < bidder .0) × (bidder .0 ≤ length (now bids)) ⌝ }
-    ensures { λ r. ⌜ r ≡ ltb (bidIn (now (bids .entry)) (bidder .0)) floor ⌝ }
+    ensures { λ r. ⌜ r ≡ ltb (bidIn (now (bids .entry)) (bidder .0)) asks ⌝ }
 {
     let index = bidder.0 as usize - 1;
-    bids[index] < floor
+    bids[index] < asks
 }
 
 // The eligibility step: which test the candidate fails first at the slot, with the page so far. Whether it has a slot is asked of `held`,
@@ -71,13 +55,13 @@ fn eligibility(
     sheet: &[u8],
     start: usize,
     bids: &[u32],
-    floor: u32,
+    asks: u32,
     bidder: Bidder,
     slot: Slot,
 ) -> Eligibility
     requires { ⌜ (length (now barred) ≡ 1089) × (length (now held) ≡ 1089) × Kept (now sheet) start (now last) (now links) ⌝ }
     requires { ⌜ ((0 < bidder .0) × (bidder .0 ≤ 64) × (bidder .0 ≤ length (now bids))) × ((0 < slot .0) × (slot .0 ≤ 16)) ⌝ }
-    ensures { λ r. ⌜ ((q : Round) (p : Page) → SoFar q p (now (sheet .entry)) (now (barred .entry)) (now (held .entry)) (now (bids .entry)) floor (slot .0) → failedTest r ≡ firstFailed q p (slot .0) (bidder .0)) ⌝ }
+    ensures { λ r. ⌜ ((q : Round) (p : Page) → SoFar q p (now (sheet .entry)) (now (barred .entry)) (now (held .entry)) (now (bids .entry)) asks (slot .0) → failedTest r ≡ firstFailed q p (slot .0) (bidder .0)) ⌝ }
 {
     let anywhere = greedy_links::owner_key(bidder, Slot(0));
     if greedy_links::is_marked(held, anywhere) {
@@ -91,25 +75,20 @@ fn eligibility(
     let never = greedy_links::is_marked(barred, anywhere);
     let not_here = greedy_links::is_marked(barred, here);
     let own = itself | (never | not_here);
-    let below = is_below(bids, floor, bidder);
-    first_of(earlier, own, below)
-}
-
-// Whether an answer says that no test fails.
-fn fails_none(answer: Eligibility) -> bool
-    ensures { λ r. ⌜ r ≡ eqb (failedTest answer) 0 ⌝ }
-{
-    match answer {
-        Eligibility::Eligible => true,
-        Eligibility::Placed => false,
-        Eligibility::EarlierWinners => false,
-        Eligibility::Own => false,
-        Eligibility::BelowFloor => false,
+    if earlier {
+        return Eligibility::EarlierWinners;
     }
+    if own {
+        return Eligibility::Own;
+    }
+    if is_below(bids, asks, bidder) {
+        return Eligibility::BelowFloor;
+    }
+    Eligibility::Eligible
 }
 
-// The first rank from `from` on whose bidder is eligible, or the number of bidders. Bids fall from rank to rank, so the search ends at the first bid
-// below the floor; of every other bidder the step decides.
+// The first rank from `from` on whose bidder is eligible, or the number of bidders. Bids fall from rank to rank, so the search ends where the step
+// answers that a bid is below the floor: nobody after it reaches the floor.
 fn next_eligible(
     ranked: &[u8],
     barred: &[u8],
@@ -119,7 +98,7 @@ fn next_eligible(
     sheet: &[u8],
     start: usize,
     bids: &[u32],
-    floor: u32,
+    asks: u32,
     bidders: usize,
     slot: Slot,
     from: usize,
@@ -128,14 +107,11 @@ fn next_eligible(
     requires { ⌜ (from ≤ bidders) × (bidders ≤ 64) × (bidders ≤ length (now ranked)) × (bidders ≤ length (now bids)) × ((0 < slot .0) × (slot .0 ≤ 16)) ⌝ }
     requires { ⌜ InOrder (bidIn (now bids)) bidders (now ranked) ⌝ }
     ensures { λ r. ⌜ r ≤ bidders ⌝ }
-    ensures { λ r. ⌜ ((q : Round) (p : Page) → SoFar q p (now (sheet .entry)) (now (barred .entry)) (now (held .entry)) (now (bids .entry)) floor (slot .0) → NextAt (eligible q p (slot .0)) (now (ranked .entry)) bidders from r) ⌝ }
+    ensures { λ r. ⌜ ((q : Round) (p : Page) → SoFar q p (now (sheet .entry)) (now (barred .entry)) (now (held .entry)) (now (bids .entry)) asks (slot .0) → NextAt (eligible q p (slot .0)) (now (ranked .entry)) bidders from r) ⌝ }
 {
     let mut i: usize = from;
     while i < bidders {
         let bidder = choice::ranked_at(ranked, i);
-        if is_below(bids, floor, bidder) {
-            return bidders;
-        }
         let answer = eligibility(
             barred,
             held,
@@ -144,12 +120,20 @@ fn next_eligible(
             sheet,
             start,
             bids,
-            floor,
+            asks,
             bidder,
             slot,
         );
-        if fails_none(answer) {
-            return i;
+        match answer {
+            Eligibility::Eligible => {
+                return i;
+            }
+            Eligibility::BelowFloor => {
+                return bidders;
+            }
+            Eligibility::Placed => {}
+            Eligibility::EarlierWinners => {}
+            Eligibility::Own => {}
         }
         i += 1;
     }
@@ -166,15 +150,15 @@ fn award_slot(
     sheet: &[u8],
     start: usize,
     bids: &[u32],
-    floor: u32,
+    asks: u32,
     bidders: usize,
     tick: u32,
     slot: Slot,
 ) -> Placing
     requires { ⌜ (length (now barred) ≡ 1089) × (length (now held) ≡ 1089) × Kept (now sheet) start (now last) (now links) ⌝ }
     requires { ⌜ (bidders ≤ 64) × (bidders ≤ length (now bids)) × ((0 < slot .0) × (slot .0 ≤ 16)) ⌝ }
-    requires { ⌜ InOrder (bidIn (now bids)) bidders (now ranked) × InTicks tick (bidIn (now bids)) × (floor ≤ 1000000000) ⌝ }
-    ensures { λ r. ⌜ ((q : Round) (p : Page) → SoFar q p (now (sheet .entry)) (now (barred .entry)) (now (held .entry)) (now (bids .entry)) floor (slot .0) → Awarded tick floor (eligible q p (slot .0)) (bidIn (now (bids .entry))) bidders (r .winner .0) (r .critical)) ⌝ }
+    requires { ⌜ InOrder (bidIn (now bids)) bidders (now ranked) × InTicks tick (bidIn (now bids)) ⌝ }
+    ensures { λ r. ⌜ ((q : Round) (p : Page) → SoFar q p (now (sheet .entry)) (now (barred .entry)) (now (held .entry)) (now (bids .entry)) asks (slot .0) → Awarded tick (floorOf q (slot .0)) (eligible q p (slot .0)) (bidIn (now (bids .entry))) bidders (r .winner .0) (r .critical)) ⌝ }
 {
     let first = next_eligible(
         ranked,
@@ -185,7 +169,7 @@ fn award_slot(
         sheet,
         start,
         bids,
-        floor,
+        asks,
         bidders,
         slot,
         0,
@@ -201,13 +185,13 @@ fn award_slot(
             sheet,
             start,
             bids,
-            floor,
+            asks,
             bidders,
             slot,
             first + 1,
         );
     }
-    choice::placing_at(ranked, bids, bidders, tick, floor, first, second)
+    choice::placing_at(ranked, bids, bidders, tick, asks, first, second)
 }
 
 // The marks once a slot is settled: as they were where nobody won it.
@@ -240,13 +224,13 @@ fn next_slot(slot: Slot) -> Slot
     Slot(slot.0 + 1)
 }
 
-// The floor under a slot.
-fn floor_under(floors: &[u32], slot: Slot) -> u32
-    requires { ⌜ (0 < slot .0) × (slot .0 ≤ 16) × (slot .0 ≤ length (now floors)) ⌝ }
-    ensures { λ r. ⌜ r ≡ getD (now (floors .entry)) (slot .0 - 1) 0 ⌝ }
+// What the floor of a slot asks.
+fn asked_at(asks: &[u32], slot: Slot) -> u32
+    requires { ⌜ (0 < slot .0) × (slot .0 ≤ 16) × (slot .0 ≤ length (now asks)) ⌝ }
+    ensures { λ r. ⌜ r ≡ getD (now (asks .entry)) (slot .0 - 1) 0 ⌝ }
 {
     let index = slot.0 as usize - 1;
-    floors[index]
+    asks[index]
 }
 
 // Where a slot's price stands in the list of prices.
@@ -257,20 +241,20 @@ fn price_index(slot: Slot) -> usize
     slot.0 as usize - 1
 }
 
-// The page of the greedy rule with the price of each slot, from a round's linked constraints, its bids, its floors and its tick.
+// The page of the greedy rule with the price of each slot, from a round's linked constraints, its bids, what its floors ask and its tick.
 pub fn fill(
     last: &[u16],
     links: &[u16],
     sheet: &[u8],
     start: usize,
     bids: &[u32],
-    floors: &[u32],
+    asks: &[u32],
     bidders: usize,
     slots: usize,
     tick: u32,
 ) -> Outcome
-    requires { ⌜ ((q : Round) × Lent q (now sheet) start (now last) (now links) (now bids) (now floors) bidders slots tick) ⌝ }
-    ensures { λ r. ⌜ ((q : Round) → Lent q (now (sheet .entry)) start (now (last .entry)) (now (links .entry)) (now (bids .entry)) (now (floors .entry)) bidders slots tick → r ≡ outcomeOf q) ⌝ }
+    requires { ⌜ ((q : Round) × Lent q (now sheet) start (now last) (now links) (now bids) (now asks) bidders slots tick) ⌝ }
+    ensures { λ r. ⌜ ((q : Round) → Lent q (now (sheet .entry)) start (now (last .entry)) (now (links .entry)) (now (bids .entry)) (now (asks .entry)) bidders slots tick → r ≡ outcomeOf q) ⌝ }
 {
     let ranked = choice::ranking_of(bids, bidders);
     let mut barred = [0u8; greedy_links::KEYS];
@@ -279,7 +263,7 @@ pub fn fill(
     let mut prices = [0u32; 16];
     let mut slot = Slot(1);
     while slot.0 as usize <= slots {
-        let floor = floor_under(floors, slot);
+        let asked = asked_at(asks, slot);
         let awarded = award_slot(
             &ranked,
             &barred,
@@ -289,7 +273,7 @@ pub fn fill(
             sheet,
             start,
             bids,
-            floor,
+            asked,
             bidders,
             tick,
             slot,
@@ -313,10 +297,10 @@ pub fn fill(
     Outcome { page, prices }
 }
 
-// The page of the greedy rule with the price of each slot, of an accepted sheet with a floor under each slot.
-pub fn played(sheet: &[u8], floors: &[u32]) -> Outcome
-    requires { ⌜ Accepted (now sheet) × ProperFloors (slotCount (now sheet)) (now floors) ⌝ }
-    ensures { λ r. ⌜ r ≡ outcomeOf (withFloors (roundOf (now (sheet .entry))) (now (floors .entry))) ⌝ }
+// The page of the greedy rule with the price of each slot, of an accepted sheet with floors that ask so much.
+pub fn played(sheet: &[u8], asks: &[u32]) -> Outcome
+    requires { ⌜ Accepted (now sheet) × ((floors : List ℕ) × Asked (tickField (now sheet)) (slotCount (now sheet)) floors (now asks)) ⌝ }
+    ensures { λ r. ⌜ ((floors : List ℕ) → Asked (tickField (now (sheet .entry))) (slotCount (now (sheet .entry))) floors (now (asks .entry)) → r ≡ outcomeOf (withFloors (roundOf (now (sheet .entry))) floors)) ⌝ }
 {
     let mut last = [0u16; greedy_links::KEYS];
     let mut links = [0u16; greedy_links::LINKS];
@@ -332,7 +316,7 @@ pub fn played(sheet: &[u8], floors: &[u32]) -> Outcome
         sheet,
         start,
         &bids,
-        floors,
+        asks,
         bidders,
         slots,
         tick,

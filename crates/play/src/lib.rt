@@ -14,8 +14,8 @@ ghost use Rattle.play.specs.Play.{roomRefusal, playedBuffer, Played, Pla
 ghost use Rattle.play.specs.EngineEntries.{entryIn};
 use greedy::Outcome;
 
-// An accepted sheet is played with a floor under each slot, where the buffer has room: 19, or 0.
-fn play_accepted(sheet: &[u8], floors: &[u32], result: &mut [u8]) -> u32
+// An accepted sheet is played with floors that ask so much, where the buffer has room: 19, or 0.
+fn play_accepted(sheet: &[u8], asks: &[u32], result: &mut [u8]) -> u32
     requires { ⌜ Accepted (now sheet) × ProperFloors (slotCount (now sheet)) (now floors) ⌝ }
     ensures { λ r. ⌜ (r ≡ roomRefusal (now (sheet .entry)) (now (result .entry))) × (now (result .exit) ≡ unlessRefused (roomRefusal (now (sheet .entry)) (now (result .entry))) (playedBuffer (withFloors (roundOf (now (sheet .entry))) (now (floors .entry))) (now (result .entry))) (now (result .entry))) ⌝ }
 {
@@ -23,7 +23,7 @@ fn play_accepted(sheet: &[u8], floors: &[u32], result: &mut [u8]) -> u32
     if result.len() < 5 * slots {
         return 19;
     }
-    write_result(greedy::played(sheet, floors), slots, result);
+    write_result(greedy::played(sheet, asks), slots, result);
     0
 }
 
@@ -53,7 +53,8 @@ pub fn play_floors(sheet: &[u8], floors: &[u32], result: &mut [u8]) -> u32
     if wrong != 0 {
         return wrong;
     }
-    play_accepted(sheet, floors, result)
+    let asks = floors::asked(floors, slots, sheet::tick_of(sheet));
+    play_accepted(sheet, &asks, result)
 }
 
 // The page and the prices go to the front of the buffer.
