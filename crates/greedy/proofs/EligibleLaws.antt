@@ -19,6 +19,7 @@ use Rattle.sheet.specs.declared.Constraint.{Constraint}
 use Rattle.sheet.specs.declared.Page.{Page}
 use Rattle.sheet.specs.declared.Round.{Round}
 use Rattle.sheet.specs.Round.{constraintAt, blank, bidOf, floorOf, Has, roundOf}
+use Rattle.choice.proofs.CriticalLaws.{asks-tells}
 use Rattle.sheet.specs.Proper.{Proper, ProperRound}
 use Rattle.choice.specs.EngineBids.{bidIn}
 use Rattle.auction.specs.Page.{at, put, emptyPage, placed, Sized}
@@ -317,23 +318,25 @@ some-same r s same-constraints same-used x test =
 pub lent-bid : (r : Round) (bids : List ℕ) → bids ≡ r .bids → (b : ℕ) → bidIn bids b ≡ bidOf r b
 lent-bid r bids same b = ap (λ (bs : List ℕ). bidIn bs b) same ∙ bid-in r b
 
--- and who is eligible bids at least the lent floor.
-pub lent-reaches : (r : Round) (p : Page) (s barred held bids : List ℕ) (floor l : ℕ) → SoFar r p s barred held bids floor l →
-    (b : ℕ) → eligible r p l b ≡ true → floor ≤ bidIn bids b
-lent-reaches r p s barred held bids floor l h b e =
+-- and who is eligible bids at least the floor.
+pub lent-reaches : (r : Round) (p : Page) (s barred held bids : List ℕ) (asks l : ℕ) → SoFar r p s barred held bids asks l →
+    (b : ℕ) → eligible r p l b ≡ true → floorOf r l ≤ bidIn bids b
+lent-reaches r p s barred held bids asks l h b e =
     let bid = lent-bid r bids (h .bids-are) b in
-    let under = h .floor-is in
     let reaches = eligible-reaches r p l b e in
     omega arith
 
 -- The step's answers, for the page so far.
-module _ (r : Round) (p : Page) (s barred held bids : List ℕ) (floor l b : ℕ) (h : SoFar r p s barred held bids floor l)
+module _ (r : Round) (p : Page) (s barred held bids : List ℕ) (asks l b : ℕ) (h : SoFar r p s barred held bids asks l)
     (b-some : 0 < b) (b-most : b ≤ 64) (l-some : 0 < l) (l-most : l ≤ 16) where
   held-placed : isMarked held b ≡ placed p b
   held-placed = placed-told r (h .proper) p l b (h .sized) l-some l-most (h .vacant) b-some b-most (h .unbroken) barred held (h .known)
 
-  below-told : ltb (bidIn bids b) floor ≡ ltb (bidOf r b) (floorOf r l)
-  below-told = ap₂ ltb (lent-bid r bids (h .bids-are) b) (h .floor-is)
+  -- bids are in ticks, so who bids less than the floor asks is below the floor
+  pub below-told : ltb (bidIn bids b) asks ≡ ltb (bidOf r b) (floorOf r l)
+  below-told =
+      ap₂ ltb (lent-bid r bids (h .bids-are) b) (h .asks-is)
+      ∙ asks-tells (r .tick) (floorOf r l) (bidOf r b) (h .proper .some-tick) (h .proper .in-ticks b)
 
   -- the tests in their order, the first as it was answered
   in-order : (t : Bool) → placed p b ≡ t →
@@ -362,7 +365,7 @@ module _ (r : Round) (p : Page) (s barred held bids : List ℕ) (floor l b : ℕ
       named ≡ namedFor (someOwner (roundOf s) (key b l) (isMarked held) (roundOf s .used)) (someOwner (roundOf s) (key b l) (λ y. eqb y 0) (roundOf s .used)) →
       (2 when named .earlier otherwise
       3 when named .itself || (isMarked barred b || isMarked barred (key b l)) otherwise
-      4 when ltb (bidIn bids b) floor otherwise
+      4 when ltb (bidIn bids b) asks otherwise
       0)
       ≡ firstFailed r p l b
   unfolding namedFor

@@ -15,7 +15,7 @@ use Rattle.sheet.specs.declared.Page.{Page}
 use Rattle.sheet.specs.declared.Round.{Round}
 use Rattle.sheet.specs.Round.{bidOf, floorOf, roundOf}
 use Rattle.sheet.specs.Proper.{ProperRound}
-use Rattle.choice.specs.Critical.{InTicks, Awarded}
+use Rattle.choice.specs.Critical.{floorAsks, InTicks, Awarded}
 use Rattle.choice.specs.EngineBids.{bidIn}
 use Rattle.choice.proofs.WinnerLaws.{winner-same}
 use Rattle.choice.proofs.CriticalLaws.{critical-same}
@@ -107,8 +107,8 @@ module _ (r : Round) (c : ProperRound r) (k : ℕ) (inside : k < r .slots) (barr
       }
 
 -- The same of what is lent, at the slot that comes next.
-module _ (r : Round) (s : List ℕ) (start : ℕ) (last links bids floors : List ℕ) (bidders slots tick : ℕ)
-    (lent : Lent r s start last links bids floors bidders slots tick) where
+module _ (r : Round) (s : List ℕ) (start : ℕ) (last links bids asks : List ℕ) (bidders slots tick : ℕ)
+    (lent : Lent r s start last links bids asks bidders slots tick) where
   pub lent-few : (bidders ≤ 64) × (length bids ≡ 64) × (slots ≤ 16)
   lent-few =
       let n = lent .bidders-are in
@@ -128,26 +128,24 @@ module _ (r : Round) (s : List ℕ) (start : ℕ) (last links bids floors : List
         multiple = λ b. ap₂ (λ (x t : ℕ). x % t) (lent-bid r bids (lent .bids-are) b) (lent .tick-is) ∙ proper .in-ticks b;
       }
 
-  -- the floor that is lent for a slot is the round's
-  lent-floor : (k : ℕ) → 0 < k → k ≤ slots → getD floors (k - 1) 0 ≡ floorOf r k
-  lent-floor zero some most = absurd (omega arith)
-  lent-floor (suc k) some most =
+  -- what is lent for a slot is what the round's floor there asks
+  lent-asks : (k : ℕ) → 0 < k → k ≤ slots → getD asks (k - 1) 0 ≡ floorAsks (r .tick) (floorOf r k)
+  lent-asks zero some most = absurd (omega arith)
+  lent-asks (suc k) some most =
       let e : suc k - 1 ≡ k = omega arith in
-      ap (λ (i : ℕ). getD floors i 0) e ∙ lent .floors-are k most
+      ap (λ (i : ℕ). getD asks i 0) e ∙ lent .asks-are k most
 
-  pub lent-floor-most : (k : ℕ) → 0 < k → k ≤ slots → getD floors (k - 1) 0 ≤ 1_000_000_000
-  lent-floor-most k some most = let e = lent-floor k some most in let h = lent .proper .most-floor k in omega arith
-
-  module _ (barred held : List ℕ) (page : Page) (prices : List ℕ) (w paid floor : ℕ) where
+  module _ (barred held : List ℕ) (page : Page) (prices : List ℕ) (w paid asked : ℕ) where
     -- what an award promises
     abbrev Award : ℕ → Type 0
-    Award k = (q : Round) (p : Page) → SoFar q p s barred held bids floor k → Awarded tick floor (eligible q p k) (bidIn bids) bidders w paid
+    Award k = (q : Round) (p : Page) → q .tick ≡ tick → SoFar q p s barred held bids asked k → Awarded tick (floorOf q k) (eligible q p k) (bidIn bids) bidders w paid
 
     inside-at : (k : ℕ) → suc k ≤ slots → k < r .slots
     inside-at k most = let e = lent .slots-are in omega arith
 
     -- what the marks know before slot k + 1 is awarded
-    so-far : (k : ℕ) → suc k ≤ slots → floor ≡ floorOf r (suc k) → Filled r k barred held page prices → SoFar r (pageUpTo r k) s barred held bids floor (suc k)
+    so-far : (k : ℕ) → suc k ≤ slots → asked ≡ floorAsks (r .tick) (floorOf r (suc k)) → Filled r k barred held page prices →
+        SoFar r (pageUpTo r k) s barred held bids asked (suc k)
     so-far k most under f =
         let inside = inside-at k most in
         let room = lent .proper .most-slots in
@@ -156,7 +154,7 @@ module _ (r : Round) (s : List ℕ) (start : ℕ) (last links bids floors : List
           constraints-are = lent .constraints-are;
           used-are = lent .used-are;
           bids-are = lent .bids-are;
-          floor-is = under;
+          asks-is = under;
           sized = upTo-sized r k;
           unbroken = upTo-unbroken r (lent .proper .proper) k (omega arith);
           vacant = upTo-later r k (suc k) (omega arith);
@@ -164,14 +162,14 @@ module _ (r : Round) (s : List ℕ) (start : ℕ) (last links bids floors : List
         }
 
     -- the award, promised for every page so far, for the round's own
-    awarded-of : (k : ℕ) → suc k ≤ slots → floor ≡ floorOf r (suc k) → Filled r k barred held page prices → Award (suc k) →
+    awarded-of : (k : ℕ) → suc k ≤ slots → asked ≡ floorAsks (r .tick) (floorOf r (suc k)) → Filled r k barred held page prices → Award (suc k) →
         Awarded (r .tick) (floorOf r (suc k)) (eligible r (pageUpTo r k) (suc k)) (bidIn (r .bids)) (r .bidders) w paid
     awarded-of k most under f a =
-        subst (λ (x : ℕ). Awarded (r .tick) x (eligible r (pageUpTo r k) (suc k)) (bidIn (r .bids)) (r .bidders) w paid) under
-        (subst (λ (t : ℕ). Awarded t floor (eligible r (pageUpTo r k) (suc k)) (bidIn (r .bids)) (r .bidders) w paid) (lent .tick-is)
+        let floor = floorOf r (suc k) in
+        subst (λ (t : ℕ). Awarded t floor (eligible r (pageUpTo r k) (suc k)) (bidIn (r .bids)) (r .bidders) w paid) (lent .tick-is)
         (subst (λ (bs : List ℕ). Awarded tick floor (eligible r (pageUpTo r k) (suc k)) (bidIn bs) (r .bidders) w paid) (lent .bids-are)
         (subst (λ (n : ℕ). Awarded tick floor (eligible r (pageUpTo r k) (suc k)) (bidIn bids) n w paid) (lent .bidders-are)
-        (a r (pageUpTo r k) (so-far k most under f)))))
+        (a r (pageUpTo r k) (sym (lent .tick-is)) (so-far k most under f))))
 
     -- and so the marks
     settled-of : (k : ℕ) (barred′ held′ : List ℕ) → Settled (roundOf s) w k barred held barred′ held′ → Settled r w k barred held barred′ held′
@@ -186,18 +184,18 @@ module _ (r : Round) (s : List ℕ) (start : ℕ) (last links bids floors : List
           );
         }
 
-    pub slot-won : (k : ℕ) → 0 < k → k ≤ slots → floor ≡ getD floors (k - 1) 0 → Filled r (k - 1) barred held page prices → Award k → w ≤ 64
+    pub slot-won : (k : ℕ) → 0 < k → k ≤ slots → asked ≡ getD asks (k - 1) 0 → Filled r (k - 1) barred held page prices → Award k → w ≤ 64
     slot-won zero some most under f a = absurd (omega arith)
     slot-won (suc k) some most under f a =
         let e : suc k - 1 ≡ k = omega arith in
         won-most r (lent .proper) k (inside-at k most) barred held page prices (rw e at f) w paid
-        (awarded-of k most (under ∙ lent-floor (suc k) some most) (rw e at f) a)
+        (awarded-of k most (under ∙ lent-asks (suc k) some most) (rw e at f) a)
 
-    pub slot-filled : (k : ℕ) → 0 < k → k ≤ slots → floor ≡ getD floors (k - 1) 0 → Filled r (k - 1) barred held page prices → Award k → (barred′ held′ : List ℕ) →
+    pub slot-filled : (k : ℕ) → 0 < k → k ≤ slots → asked ≡ getD asks (k - 1) 0 → Filled r (k - 1) barred held page prices → Award k → (barred′ held′ : List ℕ) →
         Settled (roundOf s) w k barred held barred′ held′ → Filled r k barred′ held′ (put page k w) (set prices (k - 1) paid)
     slot-filled zero some most under f a barred′ held′ settled = absurd (omega arith)
     slot-filled (suc k) some most under f a barred′ held′ settled =
         let e : suc k - 1 ≡ k = omega arith in
         rw e
         (filled-next r (lent .proper) k (inside-at k most) barred held page prices (rw e at f) w paid
-        (awarded-of k most (under ∙ lent-floor (suc k) some most) (rw e at f) a) barred′ held′ (settled-of (suc k) barred′ held′ settled))
+        (awarded-of k most (under ∙ lent-asks (suc k) some most) (rw e at f) a) barred′ held′ (settled-of (suc k) barred′ held′ settled))

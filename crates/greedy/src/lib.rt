@@ -158,7 +158,7 @@ fn award_slot(
     requires { ⌜ (length (now barred) ≡ 1089) × (length (now held) ≡ 1089) × Kept (now sheet) start (now last) (now links) ⌝ }
     requires { ⌜ (bidders ≤ 64) × (bidders ≤ length (now bids)) × ((0 < slot .0) × (slot .0 ≤ 16)) ⌝ }
     requires { ⌜ InOrder (bidIn (now bids)) bidders (now ranked) × InTicks tick (bidIn (now bids)) ⌝ }
-    ensures { λ r. ⌜ ((q : Round) (p : Page) → SoFar q p (now (sheet .entry)) (now (barred .entry)) (now (held .entry)) (now (bids .entry)) asks (slot .0) → Awarded tick (floorOf q (slot .0)) (eligible q p (slot .0)) (bidIn (now (bids .entry))) bidders (r .winner .0) (r .critical)) ⌝ }
+    ensures { λ r. ⌜ ((q : Round) (p : Page) → q .tick ≡ tick → SoFar q p (now (sheet .entry)) (now (barred .entry)) (now (held .entry)) (now (bids .entry)) asks (slot .0) → Awarded tick (floorOf q (slot .0)) (eligible q p (slot .0)) (bidIn (now (bids .entry))) bidders (r .winner .0) (r .critical)) ⌝ }
 {
     let first = next_eligible(
         ranked,

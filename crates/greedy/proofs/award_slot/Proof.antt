@@ -1,9 +1,11 @@
 -- `greedy::award_slot` meets its contract: the first two eligible bidders in the ranking. Assumes nothing.
 use Prim.Native.Nat.{ℕ, suc, _≤_}
 use mathlib.Core.Logic.{⊎-elim}
-use mathlib.Core.Path.{sym, subst}
+use mathlib.Core.Path.{sym, _∙_, ap, subst}
 use native.Mathlib.Numerals.{add-one}
 use native.Mathlib.Omega.{arith}
+use Rattle.sheet.specs.Round.{floorOf}
+use Rattle.choice.specs.Critical.{floorAsks}
 use Rattle.choice.specs.EngineRanking.{NextAt}
 use Rattle.auction.specs.Eligible.{eligible}
 use Rattle.greedy.proofs.EligibleLaws.{lent-reaches}
@@ -38,13 +40,14 @@ placing-at-requires c κs =
     (λ w. let e = w .2 in let m = w .1 .ensures .0 in omega arith)
     (λ w. let e = w .1 in omega arith)
     (c .if1 .came) in
-    ((p .1 .0 .0, p .1 .0 .1, c .before .next-eligible .ensures .0, second-most, p .1 .1 .2), (p .1 .1 .0, p .1 .1 .1))
+    ((p .1 .0 .0, p .1 .0 .1, c .before .next-eligible .ensures .0, second-most), (p .1 .1 .0, p .1 .1 .1))
 
 returns : tie.Need-returns
-returns c = λ q p far.
+returns c = λ q p same far.
     let a = c .before .before .before .before .before .before .before .before .before .before .args in
     let first = c .before .before .next-eligible .result in
-    c .placing-at .ensures (eligible q p (a .slot .0)) (lent-reaches q p _ _ _ _ _ _ far)
+    c .placing-at .ensures (floorOf q (a .slot .0)) (far .asks-is ∙ ap (λ (t : ℕ). floorAsks t (floorOf q (a .slot .0))) same)
+    (eligible q p (a .slot .0)) (lent-reaches q p _ _ _ _ _ _ far)
     (c .before .before .next-eligible .ensures .1 q p far)
     (λ below.
     ⊎-elim

@@ -12,23 +12,23 @@ use Rattle.auction.specs.Greedy.{pageUpTo, greedyPage}
 use Rattle.auction.specs.Price.{price}
 use Rattle.greedy.specs.EngineOutcome.{outcomeOf}
 use Rattle.greedy.specs.EngineEligible.{Lent}
-use Rattle.greedy.proofs.FillLaws.{Filled, filled-start, lent-few, lent-in-ticks, lent-floor-most, slot-won, slot-filled}
+use Rattle.greedy.proofs.FillLaws.{Filled, filled-start, lent-few, lent-in-ticks, slot-won, slot-filled}
 use Rattle.greedy.proofs.fill.Statement.{statement}
 use Rattle.greedy.proofs.fill.Tie as tie
 
-record Going (s : List ℕ) (start : ℕ) (last links bids floors : List ℕ) (bidders slots tick : ℕ) (barred held : List ℕ) (page : Page) (prices : List ℕ) (slot : ℕ) : Type 0 where
+record Going (s : List ℕ) (start : ℕ) (last links bids asks : List ℕ) (bidders slots tick : ℕ) (barred held : List ℕ) (page : Page) (prices : List ℕ) (slot : ℕ) : Type 0 where
   first : 0 < slot
   most : slot ≤ suc slots
   size-barred : length barred ≡ 1089
   size-held : length held ≡ 1089
-  filled : (r : Round) → Lent r s start last links bids floors bidders slots tick → Filled r (slot - 1) barred held page prices
+  filled : (r : Round) → Lent r s start last links bids asks bidders slots tick → Filled r (slot - 1) barred held page prices
 
 abbrev Inv-loop : tie.InvT-loop
-Inv-loop last links sheet start bids floors bidders slots tick ranked barred₀ held₀ page₀ prices₀ slot₀ barred held page prices slot =
-    Going sheet start last links bids floors bidders slots tick barred held page prices (slot .0)
+Inv-loop last links sheet start bids asks bidders slots tick ranked barred₀ held₀ page₀ prices₀ slot₀ barred held page prices slot =
+    Going sheet start last links bids asks bidders slots tick barred held page prices (slot .0)
 
 abbrev μ-loop : tie.MeasureT-loop
-μ-loop last links sheet start bids floors bidders slots tick ranked barred₀ held₀ page₀ prices₀ slot₀ barred held page prices slot = suc slots - slot .0
+μ-loop last links sheet start bids asks bidders slots tick ranked barred₀ held₀ page₀ prices₀ slot₀ barred held page prices slot = suc slots - slot .0
 
 ranking-of-requires : tie.Need-ranking-of-requires Inv-loop μ-loop
 ranking-of-requires c κs =
@@ -54,11 +54,11 @@ cast-if1 c =
     let v = c .before .loop .inv .most in
     omega arith
 
-floor-under-requires : tie.Need-floor-under-requires Inv-loop μ-loop
-floor-under-requires c κs =
+asked-at-requires : tie.Need-asked-at-requires Inv-loop μ-loop
+asked-at-requires c κs =
     let p = c .before .before .before .before .before .before .before .before .before .before .pre in
     let few = lent-few _ _ _ _ _ _ _ _ _ _ (p .1) in
-    let many = p .1 .some-floors in
+    let many = p .1 .some-asks in
     let below = c .if1 .taken in
     (c .before .before .loop .inv .first, omega arith, omega arith)
 
@@ -77,9 +77,8 @@ award-slot-requires c κs =
     let v = c .before .before .before .before .before .before .loop .inv in
     let few = lent-few _ _ _ _ _ _ _ _ _ _ (p .1) in
     let below = c .before .before .before .before .if1 .taken in
-    let under = c .before .before .before .floor-under .ensures in
-    let floor-most = lent-floor-most _ _ _ _ _ _ _ _ _ _ (p .1) (c .before .before .before .before .before .before .loop .slot .0) (v .first) below in
-    ((v .size-barred, v .size-held, p .1 .kept), ((few .0, omega arith, (v .first, omega arith)), (c .before .before .before .before .before .before .before .before .ranking-of .ensures, lent-in-ticks _ _ _ _ _ _ _ _ _ _ (p .1), omega arith)))
+    let under = c .before .before .before .asked-at .ensures in
+    ((v .size-barred, v .size-held, p .1 .kept), ((few .0, omega arith, (v .first, omega arith)), (c .before .before .before .before .before .before .before .before .ranking-of .ensures, lent-in-ticks _ _ _ _ _ _ _ _ _ _ (p .1))))
 
 with-bidder-requires : tie.Need-with-bidder-requires Inv-loop μ-loop
 with-bidder-requires c κs =
@@ -120,7 +119,7 @@ settle-requires c κs =
     let v = c .before .before .before .before .before .before .before .before .before .before .before .before .loop .inv in
     let few = lent-few _ _ _ _ _ _ _ _ _ _ (p .1) in
     let below = c .before .before .before .before .before .before .before .before .before .before .if1 .taken in
-    let won = slot-won (p .0) _ _ _ _ _ _ _ _ _ (p .1) _ _ _ _ _ _ _ (c .before .before .before .before .before .before .before .before .before .before .before .before .loop .slot .0) (v .first) below (c .before .before .before .before .before .before .before .before .before .floor-under .ensures) (v .filled (p .0) (p .1)) (c .before .before .before .before .before .award-slot .ensures) in
+    let won = slot-won (p .0) _ _ _ _ _ _ _ _ _ (p .1) _ _ _ _ _ _ _ (c .before .before .before .before .before .before .before .before .before .before .before .before .loop .slot .0) (v .first) below (c .before .before .before .before .before .before .before .before .before .asked-at .ensures) (v .filled (p .0) (p .1)) (c .before .before .before .before .before .award-slot .ensures) in
     ((v .size-barred, v .size-held, p .1 .kept), (won, omega arith))
 
 next-slot-requires : tie.Need-next-slot-requires Inv-loop μ-loop
@@ -149,7 +148,7 @@ loop-again c =
       size-held = c .before .before .before .settle .kept .1 .0 ∙ v .size-held;
       filled = λ r lent.
           rw (c .before .before .before .before .before .before .before .with-bidder .ensures, c .before .before .before .before .before .before .price-index .ensures, next)
-          (slot-filled r _ _ _ _ _ _ _ _ _ lent _ _ _ _ _ _ _ s (v .first) below (c .before .before .before .before .before .before .before .before .before .before .before .before .before .floor-under .ensures) (v .filled r lent) (c .before .before .before .before .before .before .before .before .before .award-slot .ensures) _ _
+          (slot-filled r _ _ _ _ _ _ _ _ _ lent _ _ _ _ _ _ _ s (v .first) below (c .before .before .before .before .before .before .before .before .before .before .before .before .before .asked-at .ensures) (v .filled r lent) (c .before .before .before .before .before .before .before .before .before .award-slot .ensures) _ _
           (c .before .before .before .settle .ensures));
     }
 
@@ -177,7 +176,7 @@ fill-spec =
     empty-page-requires
     loop-holds
     cast-if1
-    floor-under-requires
+    asked-at-requires
     slice-aggregate-award-slot
     slice-aggregate-award-slot-2
     slice-aggregate-award-slot-3

@@ -1,12 +1,12 @@
 -- `greedy::played` meets its contract: the constraints are linked, and then the page is filled. Assumes nothing.
 use Prim.Native.Nat.{ℕ}
 use mathlib.Core.List.{List}
-use mathlib.Core.Path.{_≡_, refl, sym}
+use mathlib.Core.Path.{_≡_, refl, sym, _∙_, ap}
 use native.Mathlib.Omega.{arith}
 use Rattle.sheet.specs.Sheet.{bidderCount, slotCount, tickField, constraintsStart}
 use Rattle.sheet.specs.Refusal.{Accepted}
 use Rattle.sheet.specs.Round.{roundOf, withFloors}
-use Rattle.sheet.specs.Proper.{ProperFloors}
+use Rattle.choice.specs.Critical.{floorAsks, Asked}
 use Rattle.sheet.proofs.FloorLaws.{floors-proper, floor-under}
 use Rattle.sheet.proofs.HeaderLaws.{start-least}
 use Rattle.sheet.proofs.AcceptedLaws.{accepted-sheet}
@@ -19,19 +19,19 @@ use Rattle.greedy.proofs.played.Statement.{statement}
 use Rattle.greedy.proofs.played.Tie as tie
 
 -- what is lent on is the round's, with the floors
-lent-on : (s : List ℕ) (start : ℕ) (last links bids floors : List ℕ) (tick : ℕ) → Accepted s → ProperFloors (slotCount s) floors → start ≡ constraintsStart s →
+lent-on : (s : List ℕ) (start : ℕ) (last links bids floors asks : List ℕ) (tick : ℕ) → Accepted s → Asked (tickField s) (slotCount s) floors asks → start ≡ constraintsStart s →
     Linked (roundOf s) (roundOf s .used) last links → bids ≡ roundOf s .bids → tick ≡ tickField s →
-    Lent (withFloors (roundOf s) floors) s start last links bids floors (bidderCount s) (slotCount s) tick
+    Lent (withFloors (roundOf s) floors) s start last links bids asks (bidderCount s) (slotCount s) tick
 unfolding roundOf withFloors
-lent-on s start last links bids floors tick ok proper starts linked bids-are tick-is =
+lent-on s start last links bids floors asks tick ok asked starts linked bids-are tick-is =
     record {
-      proper = floors-proper (roundOf s) floors (round-proper s ok) proper;
+      proper = floors-proper (roundOf s) floors (round-proper s ok) (asked .proper);
       kept = record { accepted = ok; starts = starts; linked = linked };
       constraints-are = refl;
       used-are = refl;
       bids-are = bids-are;
-      some-floors = proper .enough;
-      floors-are = λ k below. sym (floor-under (roundOf s) floors k below);
+      some-asks = asked .enough;
+      asks-are = λ k below. asked .asks-are k below ∙ ap (floorAsks (tickField s)) (sym (floor-under (roundOf s) floors k below));
       bidders-are = refl;
       slots-are = refl;
       tick-is = tick-is;
@@ -89,15 +89,18 @@ slice-aggregate-fill-3 : tie.Need-slice-aggregate-fill-3
 slice-aggregate-fill-3 c = search needs
 
 fill-requires : tie.Need-fill-requires
-fill-requires c κs = (
-  withFloors (roundOf (c .before .before .before .before .before .before .before .before .before .before .before .before .before .before .before .args .sheet .now)) (c .before .before .before .before .before .before .before .before .before .before .before .before .before .before .before .args .floors .now),
-  lent-on _ _ _ _ _ _ _ (c .before .before .before .before .before .before .before .before .before .before .before .before .before .before .before .pre .0) (c .before .before .before .before .before .before .before .before .before .before .before .before .before .before .before .pre .1) (c .before .before .before .before .before .before .constraints-start .ensures) (c .before .before .before .before .before .before .before .before .before .before .link-all .ensures) (c .before .before .before .before .before .before .before .accepted-bids .ensures) (c .before .before .before .tick-of .ensures),
-)
+fill-requires c κs =
+    let start = c .before .before .before .before .before .before .before .before .before .before .before .before .before .before .before in
+    let floors = start .pre .1 .0 in (
+      withFloors (roundOf (start .args .sheet .now)) floors,
+      lent-on _ _ _ _ _ floors _ _ (start .pre .0) (start .pre .1 .1) (c .before .before .before .before .before .before .constraints-start .ensures) (c .before .before .before .before .before .before .before .before .before .before .link-all .ensures) (c .before .before .before .before .before .before .before .accepted-bids .ensures) (c .before .before .before .tick-of .ensures),
+    )
 
 returns : tie.Need-returns
-returns c =
-    c .fill .ensures (withFloors (roundOf (c .before .before .before .before .before .before .before .before .before .before .before .before .before .before .before .before .args .sheet .now)) (c .before .before .before .before .before .before .before .before .before .before .before .before .before .before .before .before .args .floors .now))
-    (lent-on _ _ _ _ _ _ _ (c .before .before .before .before .before .before .before .before .before .before .before .before .before .before .before .before .pre .0) (c .before .before .before .before .before .before .before .before .before .before .before .before .before .before .before .before .pre .1) (c .before .before .before .before .before .before .before .constraints-start .ensures) (c .before .before .before .before .before .before .before .before .before .before .before .link-all .ensures) (c .before .before .before .before .before .before .before .before .accepted-bids .ensures) (c .before .before .before .before .tick-of .ensures))
+returns c = λ floors asked.
+    let start = c .before .before .before .before .before .before .before .before .before .before .before .before .before .before .before .before in
+    c .fill .ensures (withFloors (roundOf (start .args .sheet .now)) floors)
+    (lent-on _ _ _ _ _ floors _ _ (start .pre .0) asked (c .before .before .before .before .before .before .before .constraints-start .ensures) (c .before .before .before .before .before .before .before .before .before .before .before .link-all .ensures) (c .before .before .before .before .before .before .before .before .accepted-bids .ensures) (c .before .before .before .before .tick-of .ensures))
 
 pub played-spec : {M : Type 1} → statement M
 played-spec =
