@@ -1,9 +1,10 @@
 -- What a broken constraint says, that it stays broken as the page fills, and who is eligible. Assumes nothing.
 use Prim.Native.Nat.{ℕ, _<_, _≤_}
-use borrow.Author.Tests.{eq-eqb, eqb-true, le-ltb, ltb-false, not-true}
+use borrow.Author.Tests.{eq-eqb, eqb-true, le-ltb, ltb-true, ltb-false, not-true}
 use mathlib.Core.Bool.{Bool, true, false, not, _&&_, _||_, and-true}
 use mathlib.Core.Logic.{_⊎_, ⊎-elim}
 use mathlib.Core.Path.{_≡_, refl, sym, _∙_, ap, ap₂}
+use native.Mathlib.Omega.{arith}
 use lib.Dec.{eqb, ltb}
 use Rattle.basis.specs.First.{_when_otherwise_}
 use Rattle.basis.specs.Tests.{anyBelow}
@@ -136,6 +137,15 @@ none-of-four false false true t = refl
 none-of-four false false false true = refl
 none-of-four false false false false = refl
 
+-- the fourth test is the first that fails exactly where the three before it pass
+pub first-is-four : (x y z t : Bool) → (1 when x otherwise 2 when y otherwise 3 when z otherwise 4 when t otherwise 0) ≡ 4 →
+    (x ≡ false) × (y ≡ false) × (z ≡ false) × (t ≡ true)
+first-is-four true y z t e = absurd (omega arith)
+first-is-four false true z t e = absurd (omega arith)
+first-is-four false false true t e = absurd (omega arith)
+first-is-four false false false true e = (refl, refl, refl, refl)
+first-is-four false false false false e = absurd (omega arith)
+
 -- What being eligible says.
 module _ (r : Round) (p : Page) (k b : ℕ) where
   -- the four tests
@@ -170,6 +180,13 @@ module _ (r : Round) (p : Page) (k b : ℕ) where
         fails own (λ t. not-both (or-left earlier t) neither),
         fails earlier (λ t. not-both (or-right own t) neither),
       )
+
+  -- who fails the fourth test alone is below the floor
+  pub fourth-below : firstFailed r p k b ≡ 4 → bidOf r b < floorOf r k
+  unfolding firstFailed
+  fourth-below e =
+      ltb-true (bidOf r b) (floorOf r k)
+      (first-is-four (placed p b) (breaksEarlier r p (put p k b)) (breaksOwn r (put p k b) b) (ltb (bidOf r b) (floorOf r k)) e .3)
 
   pub eligible-unplaced : eligible r p k b ≡ true → placed p b ≡ false
   eligible-unplaced e = eligible-parts e .0

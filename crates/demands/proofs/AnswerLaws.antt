@@ -15,6 +15,7 @@ use Rattle.auction.specs.declared.Eligibility.the-variants.{Eligible, Placed, E
 use Rattle.auction.specs.Page.{put, placed}
 use Rattle.auction.specs.Broken.{breaksOwn}
 use Rattle.auction.specs.Eligible.{breaksEarlier, firstFailed, failedTest, eligible}
+use Rattle.auction.proofs.BrokenLaws.{first-is-four}
 use Rattle.demands.specs.Demands.{AnsweredInOrder}
 
 -- the first of four tests that fails
@@ -41,13 +42,6 @@ first-is-three false true z t e = absurd (omega arith)
 first-is-three false false true t e = (refl, refl, refl)
 first-is-three false false false true e = absurd (omega arith)
 first-is-three false false false false e = absurd (omega arith)
-
-first-is-four : (x y z t : Bool) → firstOf x y z t ≡ 4 → (x ≡ false) × (y ≡ false) × (z ≡ false) × (t ≡ true)
-first-is-four true y z t e = absurd (omega arith)
-first-is-four false true z t e = absurd (omega arith)
-first-is-four false false true t e = absurd (omega arith)
-first-is-four false false false true e = (refl, refl, refl, refl)
-first-is-four false false false false e = absurd (omega arith)
 
 -- the answer with a number
 abbrev answerWith : ℕ → Eligibility

@@ -4,10 +4,14 @@ use Prim.Native.Nat.{ℕ}
 use mathlib.Core.Bool.{Bool, _||_}
 use mathlib.Core.Path.{_≡_, sym, _∙_, ap, ap₂}
 use native.Mathlib.Omega.{arith}
-use lib.Dec.{eqb}
+use lib.Dec.{eqb, ltb}
 use Rattle.basis.specs.First.{_when_otherwise_}
+use Rattle.sheet.specs.declared.Page.{Page}
+use Rattle.sheet.specs.declared.Round.{Round}
 use Rattle.sheet.specs.Round.{roundOf}
-use Rattle.auction.specs.Eligible.{failedTest}
+use Rattle.choice.specs.EngineBids.{bidIn}
+use Rattle.auction.specs.Eligible.{firstFailed, failedTest}
+use Rattle.greedy.specs.EngineEligible.{SoFar}
 use Rattle.greedy_links.specs.EngineKeys.{key, isMarked}
 use Rattle.greedy_links.specs.EngineLinks.{someOwner, namedFor}
 use Rattle.greedy.proofs.EligibleLaws.{first-placed, first-unplaced}
@@ -33,7 +37,7 @@ unfolding failedTest
 returns c = λ q p far.
     let a = c .before .before .before .before .before .before .before .before .before .args in
     let range = c .before .before .before .before .before .before .before .before .before .pre .1 in
-    first-placed q p (a .sheet .now) (a .barred .now) (a .held .now) (a .bids .now) (a .floor) (a .slot .0) (a .bidder .0) far (range .0 .0) (range .0 .1) (range .1 .0) (range .1 .1)
+    first-placed q p (a .sheet .now) (a .barred .now) (a .held .now) (a .bids .now) (a .asks) (a .slot .0) (a .bidder .0) far (range .0 .0) (range .0 .1) (range .1 .0) (range .1 .1)
     (sym (held-told (c .before)) ∙ c .if1 .taken)
 
 chain-key-requires : tie.Need-chain-key-requires
@@ -53,11 +57,8 @@ is-marked-requires-3 c κs = search needs
 
 is-below-requires : tie.Need-is-below-requires
 is-below-requires c κs =
-    let range = c .before .before .before .before .before .before .before .before .before .before .before .before .before .before .pre .1 in
+    let range = c .before .before .before .before .before .before .before .before .before .before .before .before .before .before .before .before .pre .1 in
     (range .0 .0, range .0 .2)
-
-first-of-requires : tie.Need-first-of-requires
-first-of-requires c κs = tt
 
 -- whom the bars keep from the slot, or from any, was asked by the candidate's two keys
 bars-told : (c : tie.After-is-marked3) →
@@ -71,19 +72,47 @@ bars-told c =
     (c .before .is-marked2 .ensures ∙ ap (isMarked (a .barred .now)) any)
     (c .is-marked3 .ensures ∙ ap (isMarked (a .barred .now)) (c .before .before .owner-key2 .ensures))
 
-returns-2 : tie.Need-returns-2
-returns-2 c = λ q p far.
-    let a = c .before .before .before .before .before .before .before .before .before .before .before .before .before .before .before .before .args in
-    let range = c .before .before .before .before .before .before .before .before .before .before .before .before .before .before .before .before .pre .1 in
-    let named = c .before .before .before .before .before .named-by .result in
+-- the tests after the first, in their order, are the step's
+later-tests : (c : tie.After-is-marked3) (q : Round) (p : Page) →
+    let a = c .before .before .before .before .before .before .before .before .before .before .before .before .before .before .args in
+    let named = c .before .before .before .named-by .result in
+    SoFar q p (a .sheet .now) (a .barred .now) (a .held .now) (a .bids .now) (a .asks) (a .slot .0) →
+    (2 when named .earlier otherwise
+    3 when named .itself || (c .before .is-marked2 .result || c .is-marked3 .result) otherwise
+    4 when ltb (bidIn (a .bids .now) (a .bidder .0)) (a .asks) otherwise
+    0)
+    ≡ firstFailed q p (a .slot .0) (a .bidder .0)
+later-tests c q p far =
+    let a = c .before .before .before .before .before .before .before .before .before .before .before .before .before .before .args in
+    let range = c .before .before .before .before .before .before .before .before .before .before .before .before .before .before .pre .1 in
+    let named = c .before .before .before .named-by .result in
     let s = roundOf (a .sheet .now) in
-    c .first-of .ensures
-    ∙ ap₂ (λ (t u : Bool). 2 when named .earlier otherwise 3 when named .itself || t otherwise 4 when u otherwise 0) (bars-told (c .before .before)) (c .before .is-below .ensures)
-    ∙ first-unplaced q p (a .sheet .now) (a .barred .now) (a .held .now) (a .bids .now) (a .floor) (a .slot .0) (a .bidder .0) far (range .0 .0) (range .0 .1) (range .1 .0) (range .1 .1)
-    (sym (held-told (c .before .before .before .before .before .before .before .before)) ∙ c .before .before .before .before .before .before .before .if1 .left)
+    ap
+    (λ (t : Bool). 2 when named .earlier otherwise 3 when named .itself || t otherwise 4 when ltb (bidIn (a .bids .now) (a .bidder .0)) (a .asks) otherwise 0)
+    (bars-told c)
+    ∙ first-unplaced q p (a .sheet .now) (a .barred .now) (a .held .now) (a .bids .now) (a .asks) (a .slot .0) (a .bidder .0) far (range .0 .0) (range .0 .1) (range .1 .0) (range .1 .1)
+    (sym (held-told (c .before .before .before .before .before .before)) ∙ c .before .before .before .before .before .if1 .left)
     named
-    (c .before .before .before .before .before .named-by .ensures
-    ∙ ap (λ (x : ℕ). namedFor (someOwner s x (isMarked (a .held .now)) (s .used)) (someOwner s x (λ y. eqb y 0) (s .used))) (c .before .before .before .before .before .before .chain-key .ensures))
+    (c .before .before .before .named-by .ensures
+    ∙ ap (λ (x : ℕ). namedFor (someOwner s x (isMarked (a .held .now)) (s .used)) (someOwner s x (λ y. eqb y 0) (s .used))) (c .before .before .before .before .chain-key .ensures))
+
+returns-2 : tie.Need-returns-2
+unfolding failedTest
+returns-2 c = λ q p far. sym (simp (c .if2 .taken)) ∙ later-tests (c .before) q p far
+
+returns-3 : tie.Need-returns-3
+unfolding failedTest
+returns-3 c = λ q p far. sym (simp (c .before .if2 .left, c .if3 .taken)) ∙ later-tests (c .before .before) q p far
+
+returns-4 : tie.Need-returns-4
+unfolding failedTest
+returns-4 c = λ q p far.
+    sym (simp (c .before .before .before .if2 .left, c .before .before .if3 .left, sym (c .before .is-below .ensures) ∙ c .if4 .taken)) ∙ later-tests (c .before .before .before .before) q p far
+
+returns-5 : tie.Need-returns-5
+unfolding failedTest
+returns-5 c = λ q p far.
+    sym (simp (c .before .before .before .if2 .left, c .before .before .if3 .left, sym (c .before .is-below .ensures) ∙ c .if4 .left)) ∙ later-tests (c .before .before .before .before) q p far
 
 pub eligibility-spec : {M : Type 1} → statement M
 eligibility-spec =
@@ -97,6 +126,8 @@ eligibility-spec =
     owner-key-requires-2
     is-marked-requires-2
     is-marked-requires-3
+    returns-2
+    returns-3
     is-below-requires
-    first-of-requires
-    returns-2)
+    returns-4
+    returns-5)

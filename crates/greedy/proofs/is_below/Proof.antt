@@ -22,7 +22,7 @@ shared-slice-read-result c = search needs
 returns : tie.Need-returns
 returns c =
     let a = c .before .before .args in
-    ap (λ (x : ℕ). ltb x (a .floor)) (sym (bid-index (a .bids .now) (a .bidder .0) (c .before .before .pre .0)))
+    ap (λ (x : ℕ). ltb x (a .asks)) (sym (bid-index (a .bids .now) (a .bidder .0) (c .before .before .pre .0)))
 
 pub is-below-spec : {M : Type 1} → statement M
 is-below-spec = tie.close (tie.spec cast-index sub-index mul-result shared-slice-read-result returns)
