@@ -119,7 +119,7 @@ asks-tells tick floor bid some multiple =
     let reaches = floor-asks-reaches tick floor some in
     lt-ltb bid (floorAsks tick floor) (omega arith))
 
-zero-asks : (tick : ℕ) → 0 < tick → floorAsks tick 0 ≡ 0
+pub zero-asks : (tick : ℕ) → 0 < tick → floorAsks tick 0 ≡ 0
 zero-asks tick some = let h = floor-asks-least tick 0 0 some (zero-mod tick) (omega arith) in omega arith
 
 pub zeros-asked : (tick m : ℕ) → 0 < tick → m ≤ 16 → Asked tick m (replicate 16 0) (replicate 16 0)
