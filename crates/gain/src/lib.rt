@@ -3,12 +3,14 @@ ghost use mathlib.Core.Bool.{true, _&&_};
 ghost use lib.Dec.{eqb};
 ghost use Rattle.auction.specs.Page.{placed};
 ghost use Rattle.auction.specs.Broken.{broken, breaksOwn};
+ghost use mathlib.Core.List.{List};
 ghost use mathlib.Core.Path.{_≡_};
-ghost use Prim.Native.Nat.{_*_, _≤_, _<_};
+ghost use Prim.Native.Nat.{ℕ, _*_, _≤_, _<_};
 ghost use lib.IntN.{pos, negℤ};
 ghost use Rattle.sheet.specs.Refusal.{Accepted};
-ghost use Rattle.sheet.specs.Sheet.{slotCount};
-ghost use Rattle.sheet.specs.Proper.{Proper, ProperFloors};
+ghost use Rattle.sheet.specs.Sheet.{slotCount, tickField};
+ghost use Rattle.choice.specs.Critical.{Asked};
+ghost use Rattle.sheet.specs.Proper.{Proper};
 ghost use Rattle.sheet.specs.Round.{roundOf, withFloors};
 ghost use Rattle.gain.specs.Gain.{slotOf, gainIf, gainOf};
 ghost use Rattle.gain.specs.Call.{laterRefusal, gainedFor, gainedOf, gainedFloorsOf};
@@ -102,8 +104,8 @@ fn minus(size: u64) -> i64
 
 // The gain of a bidder from a sheet played with floors that ask so much.
 fn gain_of(played: &[u8], asks: &[u32], truth: &[u8], bidder: Bidder, worth: u32) -> i64
-    requires { ⌜ Accepted (now played) × ProperFloors (slotCount (now played)) (now floors) × Accepted (now truth) × (worth ≤ 1000000000) × (0 < bidder .0) ⌝ }
-    ensures { λ r. ⌜ r ≡ gainOf (withFloors (roundOf (now (played .entry))) (now (floors .entry))) (roundOf (now (truth .entry))) (bidder .0) worth ⌝ }
+    requires { ⌜ Accepted (now played) × ((floors : List ℕ) × Asked (tickField (now played)) (slotCount (now played)) floors (now asks)) × Accepted (now truth) × (worth ≤ 1000000000) × (0 < bidder .0) ⌝ }
+    ensures { λ r. ⌜ ((floors : List ℕ) → Asked (tickField (now (played .entry))) (slotCount (now (played .entry))) floors (now (asks .entry)) → r ≡ gainOf (withFloors (roundOf (now (played .entry))) floors) (roundOf (now (truth .entry))) (bidder .0) worth) ⌝ }
 {
     let outcome = greedy::played(played, asks);
     let page = outcome.page;
@@ -149,8 +151,8 @@ fn later_refusal(played: &[u8], truth: &[u8], bidder: u32, worth: u32) -> u32
 
 // 14 to 17, or 0 and the gain, of an accepted sheet with floors that ask so much.
 fn gain_accepted(played: &[u8], asks: &[u32], truth: &[u8], bidder: u32, worth: u32) -> Gained
-    requires { ⌜ Accepted (now played) × ProperFloors (slotCount (now played)) (now floors) ⌝ }
-    ensures { λ r. ⌜ r ≡ gainedFor (laterRefusal (now (played .entry)) (now (truth .entry)) bidder worth) (withFloors (roundOf (now (played .entry))) (now (floors .entry))) (now (truth .entry)) bidder worth ⌝ }
+    requires { ⌜ Accepted (now played) × ((floors : List ℕ) × Asked (tickField (now played)) (slotCount (now played)) floors (now asks)) ⌝ }
+    ensures { λ r. ⌜ ((floors : List ℕ) → Asked (tickField (now (played .entry))) (slotCount (now (played .entry))) floors (now (asks .entry)) → r ≡ gainedFor (laterRefusal (now (played .entry)) (now (truth .entry)) bidder worth) (withFloors (roundOf (now (played .entry))) floors) (now (truth .entry)) bidder worth) ⌝ }
 {
     let later = later_refusal(played, truth, bidder, worth);
     if later != 0 {

@@ -1,5 +1,5 @@
 // Play a round: a lent sheet in, the page with its prices in a lent buffer out.
-ghost use mathlib.Core.List.{_++_};
+ghost use mathlib.Core.List.{List, _++_};
 ghost use mathlib.Core.Path.{_≡_};
 ghost use Prim.Native.Nat.{ℕ, _*_, _<_, _≤_};
 ghost use lib.ListN.{length, drop};
@@ -7,17 +7,17 @@ ghost use Rattle.basis.specs.Rows.{joined};
 ghost use Rattle.auction.specs.Page.{at};
 ghost use Rattle.basis.specs.First.{unlessRefused};
 ghost use Rattle.sheet.specs.Refusal.{Accepted};
-ghost use Rattle.sheet.specs.Sheet.{slotCount};
+ghost use Rattle.sheet.specs.Sheet.{slotCount, tickField};
 ghost use Rattle.sheet.specs.Round.{roundOf, withFloors};
-ghost use Rattle.sheet.specs.Proper.{ProperFloors};
+ghost use Rattle.choice.specs.Critical.{Asked};
 ghost use Rattle.play.specs.Play.{roomRefusal, playedBuffer, Played, PlayedFloors};
 ghost use Rattle.play.specs.EngineEntries.{entryIn};
 use greedy::Outcome;
 
 // An accepted sheet is played with floors that ask so much, where the buffer has room: 19, or 0.
 fn play_accepted(sheet: &[u8], asks: &[u32], result: &mut [u8]) -> u32
-    requires { ⌜ Accepted (now sheet) × ProperFloors (slotCount (now sheet)) (now floors) ⌝ }
-    ensures { λ r. ⌜ (r ≡ roomRefusal (now (sheet .entry)) (now (result .entry))) × (now (result .exit) ≡ unlessRefused (roomRefusal (now (sheet .entry)) (now (result .entry))) (playedBuffer (withFloors (roundOf (now (sheet .entry))) (now (floors .entry))) (now (result .entry))) (now (result .entry))) ⌝ }
+    requires { ⌜ Accepted (now sheet) × ((floors : List ℕ) × Asked (tickField (now sheet)) (slotCount (now sheet)) floors (now asks)) ⌝ }
+    ensures { λ r. ⌜ ((floors : List ℕ) → Asked (tickField (now (sheet .entry))) (slotCount (now (sheet .entry))) floors (now (asks .entry)) → (r ≡ roomRefusal (now (sheet .entry)) (now (result .entry))) × (now (result .exit) ≡ unlessRefused (roomRefusal (now (sheet .entry)) (now (result .entry))) (playedBuffer (withFloors (roundOf (now (sheet .entry))) floors) (now (result .entry))) (now (result .entry)))) ⌝ }
 {
     let slots = sheet[6] as usize;
     if result.len() < 5 * slots {

@@ -25,9 +25,9 @@ refused-requires : tie.Need-refused-requires
 refused-requires c κs = search needs
 
 returns : tie.Need-returns
-returns c =
+returns c = λ floors asked.
     let given = c .before .before .before .before .before .before .args in
-    let r = withFloors (roundOf (given .played .now)) (given .floors .now) in
+    let r = withFloors (roundOf (given .played .now)) floors in
     c .refused .ensures
     ∙ for-refused _ r (given .truth .now) (given .bidder) (given .worth) (c .before .if1 .taken)
     ∙ ap (λ (n : ℕ). gainedFor n r (given .truth .now) (given .bidder) (given .worth)) (c .before .before .later-refusal .ensures)
@@ -39,10 +39,10 @@ gain-of-requires : tie.Need-gain-of-requires
 gain-of-requires c κs = let facts = later-accepted _ _ _ _ (none-later c) in (c .before .before .before .before .before .pre .0, c .before .before .before .before .before .pre .1, facts .truth, facts .low, facts .some)
 
 returns-2 : tie.Need-returns-2
-returns-2 c =
+returns-2 c = λ floors asked.
     (λ j. record {
       refusal = 0;
-      gain = (toZ-ofZ {w = w64} {z = c .gain-of .result} (record { sfits = c .gain-of .ok }) ∙ c .gain-of .ensures) j;
+      gain = (toZ-ofZ {w = w64} {z = c .gain-of .result} (record { sfits = c .gain-of .ok }) ∙ c .gain-of .ensures floors asked) j;
     })
     ∙ for-gained _ _ _ _ _ (none-later (c .before))
 

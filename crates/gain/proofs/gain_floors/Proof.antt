@@ -2,7 +2,8 @@
 use mathlib.Core.Path.{_≡_, sym, _∙_}
 use native.Mathlib.Omega.{arith}
 use Rattle.sheet.specs.Refusal.{Accepted}
-use Rattle.sheet.specs.Sheet.{slotCount}
+use Rattle.sheet.specs.Sheet.{slotCount, tickField}
+use Rattle.choice.specs.Critical.{Asked}
 use Rattle.sheet.proofs.AcceptedLaws.{accepted-sheet}
 use Rattle.floors.specs.Floors.{floorsRefusal}
 use Rattle.floors.proofs.FloorLaws.{passed-proper}
@@ -46,11 +47,29 @@ returns-2 : tie.Need-returns-2
 returns-2 c =
     c .refused2 .ensures ∙ floors-refused _ _ _ _ _ _ (accepted (c .before .before .before .before)) (c .before .before .check-floors .ensures) (c .before .if2 .taken)
 
+tick-of-requires : tie.Need-tick-of-requires
+tick-of-requires c κs =
+    let form = accepted-sheet _ (accepted (c .before .before .before)) .form in
+    (form .header, form .whole-header)
+
+asked-requires : tie.Need-asked-requires
+asked-requires c κs =
+    let counts = accepted-sheet _ (accepted (c .before .before .before .before)) .counts in
+    let tick = c .tick-of .ensures in
+    (counts .most-slots, passed-proper _ _ (floored (c .before)), omega arith, omega arith)
+
+-- what the floors ask is theirs, by the sheet's tick
+asked-is : (c : tie.After-asked) → Asked (tickField (c .before .before .before .before .before .before .before .before .before .before .args .played .now)) (slotCount (c .before .before .before .before .before .before .before .before .before .before .args .played .now)) (c .before .before .before .before .before .before .before .before .before .before .args .floors .now) (c .asked .result)
+asked-is c = rw (sym (c .before .tick-of .ensures)) (c .asked .ensures)
+
+slice-aggregate-gain-accepted : tie.Need-slice-aggregate-gain-accepted
+slice-aggregate-gain-accepted c = search needs
+
 gain-accepted-requires : tie.Need-gain-accepted-requires
-gain-accepted-requires c κs = (accepted (c .before .before .before), passed-proper _ _ (floored c))
+gain-accepted-requires c κs = (accepted (c .before .before .before .before .before .before), (_, asked-is (c .before)))
 
 returns-3 : tie.Need-returns-3
-returns-3 c = c .gain-accepted .ensures ∙ floored-gains _ _ _ _ _ (accepted (c .before .before .before .before)) (floored (c .before))
+returns-3 c = c .gain-accepted .ensures _ (asked-is (c .before .before)) ∙ floored-gains _ _ _ _ _ (accepted (c .before .before .before .before .before .before .before)) (floored (c .before .before .before .before))
 
 pub gain-floors-spec : {M : Type 1} → statement M
 gain-floors-spec =
@@ -64,5 +83,8 @@ gain-floors-spec =
     check-floors-requires
     refused-requires-2
     returns-2
+    tick-of-requires
+    asked-requires
+    slice-aggregate-gain-accepted
     gain-accepted-requires
     returns-3)

@@ -7,7 +7,10 @@ use native.Mathlib.Omega.{arith}
 use mir.Facts.{toZ-ofZ}
 use mir.Syntax.{w64}
 use lib.ListN.{getD}
+use mathlib.Core.List.{List}
+use Rattle.sheet.specs.Sheet.{slotCount, tickField}
 use Rattle.sheet.specs.Round.{roundOf}
+use Rattle.choice.specs.Critical.{Asked}
 use Rattle.sheet.proofs.AcceptedLaws.{accepted-sheet}
 use Rattle.gain.specs.Gain.{gainIf}
 use Rattle.gain.proofs.CallLaws.{gain-none, Stands, stands}
@@ -19,13 +22,21 @@ use Rattle.gain.proofs.gain_of.Tie as tie
 abbrev start : tie.After-struct-known2 → tie.Start
 start c = c .before .before .before .before .before .before .before .before .before
 
--- the slot that is found
-here : (c : tie.After-struct-known2) →
-    Stands (start c .args .played .now) (start c .pre .0) (start c .args .floors .now) (start c .pre .1) (roundOf (start c .args .truth .now)) (start c .args .bidder .0) (start c .args .worth)
+-- the slot that is found, for floors that ask so much
+here : (c : tie.After-struct-known2) (floors : List ℕ) (asked : Asked (tickField (start c .args .played .now)) (slotCount (start c .args .played .now)) floors (start c .args .asks .now)) →
+    Stands (start c .args .played .now) (start c .pre .0) floors (asked .proper) (roundOf (start c .args .truth .now)) (start c .args .bidder .0) (start c .args .worth)
     (c .before .before .before .before .before .played .result)
-    (c .before .before .before .before .before .played .ensures)
+    (c .before .before .before .before .before .played .ensures floors asked)
     (c .before .before .before .slot-of .result .0)
-here c = stands _ _ _ _ _ _ _ _ _ (start c .pre .4) _ (sym (c .before .before .before .slot-of .ensures)) (omega arith)
+here c floors asked = stands _ _ _ _ _ _ _ _ _ (start c .pre .4) _ (sym (c .before .before .before .slot-of .ensures)) (omega arith)
+
+-- some such floors are lent
+some-floors : (c : tie.After-struct-known2) →
+    Stands (start c .args .played .now) (start c .pre .0) (start c .pre .1 .0) (start c .pre .1 .1 .proper) (roundOf (start c .args .truth .now)) (start c .args .bidder .0) (start c .args .worth)
+    (c .before .before .before .before .before .played .result)
+    (c .before .before .before .before .before .played .ensures (start c .pre .1 .0) (start c .pre .1 .1))
+    (c .before .before .before .slot-of .result .0)
+some-floors c = here c (start c .pre .1 .0) (start c .pre .1 .1)
 
 played-requires : tie.Need-played-requires
 played-requires c κs = (c .before .before .before .pre .0, c .before .before .before .pre .1)
@@ -34,8 +45,8 @@ slot-of-requires : tie.Need-slot-of-requires
 slot-of-requires c κs = search needs
 
 returns : tie.Need-returns
-returns c =
-    gain-none _ (c .before .before .before .before .before .before .before .before .pre .0) _ (c .before .before .before .before .before .before .before .before .pre .1) _ _ _ _ (c .before .before .before .before .played .ensures) (omega arith)
+returns c = λ floors asked.
+    gain-none _ (c .before .before .before .before .before .before .before .before .pre .0) floors (asked .proper) _ _ _ _ (c .before .before .before .before .played .ensures floors asked) (omega arith)
 
 cast-k : tie.Need-cast-k
 cast-k c = search needs
@@ -44,29 +55,29 @@ sub-k : tie.Need-sub-k
 sub-k c = search needs
 
 effect-at-requires : tie.Need-effect-at-requires
-effect-at-requires c κs = (start c .pre .0, omega arith, omega (arith, here c .most-slot))
+effect-at-requires c κs = (start c .pre .0, omega arith, omega (arith, some-floors c .most-slot))
 
 breaks-own-requires : tie.Need-breaks-own-requires
-breaks-own-requires c κs = (start (c .before) .pre .2, here (c .before) .has-slot)
+breaks-own-requires c κs = (start (c .before) .pre .2, some-floors (c .before) .has-slot)
 
 mul-gain-if : tie.Need-mul-gain-if
 mul-gain-if c = search needs
 
 element-copy-out-gain-if : tie.Need-element-copy-out-gain-if
-element-copy-out-gain-if c = omega (arith, here (c .before .before) .most-slot, accepted-sheet _ (start (c .before .before) .pre .0) .counts)
+element-copy-out-gain-if c = omega (arith, some-floors (c .before .before) .most-slot, accepted-sheet _ (start (c .before .before) .pre .0) .counts)
 
 gain-if-requires : tie.Need-gain-if-requires
-gain-if-requires c κs = let h = here (c .before .before .before) in (omega (arith, h .low-effect), start (c .before .before .before) .pre .3, h .low-price)
+gain-if-requires c κs = let h = some-floors (c .before .before .before) in (omega (arith, h .low-effect), start (c .before .before .before) .pre .3, h .low-price)
 
 returns-2 : tie.Need-returns-2
-returns-2 c =
+returns-2 c = λ floors asked.
     let found = c .before .before .before .before in
     let prices = found .before .before .before .before .before .played .result .prices in
     let price = getD prices (found .before .before .before .slot-of .result .0 - 1) 0 in
     toZ-ofZ {w = w64} {z = c .gain-if .result} (record { sfits = c .gain-if .ok })
     ∙ c .gain-if .ensures
     ∙ ap₂ (λ (x : Bool) (e : ℕ). gainIf x e (start found .args .worth) price) (c .before .before .breaks-own .ensures) (c .before .before .before .effect-at .ensures)
-    ∙ here found .gained-there
+    ∙ here found floors asked .gained-there
 
 pub gain-of-spec : {M : Type 1} → statement M
 gain-of-spec =

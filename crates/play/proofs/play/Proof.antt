@@ -1,10 +1,15 @@
 -- `play::play` meets its contract, by the cases of the call; an accepted sheet is played with floors of 0. Assumes nothing.
+use Prim.Native.Nat.{ℕ}
+use mathlib.Core.List.{List}
 use mathlib.Core.Path.{_≡_, sym, _∙_}
-use native.Mathlib.Omega.{arith}
+use lib.ListN.{replicate}
 use Rattle.basis.proofs.RowLaws.{zeros}
+use Rattle.sheet.specs.Sheet.{slotCount, tickField}
 use Rattle.sheet.specs.Refusal.{Accepted}
 use Rattle.sheet.proofs.AcceptedLaws.{accepted-sheet}
-use Rattle.sheet.proofs.FloorLaws.{zeros-proper, without-floors}
+use Rattle.sheet.proofs.FloorLaws.{without-floors}
+use Rattle.choice.specs.Critical.{Asked}
+use Rattle.choice.proofs.CriticalLaws.{zeros-asked}
 use Rattle.play.proofs.PlayLaws.{sheet-refused, accepted-plays}
 use borrow.Author.Needs.{needs}
 use Rattle.play.proofs.play.Statement.{statement}
@@ -23,10 +28,16 @@ accepted c = sym (c .before .check .ensures) ∙ c .if1 .left
 slice-aggregate-play-accepted : tie.Need-slice-aggregate-play-accepted
 slice-aggregate-play-accepted c = search needs
 
+-- floors of 0 ask nothing
+none-asked : (s : List ℕ) → Accepted s → Asked (tickField s) (slotCount s) (replicate 16 0) (replicate 16 0)
+none-asked s ok =
+    let counts = accepted-sheet s ok .counts in
+    zeros-asked (tickField s) (slotCount s) (counts .some-tick) (counts .most-slots)
+
 play-accepted-requires : tie.Need-play-accepted-requires
 play-accepted-requires c κs =
     let ok = accepted (c .before .before) in
-    (ok, zeros-proper _ (accepted-sheet _ ok .counts .most-slots))
+    (ok, (_, none-asked _ ok))
 
 same-length : tie.Need-same-length
 same-length c = search needs
@@ -34,7 +45,7 @@ same-length c = search needs
 returns-2 : tie.Need-returns-2
 returns-2 c =
     let ok = accepted (c .before .before .before .before .before) in
-    accepted-plays _ _ _ _ _ ok (without-floors _ _ (accepted-sheet _ ok .counts .most-slots) (λ k l. zeros 16 k)) (c .before .before .play-accepted .ensures)
+    accepted-plays _ _ _ _ _ ok (without-floors _ _ (accepted-sheet _ ok .counts .most-slots) (λ k l. zeros 16 k)) (c .before .before .play-accepted .ensures _ (none-asked _ ok))
 
 pub play-spec : {M : Type 1} → statement M
 play-spec = tie.close (tie.spec check-requires returns slice-aggregate-play-accepted play-accepted-requires same-length returns-2)

@@ -50,7 +50,7 @@ mul-if1 : tie.Need-mul-if1
 mul-if1 c = let known = accepted-sheet _ (c .before .before .before .before .pre .0) .counts in omega arith
 
 returns : tie.Need-returns
-returns c = buffer-short (c .before .before .before .before .before .args .sheet .now) (c .before .before .before .before .before .args .result .now) _ (c .if1 .taken)
+returns c = λ floors asked. buffer-short (c .before .before .before .before .before .args .sheet .now) (c .before .before .before .before .before .args .result .now) _ (c .if1 .taken)
 
 played-requires : tie.Need-played-requires
 played-requires c κs = c .before .before .before .before .before .pre
@@ -60,7 +60,8 @@ write-result-requires c κs =
     let start = c .before .before .before .before .before .before .before in
     let known = accepted-sheet _ (start .pre .0) .counts in (
       (omega arith, c .before .before .if1 .left),
-      outcome-fits _ (c .before .played .result) (floors-proper _ _ (round-proper _ (start .pre .0)) (rw (round-slots (start .args .sheet .now)) (start .pre .1))) (c .before .played .ensures),
+      outcome-fits _ (c .before .played .result) (floors-proper _ _ (round-proper _ (start .pre .0)) (rw (round-slots (start .args .sheet .now)) (start .pre .1 .1 .proper)))
+          (c .before .played .ensures (start .pre .1 .0) (start .pre .1 .1)),
     )
 
 same-length : tie.Need-same-length
@@ -68,14 +69,14 @@ same-length c = search needs
 
 returns-2 : tie.Need-returns-2
 unfolding roundOf withFloors playedBuffer
-returns-2 c =
+returns-2 c = λ floors asked.
     let start = c .before .before .before .before .before .before .before .before .before .before in
     let s = start .args .sheet .now in
     let out = start .args .result .now in
-    let r = withFloors (roundOf s) (start .args .floors .now) in
+    let r = withFloors (roundOf s) floors in
     round-played s out _ _ (c .before .before .before .before .before .if1 .left)
     (c .before .before .write-result .ensures
-    ∙ ap (λ (o : Outcome). joined (entryIn o) (r .slots) ++ drop (5 * r .slots) out) (c .before .before .before .before .played .ensures)
+    ∙ ap (λ (o : Outcome). joined (entryIn o) (r .slots) ++ drop (5 * r .slots) out) (c .before .before .before .before .played .ensures floors asked)
     ∙ ap (λ (l : List ℕ). l ++ drop (5 * r .slots) out) (entries-same r))
 
 pub play-accepted-spec : {M : Type 1} → statement M

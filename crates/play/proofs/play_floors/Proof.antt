@@ -2,7 +2,8 @@
 use mathlib.Core.Path.{_≡_, sym, _∙_}
 use native.Mathlib.Omega.{arith}
 use Rattle.sheet.specs.Refusal.{Accepted}
-use Rattle.sheet.specs.Sheet.{slotCount}
+use Rattle.sheet.specs.Sheet.{slotCount, tickField}
+use Rattle.choice.specs.Critical.{Asked}
 use Rattle.sheet.proofs.AcceptedLaws.{accepted-sheet}
 use Rattle.floors.specs.Floors.{floorsRefusal}
 use Rattle.floors.proofs.FloorLaws.{passed-proper}
@@ -41,14 +42,33 @@ returns-2 c =
 floored : (c : tie.Else2) → floorsRefusal (slotCount (c .before .before .before .before .before .before .before .before .args .sheet .now)) (c .before .before .before .before .before .before .before .before .args .floors .now) ≡ 0
 floored c = sym (c .before .check-floors .ensures) ∙ c .if2 .left
 
+tick-of-requires : tie.Need-tick-of-requires
+tick-of-requires c κs =
+    let form = accepted-sheet _ (accepted (c .before .before .before)) .form in
+    (form .header, form .whole-header)
+
+asked-requires : tie.Need-asked-requires
+asked-requires c κs =
+    let counts = accepted-sheet _ (accepted (c .before .before .before .before)) .counts in
+    let tick = c .tick-of .ensures in
+    (counts .most-slots, passed-proper _ _ (floored (c .before)), omega arith, omega arith)
+
+-- what the floors ask is theirs, by the sheet's tick
+asked-is : (c : tie.After-asked) → Asked (tickField (c .before .before .before .before .before .before .before .before .before .before .args .sheet .now)) (slotCount (c .before .before .before .before .before .before .before .before .before .before .args .sheet .now)) (c .before .before .before .before .before .before .before .before .before .before .args .floors .now) (c .asked .result)
+asked-is c = rw (sym (c .before .tick-of .ensures)) (c .asked .ensures)
+
+slice-aggregate-play-accepted : tie.Need-slice-aggregate-play-accepted
+slice-aggregate-play-accepted c = search needs
+
 play-accepted-requires : tie.Need-play-accepted-requires
-play-accepted-requires c κs = (accepted (c .before .before .before .before), passed-proper _ _ (floored (c .before)))
+play-accepted-requires c κs = (accepted (c .before .before .before .before .before .before .before), (_, asked-is (c .before .before)))
 
 same-length : tie.Need-same-length
 same-length c = search needs
 
 returns-3 : tie.Need-returns-3
-returns-3 c = floored-plays _ _ _ _ _ (accepted (c .before .before .before .before .before .before .before)) (floored (c .before .before .before .before)) (c .before .before .play-accepted .ensures)
+returns-3 c =
+    floored-plays _ _ _ _ _ (accepted (c .before .before .before .before .before .before .before .before .before .before)) (floored (c .before .before .before .before .before .before .before)) (c .before .before .play-accepted .ensures _ (asked-is (c .before .before .before .before .before)))
 
 pub play-floors-spec : {M : Type 1} → statement M
 play-floors-spec =
@@ -60,6 +80,9 @@ play-floors-spec =
     cast-slots
     check-floors-requires
     returns-2
+    tick-of-requires
+    asked-requires
+    slice-aggregate-play-accepted
     play-accepted-requires
     same-length
     returns-3)
