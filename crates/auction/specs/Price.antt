@@ -1,5 +1,5 @@
 -- "The price": "the smallest whole bid from 0 which, written in the sheet for the winner of place k, still wins place k"; with ticks, "the smallest
--- bid that the sheet would accept and that still wins the place"; a floor counts, since who bids less is not eligible.
+-- bid that the sheet would accept and that still wins the place".
 use Prim.Native.Nat.{ℕ, zero, suc}
 use mathlib.Core.Bool.{Bool, _&&_}
 use lib.Dec.{eqb}

@@ -173,7 +173,7 @@ fn reaching(ranked: &[u8], bids: &[u32], bidders: usize, floor: u32) -> usize
 }
 
 // The seats of a round's bidders and slots where the bidder reaches the slot's floor.
-fn open_seats(ranked: &[u8], bids: &[u32], floors: &[u32], bidders: usize, slots: usize) -> Seats
+fn reached_seats(ranked: &[u8], bids: &[u32], floors: &[u32], bidders: usize, slots: usize) -> Seats
     requires { ⌜ (bidders ≤ 8) × (slots ≤ 8) × (slots ≤ length (now floors)) × RankedBids (now bids) bidders (now ranked) ⌝ }
     ensures { λ r. ⌜ (r .0 < 2 ^ (8 * slots)) × ((l i : ℕ) → l < 8 → i < 8 → bitOf (r .0) (8 * l + i) ≡ (ltb l slots && reaches (now (bids .entry)) (now (ranked .entry)) bidders (getD (now (floors .entry)) l 0) i)) ⌝ }
 {
@@ -192,7 +192,7 @@ fn open_seats(ranked: &[u8], bids: &[u32], floors: &[u32], bidders: usize, slots
     all
 }
 
-// What is free on an empty page: the open seats that no constraint shuts from the start.
+// What is free on an empty page: the reached seats that no constraint shuts from the start.
 pub fn first_free(
     table: &[u64; 73],
     ranked: &[u8],
@@ -206,7 +206,7 @@ pub fn first_free(
 {
     let line = always();
     best_seats::without(
-        open_seats(ranked, bids, floors, bidders, slots),
+        reached_seats(ranked, bids, floors, bidders, slots),
         Seats(table[line.0 as usize]),
     )
 }

@@ -13,7 +13,7 @@ pub record Precedes (p q : Page) : Type 0 where
   pub smaller : at p slot < at q slot
   pub same : (j : ℕ) → j < slot → at p j ≡ at q j
 
--- "among pages breaking no condition" (and, with S-7, obeying the floors), "one with the largest total; among those, the one whose list of bidder numbers by place (0 for
+-- "among pages breaking no condition, one with the largest total; among those, the one whose list of bidder numbers by place (0 for
 -- empty) comes first in dictionary order"
 pub record Best (r : Round) (p : Page) : Type 0 where
   pub allowed : Allowed r p

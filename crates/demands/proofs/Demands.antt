@@ -1,6 +1,7 @@
 -- The three demands, and what the requests of document 02 that have landed add. Assumes nothing.
 use Prim.Native.Nat.{ℕ}
 use mathlib.Core.Path.{_≡_, sym, _∙_}
+use native.Mathlib.Omega.{arith}
 use Rattle.basis.specs.First.{unlessRefused}
 use Rattle.basis.proofs.FirstLaws.{refused-leaves, answered-gives}
 use Rattle.sheet.specs.Round.{roundOf, withFloors}
@@ -106,7 +107,11 @@ demand-three = honest-demand
 
 -- Request S-3: the number of an answer says which tests pass and which fails.
 pub request-three : RequestThree
-request-three = record { step = answered-in-order; sentence = eligible-sentence }
+request-three =
+    record {
+      step = answered-in-order;
+      sentence = λ s p k b. eligible-sentence (roundOf s) p k b (let e = no-floor s k in omega arith);
+    }
 
 -- Request S-4: the tick, in the facts of acceptance and in the refusals of the gain call.
 pub request-four : RequestFour

@@ -10,7 +10,7 @@ use lib.IntN.{ℤ}
 use lib.ListN.{length, getD, replicate, drop, length-replicate}
 use Rattle.basis.specs.First.{orElse, unlessRefused}
 use Rattle.basis.specs.Rows.{row}
-use Rattle.basis.proofs.FirstLaws.{orElse-left, orElse-right, answered-gives}
+use Rattle.basis.proofs.FirstLaws.{orElse-none, orElse-left, orElse-right, answered-gives}
 use Rattle.basis.proofs.NumberLaws.{same-or-not}
 use Rattle.basis.proofs.RowLaws.{zeros}
 use Rattle.sheet.specs.declared.Page.{Page}
@@ -39,7 +39,7 @@ use Rattle.gain.proofs.CallLaws as gaining
 use Rattle.best_page.specs.BestPage.{bestPage}
 use Rattle.best_page.proofs.BestPageLaws.{best-page}
 use Rattle.best_search.specs.Call.{boundsRefusal, bestRefusal, bestFloorsRefusal, bestBuffer}
-use Rattle.best_search.proofs.CallLaws.{best-unrefused}
+use Rattle.best_search.proofs.CallLaws as searching
 use Rattle.pas.specs.Calls.{GainGiven, GainFloorsGiven, BestPageGiven, BestFloorsPageGiven}
 use Rattle.demands.specs.Demands.{Exactly, noFloors, Floored, AllReturn, PlayedRight, BestRight}
 use Rattle.demands.proofs.PlayLaws.{says-bidder, says-price, paid-reaches, paid-alone, played-right}
@@ -57,11 +57,7 @@ module _ (f s : List ℕ) (right : Floored f s) where
   gain-then t i worth = gaining.left-of-floors f s t i worth (right .accepted) passed ∙ sym (gaining.left-of-gain s t i worth (right .accepted))
 
   pub best-then : (out : List ℕ) → bestFloorsRefusal f s out ≡ bestRefusal s out
-  unfolding bestFloorsRefusal bestRefusal
-  best-then out =
-      orElse-right (refusalOf s) _ (right .accepted)
-      ∙ orElse-right (floorsRefusal (slotCount s) f) (boundsRefusal s out) passed
-      ∙ sym (orElse-right (refusalOf s) (boundsRefusal s out) (right .accepted))
+  best-then out = searching.left-of-floors f s out (right .accepted) passed ∙ sym (searching.left-of-best s out (right .accepted))
 
 -- the numbers, in their order
 pub sheet-first : (f s : List ℕ) → (refusalOf s ≡ 0 → ⊥) → AllReturn f s (refusalOf s)
@@ -116,13 +112,6 @@ unfolding unlessRefused
 none-left s zero given before accepted = ap given (none-round s (accepted refl))
 none-left s (suc k) given before accepted = refl
 
-first-none : (a b : ℕ) → orElse a b ≡ 0 → a ≡ 0
-first-none zero b e = refl
-first-none (suc a) b e = absurd (first-some a b e)
-  where
-    first-some : (a b : ℕ) → orElse (suc a) b ≡ 0 → ⊥
-    first-some a b e = let q = sym (orElse-left (suc a) b (λ z. absurd (omega arith))) ∙ e in absurd (omega arith)
-
 play-none : (s out : List ℕ) → playFloorsRefusal (noFloors s) s out ≡ playRefusal s out
 unfolding playFloorsRefusal playRefusal
 play-none s out = none-refusal s _ _ _ (λ ok. play-then (noFloors s) s (none-floored s ok) out) refl _ refl
@@ -140,7 +129,7 @@ written-none : {A : Type 0} (s : List ℕ) (k k′ rest : ℕ) (given : Round �
     unlessRefused k (given (withFloors (roundOf s) (noFloors s))) before ≡ unlessRefused k′ (given (roundOf s)) before
 written-none s k k′ rest given before e number =
     ap (λ (n : ℕ). unlessRefused n (given (withFloors (roundOf s) (noFloors s))) before) e
-    ∙ none-left s k′ given before (λ z. first-none (refusalOf s) rest (sym number ∙ z))
+    ∙ none-left s k′ given before (λ z. orElse-none (refusalOf s) rest (sym number ∙ z) .0)
 
 pub play-without : (s out out′ : List ℕ) (number : ℕ) → Exactly (Played s out number out′) (PlayedFloors (noFloors s) s out number out′)
 unfolding playRefusal
@@ -250,7 +239,7 @@ pub best-with : (f s out out′ : List ℕ) (before number after : ℕ) → Floo
     BestFloorsPageGiven f s out before number out′ after → (number ≡ 0) × BestRight (withFloors (roundOf s) f) out out′ after
 unfolding bestBuffer
 best-with f s out out′ before number after right few-bidders few-slots room g =
-    let none : bestFloorsRefusal f s out ≡ 0 = best-then f s right out ∙ best-unrefused s out (right .accepted) few-bidders few-slots room in
+    let none : bestFloorsRefusal f s out ≡ 0 = best-then f s right out ∙ searching.best-unrefused s out (right .accepted) few-bidders few-slots room in
     let r = withFloors (roundOf s) f in
     let proper = floors-proper (roundOf s) f (round-proper s (right .accepted))
     (subst (λ (m : ℕ). ProperFloors m f) (sym (round-slots s)) (floors.passed-proper (slotCount s) f (passed f s right))) in (

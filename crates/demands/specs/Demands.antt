@@ -85,7 +85,7 @@ pub record DemandOne : Type 0 where
 
 -- The price that a result says for slot k, with w the bidder there: at most w's bid (an empty slot's bid is 0), and a multiple of the tick; playing the
 -- sheet with the price written for w, into any buffer with room, is not refused and gives w the slot; playing it with any smaller number written that
--- the sheet would accept does not. `Plays` is the promise of the call that is meant, `Played`.
+-- the sheet would accept does not. `Plays` is the promise of the call: `Played`, or `PlayedFloors` with its floors.
 pub record PricedRight (Plays : (s out : List ℕ) (number : ℕ) (out′ : List ℕ) → Type 0) (s result : List ℕ) (k : ℕ) : Type 0 where
   pub at-most-bid : priceSaid result k ≤ bidField s (bidderSaid result k)
   pub multiple : priceSaid result k % tickField s ≡ 0
@@ -94,8 +94,8 @@ pub record PricedRight (Plays : (s out : List ℕ) (number : ℕ) (out′ : List
   pub smaller-loses : (x : ℕ) → x < priceSaid result k → Accepted (writeBid s (bidderSaid result k) x) → (again again′ : List ℕ) (number : ℕ) → 5 * slotCount s ≤ length again →
       Plays (writeBid s (bidderSaid result k) x) again number again′ → (number ≡ 0) × (bidderSaid again′ k ≡ bidderSaid result k → ⊥)
 
--- What a result says of an accepted sheet, whose round is r: a page of the round that breaks no condition, each slot filled by the greedy rule and
--- priced right.
+-- What a result says of an accepted sheet, whose round is r: a page of the round that breaks no condition (and obeys its floors), each slot filled by the
+-- greedy rule and priced right.
 pub record PlayedRight (Plays : (s out : List ℕ) (number : ℕ) (out′ : List ℕ) → Type 0) (r : Round) (s result : List ℕ) : Type 0 where
   pub page : Page
   pub said : (k : ℕ) → 0 < k → k ≤ slotCount s → bidderSaid result k ≡ at page k
@@ -150,12 +150,12 @@ pub record AnsweredInOrder (r : Round) (p : Page) (k b : ℕ) (answer : Eligibil
 
 pub record RequestThree : Type 0 where
   -- the step (`eligibility`, greedy/src/lib.rt) promises the equation, for each round and page that the engine is filling; page and prices take who
-  -- is eligible from its answers, and that nobody else is from the first bid below the floor, in falling order of bids
+  -- is eligible from its answers, and from nowhere else
   pub step : (r : Round) (p : Page) (k b : ℕ) (answer : Eligibility) → failedTest answer ≡ firstFailed r p k b → AnsweredInOrder r p k b answer
   -- "An unplaced bidder is eligible for place k if, with the places already filled and it at k, neither its own conditions nor those of an earlier
-  -- winner are broken." A floor is reached by every bid where it is 0, as in a call without floors.
-  pub sentence : (r : Round) (p : Page) (k b : ℕ) → floorOf r k ≤ bidOf r b →
-      eligible r p k b ≡ (not (placed p b) && not (breaksOwn r (put p k b) b || breaksEarlier r p (put p k b)))
+  -- winner are broken": of a sheet's round. (With floors: `RequestSeven .eligible-only`.)
+  pub sentence : (s : List ℕ) (p : Page) (k b : ℕ) →
+      eligible (roundOf s) p k b ≡ (not (placed p b) && not (breaksOwn (roundOf s) (put p k b) b || breaksEarlier (roundOf s) p (put p k b)))
 
 -- REQUEST S-4. "Sheet version 2 has a 4-byte tick after the condition count …; version 1 means tick 1 … Every bid is a multiple of the tick. A price
 -- becomes the smallest bid that the sheet would accept and that still wins the place … for the last, both sheets have the same tick." Demands 1 to 3 are

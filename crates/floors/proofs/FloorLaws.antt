@@ -7,12 +7,17 @@ use mathlib.Core.Logic.{⊎-elim}
 use mathlib.Core.Path.{_≡_, ap, ap₂}
 use native.Mathlib.Omega.{arith}
 use lib.Dec.{eqb, ltb}
-use lib.ListN.{length, getD, List·getD-eq-default}
+use lib.ListN.{length, getD, replicate, List·getD-eq-default}
 use Rattle.basis.specs.First.{_when_otherwise_}
 use Rattle.basis.proofs.FirstLaws.{when-none}
 use Rattle.basis.proofs.NumberLaws.{same-or-not, below-or-not}
 use Rattle.basis.proofs.TestLaws.{any-at, any-none, none-any, not-both, not-holds, not-fails}
+use Rattle.sheet.specs.Sheet.{slotCount, tickField}
+use Rattle.sheet.specs.Refusal.{Accepted}
 use Rattle.sheet.specs.Proper.{ProperFloors}
+use Rattle.sheet.proofs.AcceptedLaws.{accepted-sheet}
+use Rattle.choice.specs.Critical.{Asked}
+use Rattle.choice.proofs.CriticalLaws.{zeros-asked}
 use Rattle.floors.specs.Floors.{someTooHigh, floorsRefusal}
 
 -- a floor of the list is above 1,000,000,000
@@ -63,3 +68,9 @@ passed-proper m floors e =
           (λ (l : length floors ≤ k). let past : getD floors k 0 ≡ 0 = List·getD-eq-default floors 0 l in omega arith)
           (below-or-not k (length floors));
     }
+
+-- floors of 0 ask nothing of an accepted sheet
+pub none-asked : (s : List ℕ) → Accepted s → Asked (tickField s) (slotCount s) (replicate 16 0) (replicate 16 0)
+none-asked s ok =
+    let counts = accepted-sheet s ok .counts in
+    zeros-asked (tickField s) (slotCount s) (counts .some-tick) (counts .most-slots)

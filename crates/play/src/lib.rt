@@ -44,9 +44,9 @@ pub fn play(sheet: &[u8], result: &mut [u8]) -> u32
 pub fn play_floors(sheet: &[u8], floors: &[u32], result: &mut [u8]) -> u32
     ensures { λ r. ⌜ PlayedFloors (now (floors .entry)) (now (sheet .entry)) (now (result .entry)) r (now (result .exit)) ⌝ }
 {
-    let refusal = sheet_check::check(sheet);
-    if refusal != 0 {
-        return refusal;
+    let number = sheet_check::check(sheet);
+    if number != 0 {
+        return number;
     }
     let slots = sheet[6] as usize;
     let wrong = floors::check_floors(floors, slots);

@@ -238,7 +238,7 @@ worked sheet truth bidder worth page prices monotonic gain best total =
 -- of 12, by a sheet whose first faulty condition breaks a later rule than its second, and by the rules of version 2: tick 0 though the length is wrong
 -- too, the length, a bid above the limit though an earlier one is off the tick, the last bid off the tick, and conditions that do not rise: a repeat,
 -- one owner's out of order, one that also breaks 11, one before a condition that breaks 10, one after a condition that breaks 12, and in the truth sheet.
--- With floors: A with a floor that 2 just reaches at place 2, and one that empties it; B with none but 0, with one that empties place 3, one that sets the
+-- With floors: A with a floor that 2 just reaches at place 2, one that empties it, and one that is too high; B with none but 0, with one that empties place 3, one that sets the
 -- price of place 2, falling and rising ones, one that empties place 1 alone, and with floors above every bid; G with a floor above a bid of 0; H with floors
 -- that leave its page and change its best page, or the other way round; a floor between two ticks; and `second-not-first`, where a floor makes the lower
 -- bidder's place cost more than the place above it. Refused lists: too short, too long, a floor one too high, both (30); before 14, 16 and 18, and after the
@@ -248,9 +248,11 @@ rounds =
     withLists (worked A A 1 30 (1 ∷ 2 ∷ []) (20 ∷ 10 ∷ []) true (pos 100) (1 ∷ 2 ∷ []) 480)
     ((0 ∷ 20 ∷ [])
     ∷ (0 ∷ 21 ∷ [])
+    ∷ (0 ∷ 1_000_000_001 ∷ [])
     ∷ [])
     (says (1 ∷ 2 ∷ []) (20 ∷ 20 ∷ []) (pos 100) (1 ∷ 2 ∷ []) 480
     ∷ says (1 ∷ 0 ∷ []) (20 ∷ 0 ∷ []) (pos 100) (3 ∷ 1 ∷ []) 370
+    ∷ saysNot 31 2
     ∷ [])
     ∷ withLists (worked B B 1 60 (1 ∷ 2 ∷ 3 ∷ []) (40 ∷ 10 ∷ 0 ∷ []) true (pos 2000) (1 ∷ 2 ∷ 3 ∷ []) 10410)
     ((0 ∷ 0 ∷ 0 ∷ [])
@@ -380,7 +382,7 @@ givenByStep c =
     firstFailed r (pageUpTo r (c .slot - 1)) (c .slot) (c .bidder)
 
 abbrev pub asked : List ℕ → ℕ → ℕ → Eligibility → Candidate
-asked sheet slot bidder said = record { sheet = sheet; floors = []; slot = slot; bidder = bidder; said = said }
+asked sheet slot bidder said = record { sheet = sheet; floors = replicate (slotCount sheet) 0; slot = slot; bidder = bidder; said = said }
 
 -- the same with floors
 abbrev pub askedWith : List ℕ → List ℕ → ℕ → ℕ → Eligibility → Candidate

@@ -1,4 +1,4 @@
--- `best_clash::first_free` meets its contract: the open seats without those that are shut from the start. Assumes nothing.
+-- `best_clash::first_free` meets its contract: the reached seats without those that are shut from the start. Assumes nothing.
 use Prim.Native.Nat.{ℕ, _+_, _*_}
 use mathlib.Core.Bool.{Bool, not, _&&_}
 use mathlib.Core.Path.{_∙_, ap, ap₂}
@@ -11,8 +11,8 @@ use Rattle.best_clash.proofs.first_free.Tie as tie
 always-requires : tie.Need-always-requires
 always-requires c κs = search needs
 
-open-seats-requires : tie.Need-open-seats-requires
-open-seats-requires c κs = search needs
+reached-seats-requires : tie.Need-reached-seats-requires
+reached-seats-requires c κs = search needs
 
 cast-t9 : tie.Need-cast-t9
 cast-t9 c = search needs
@@ -28,7 +28,7 @@ without-requires c κs = search needs
 
 returns : tie.Need-returns
 returns c =
-    let seats = c .before .before .before .open-seats .ensures in
+    let seats = c .before .before .before .reached-seats .ensures in
     let table = c .before .before .before .before .before .before .before .before .args .table .now in
     record {
       low = c .without .ensures .1 _ (seats .0);
@@ -43,7 +43,7 @@ first-free-spec =
     tie.close
     (tie.spec
     always-requires
-    open-seats-requires
+    reached-seats-requires
     cast-t9
     mul-t10
     element-copy-out-t13

@@ -1,15 +1,10 @@
 -- `play::play` meets its contract, by the cases of the call; an accepted sheet is played with floors of 0. Assumes nothing.
-use Prim.Native.Nat.{ℕ}
-use mathlib.Core.List.{List}
 use mathlib.Core.Path.{_≡_, sym, _∙_}
-use lib.ListN.{replicate}
 use Rattle.basis.proofs.RowLaws.{zeros}
-use Rattle.sheet.specs.Sheet.{slotCount, tickField}
 use Rattle.sheet.specs.Refusal.{Accepted}
 use Rattle.sheet.proofs.AcceptedLaws.{accepted-sheet}
 use Rattle.sheet.proofs.FloorLaws.{without-floors}
-use Rattle.choice.specs.Critical.{Asked}
-use Rattle.choice.proofs.CriticalLaws.{zeros-asked}
+use Rattle.floors.proofs.FloorLaws.{none-asked}
 use Rattle.play.proofs.PlayLaws.{sheet-refused, accepted-plays}
 use borrow.Author.Needs.{needs}
 use Rattle.play.proofs.play.Statement.{statement}
@@ -27,12 +22,6 @@ accepted c = sym (c .before .check .ensures) ∙ c .if1 .left
 
 slice-aggregate-play-accepted : tie.Need-slice-aggregate-play-accepted
 slice-aggregate-play-accepted c = search needs
-
--- floors of 0 ask nothing
-none-asked : (s : List ℕ) → Accepted s → Asked (tickField s) (slotCount s) (replicate 16 0) (replicate 16 0)
-none-asked s ok =
-    let counts = accepted-sheet s ok .counts in
-    zeros-asked (tickField s) (slotCount s) (counts .some-tick) (counts .most-slots)
 
 play-accepted-requires : tie.Need-play-accepted-requires
 play-accepted-requires c κs =

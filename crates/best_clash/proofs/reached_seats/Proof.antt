@@ -1,4 +1,4 @@
--- `best_clash::open_seats` meets its contract: each turn adds the seats of one slot, those of the ranks that reach its floor. Assumes nothing.
+-- `best_clash::reached_seats` meets its contract: each turn adds the seats of one slot, those of the ranks that reach its floor. Assumes nothing.
 use Prim.Native.Nat.{ℕ, suc, _*_, _-_, _%_, _^_, _<_, _≤_}
 use mathlib.Core.Bool.{Bool}
 use mathlib.Core.List.{List}
@@ -9,8 +9,8 @@ use lib.Bits.{bitOr}
 use lib.ListN.{getD}
 use Rattle.best_clash.specs.EngineMarks.{reaches}
 use Rattle.best_clash.proofs.RowLaws.{SeatsTo, no-seats, seats-more}
-use Rattle.best_clash.proofs.open_seats.Statement.{statement}
-use Rattle.best_clash.proofs.open_seats.Tie as tie
+use Rattle.best_clash.proofs.reached_seats.Statement.{statement}
+use Rattle.best_clash.proofs.reached_seats.Tie as tie
 
 -- who reaches the floor of the slot with index l
 abbrev open′ : (ranked bids floors : List ℕ) → ℕ → ℕ → ℕ → Bool
@@ -118,8 +118,8 @@ returns c =
     let had = subst (SeatsTo (open′ (s .args .ranked .now) (s .args .bids .now) (s .args .floors .now) (s .args .bidders)) (at .loop .all .0)) all (v .had) in
     (had .low, had .told)
 
-pub open-seats-spec : {M : Type 1} → statement M
-open-seats-spec =
+pub reached-seats-spec : {M : Type 1} → statement M
+reached-seats-spec =
     tie.close
     (tie.spec
     Inv-loop
