@@ -30,14 +30,14 @@ fn main() -> ExitCode {
 
 /// What a row is about: part, call, size and kind, as the first columns of a table.
 fn title(part: &str, row: &Row) -> String {
-    let (call, manner) = (format!("{:?}", row.call).to_lowercase(), row.manner.name());
+    let (call, manner) = (row.call.name(), row.manner.name());
     let size = row.size;
-    format!("| {part:<13} | {call:<8} | {:>2} | {:>2} | {:>4} | {manner:<10} |", size.bidders, size.slots, size.constraints)
+    format!("| {part:<13} | {call:<11} | {:>2} | {:>2} | {:>4} | {manner:<10} |", size.bidders, size.slots, size.constraints)
 }
 
 /// The heads of those columns, and the rules below them.
-const TITLES: &str = "| part          | call     |  n |  m |    c | kind       |";
-const RULES: &str = "|---------------|----------|---:|---:|-----:|------------|";
+const TITLES: &str = "| part          | call        |  n |  m |    c | kind       |";
+const RULES: &str = "|---------------|-------------|---:|---:|-----:|------------|";
 
 fn show_times() {
     println!("{TITLES} library, ns (quartiles)       | Rust, ns (quartiles)         | library / Rust | library / itself |");
