@@ -119,6 +119,12 @@ pub enum Floors {
     Above,
 }
 
+impl Floors {
+    /// All kinds.
+    pub const ALL: [Floors; 7] =
+        [Floors::Zero, Floors::Any, Floors::Rising, Floors::Falling, Floors::NearBids, Floors::OffTick, Floors::Above];
+}
+
 /// Floors for a round, one for each slot.
 pub fn floors(random: &mut Random, round: &Round, floors: Floors) -> Vec<u32> {
     let highest = round.bids.iter().fold(0, |highest, &bid| highest.max(bid));
