@@ -1,10 +1,10 @@
 -- What a broken constraint says, that it stays broken as the page fills, and who is eligible. Assumes nothing.
 use Prim.Native.Nat.{ℕ, _<_, _≤_}
-use borrow.Author.Tests.{eq-eqb, eqb-true, not-true}
-use mathlib.Core.Bool.{Bool, true, false, not, _&&_, _||_}
+use borrow.Author.Tests.{eq-eqb, eqb-true, le-ltb, ltb-false, not-true}
+use mathlib.Core.Bool.{Bool, true, false, not, _&&_, _||_, and-true}
 use mathlib.Core.Logic.{_⊎_, ⊎-elim}
 use mathlib.Core.Path.{_≡_, refl, sym, _∙_, ap, ap₂}
-use lib.Dec.{eqb}
+use lib.Dec.{eqb, ltb}
 use Rattle.basis.specs.First.{_when_otherwise_}
 use Rattle.basis.specs.Tests.{anyBelow}
 use Rattle.basis.proofs.TestLaws.{same-tests, not-both, fails, and-holds, and-parts, or-left, or-right, not-holds, any-at, any-where}
@@ -17,7 +17,7 @@ use Rattle.sheet.specs.declared.Page.{Page}
 use Rattle.sheet.specs.declared.Round.{Round}
 use Rattle.auction.specs.Page.{at, put, emptyPage, placed, Sized}
 use Rattle.auction.specs.Broken.{ownHolds, otherHolds, broken, breaks, breaksOwn}
-use Rattle.sheet.specs.Round.{constraintAt, Has}
+use Rattle.sheet.specs.Round.{bidOf, floorOf, constraintAt, Has}
 use Rattle.sheet.specs.Proper.{ProperKind, Proper}
 use Rattle.auction.specs.Eligible.{breaksEarlier, firstFailed, eligible}
 use Rattle.auction.proofs.PageLaws.{Keeps, keeps-placed, placed-at, placed-put, empty-placed}
@@ -127,29 +127,44 @@ pub breaks-earlier-where : (r : Round) (p p′ : Page) → breaksEarlier r p p�
 unfolding breaksEarlier
 breaks-earlier-where r p p′ = owned-where (placed p) r p′
 
--- none of three tests fails
-none-of-three : (x y z : Bool) → eqb (1 when x otherwise 2 when y otherwise 3 when z otherwise 0) 0 ≡ (not x && not (z || y))
-none-of-three true y z = refl
-none-of-three false true true = refl
-none-of-three false true false = refl
-none-of-three false false true = refl
-none-of-three false false false = refl
+-- none of four tests fails
+none-of-four : (x y z t : Bool) → eqb (1 when x otherwise 2 when y otherwise 3 when z otherwise 4 when t otherwise 0) 0 ≡ ((not x && not (z || y)) && not t)
+none-of-four true y z t = refl
+none-of-four false true true t = refl
+none-of-four false true false t = refl
+none-of-four false false true t = refl
+none-of-four false false false true = refl
+none-of-four false false false false = refl
 
 -- What being eligible says.
 module _ (r : Round) (p : Page) (k b : ℕ) where
-  -- "An unplaced bidder is eligible for place k if, with the places already filled and it at k, neither its own conditions nor those of an
-  -- earlier winner are broken."
-  pub eligible-sentence : eligible r p k b ≡ (not (placed p b) && not (breaksOwn r (put p k b) b || breaksEarlier r p (put p k b)))
+  -- the four tests
+  eligible-tests : eligible r p k b ≡ ((not (placed p b) && not (breaksOwn r (put p k b) b || breaksEarlier r p (put p k b))) && not (ltb (bidOf r b) (floorOf r k)))
   unfolding eligible firstFailed
-  eligible-sentence = none-of-three (placed p b) (breaksEarlier r p (put p k b)) (breaksOwn r (put p k b) b)
+  eligible-tests = none-of-four (placed p b) (breaksEarlier r p (put p k b)) (breaksOwn r (put p k b) b) (ltb (bidOf r b) (floorOf r k))
 
-  -- its three parts
+  -- "A bidder is eligible for a place only with a bid at or above its floor"
+  pub eligible-reaches : eligible r p k b ≡ true → floorOf r k ≤ bidOf r b
+  eligible-reaches e =
+      ltb-false (bidOf r b) (floorOf r k)
+      (not-true (ltb (bidOf r b) (floorOf r k))
+      (and-parts (not (placed p b) && not (breaksOwn r (put p k b) b || breaksEarlier r p (put p k b))) (not (ltb (bidOf r b) (floorOf r k))) (sym eligible-tests ∙ e) .1))
+
+  -- "An unplaced bidder is eligible for place k if, with the places already filled and it at k, neither its own conditions nor those of an
+  -- earlier winner are broken": wherever its bid reaches the floor.
+  pub eligible-sentence : floorOf r k ≤ bidOf r b → eligible r p k b ≡ (not (placed p b) && not (breaksOwn r (put p k b) b || breaksEarlier r p (put p k b)))
+  eligible-sentence reaches =
+      eligible-tests
+      ∙ ap (λ (t : Bool). (not (placed p b) && not (breaksOwn r (put p k b) b || breaksEarlier r p (put p k b))) && not t) (le-ltb (bidOf r b) (floorOf r k) reaches)
+      ∙ and-true (not (placed p b) && not (breaksOwn r (put p k b) b || breaksEarlier r p (put p k b)))
+
+  -- its three parts besides
   eligible-parts : eligible r p k b ≡ true →
       (placed p b ≡ false) × (breaksOwn r (put p k b) b ≡ false) × (breaksEarlier r p (put p k b) ≡ false)
   eligible-parts e =
       let own = breaksOwn r (put p k b) b in
       let earlier = breaksEarlier r p (put p k b) in
-      let both = and-parts (not (placed p b)) (not (own || earlier)) (sym eligible-sentence ∙ e) in
+      let both = and-parts (not (placed p b)) (not (own || earlier)) (sym (eligible-sentence (eligible-reaches e)) ∙ e) in
       let neither = not-true (own || earlier) (both .1) in (
         not-true (placed p b) (both .0),
         fails own (λ t. not-both (or-left earlier t) neither),
@@ -171,13 +186,13 @@ module _ (r : Round) (p : Page) (k b : ℕ) where
       (λ (x : placed p (q .owner .0) ≡ true). not-both (breaks-earlier-at r p (put p k b) q h x t) (parts .2))
       (placed-put p k b (q .owner .0) s l m (broken-parts (put p k b) q t .2)))
 
-  pub unbroken-eligible : placed p b ≡ false → ((q : Constraint) → Has r q → broken (put p k b) q ≡ false) → eligible r p k b ≡ true
-  unbroken-eligible u f =
+  pub unbroken-eligible : floorOf r k ≤ bidOf r b → placed p b ≡ false → ((q : Constraint) → Has r q → broken (put p k b) q ≡ false) → eligible r p k b ≡ true
+  unbroken-eligible reaches u f =
       let own : breaksOwn r (put p k b) b ≡ false
       = fails (breaksOwn r (put p k b) b) (λ t. let w = breaks-own-where r (put p k b) b t in not-both (w .2) (f (w .0) (w .1))) in
       let earlier : breaksEarlier r p (put p k b) ≡ false
       = fails (breaksEarlier r p (put p k b)) (λ t. let w = breaks-earlier-where r p (put p k b) t in not-both (w .2) (f (w .0) (w .1))) in
-      eligible-sentence ∙ and-holds (not-holds u) (ap₂ (λ (x y : Bool). not (x || y)) own earlier)
+      eligible-sentence reaches ∙ and-holds (not-holds u) (ap₂ (λ (x y : Bool). not (x || y)) own earlier)
 
 -- A constraint's own test, kind by kind: an owner at its own slot has a slot, so `placed` adds nothing there.
 module _ (p : Page) (owner : Bidder) where
@@ -194,16 +209,12 @@ module _ (p : Page) (owner : Bidder) where
       (λ e. parts-broken p (with-kind (OwnSlot k)) e refl (here-placed (k .0) s m e))
       (λ e. broken-parts p (with-kind (OwnSlot k)) e .0)
 
-  pub other-slot-broken : (j : Bidder) (l : Slot) → eqb (at p (l .0)) (j .0) ≡ true → placed p (owner .0) ≡ broken p (with-kind (OtherSlot j l))
+  pub other-slot-broken : (j : Bidder) (l : Slot) → placed p (owner .0) ≡ true → eqb (at p (l .0)) (j .0) ≡ broken p (with-kind (OtherSlot j l))
   unfolding ownHolds otherHolds
-  other-slot-broken j l e =
-      same-tests (placed p (owner .0)) (broken p (with-kind (OtherSlot j l)))
-      (λ t. parts-broken p (with-kind (OtherSlot j l)) refl e t)
-      (λ t. broken-parts p (with-kind (OtherSlot j l)) t .2)
-
-  pub other-elsewhere : (j : Bidder) (l : Slot) → eqb (at p (l .0)) (j .0) ≡ false → broken p (with-kind (OtherSlot j l)) ≡ false
-  unfolding otherHolds
-  other-elsewhere j l e = fails (broken p (with-kind (OtherSlot j l))) (λ t. not-both (broken-parts p (with-kind (OtherSlot j l)) t .1) e)
+  other-slot-broken j l here =
+      same-tests (eqb (at p (l .0)) (j .0)) (broken p (with-kind (OtherSlot j l)))
+      (λ t. parts-broken p (with-kind (OtherSlot j l)) refl t here)
+      (λ t. broken-parts p (with-kind (OtherSlot j l)) t .1)
 
   pub pair-broken : (k : Slot) (j : Bidder) (l : Slot) → 0 < k .0 → k .0 ≤ 16 → eqb (at p (k .0)) (owner .0) ≡ true →
       eqb (at p (l .0)) (j .0) ≡ broken p (with-kind (Pair k j l))

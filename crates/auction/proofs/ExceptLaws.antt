@@ -17,7 +17,7 @@ use Rattle.auction.specs.Except.{Except, SameSets}
 use Rattle.choice.proofs.WinnerLaws.{winner-without}
 use Rattle.auction.proofs.PageLaws.{placed-put, placed-where, put-placed, keeps-placed}
 use Rattle.basis.proofs.NumberLaws.{same-or-not}
-use Rattle.auction.proofs.BrokenLaws.{unplaced-unbroken, eligible-unplaced, eligible-unbroken, unbroken-eligible}
+use Rattle.auction.proofs.BrokenLaws.{unplaced-unbroken, eligible-reaches, eligible-unplaced, eligible-unbroken, unbroken-eligible}
 use Rattle.auction.proofs.GreedyLaws.{upTo-next, upTo-sized, upTo-keeps-next, upTo-bidders}
 
 pub except-sym : (i : ℕ) (r r′ : Round) → Except i r r′ → Except i r′ r
@@ -26,6 +26,7 @@ except-sym i r r′ x =
       bidders = sym (x .bidders);
       slots = sym (x .slots);
       ticks = sym (x .ticks);
+      floors = λ k. sym (x .floors k);
       bids = λ b d. sym (x .bids b d);
       there = x .back;
       back = x .there;
@@ -35,7 +36,9 @@ except-sym i r r′ x =
 eligible-across : (i : ℕ) (r r′ : Round) → Except i r r′ → (p : Page) (k b : ℕ) → Sized p → 0 < k → k ≤ 16 →
     placed p i ≡ false → (b ≡ i → ⊥) → eligible r p k b ≡ true → eligible r′ p k b ≡ true
 eligible-across i r r′ x p k b s l m u d e =
-    unbroken-eligible r′ p k b (eligible-unplaced r p k b e)
+    unbroken-eligible r′ p k b
+    (let reaches = eligible-reaches r p k b e in let floor = x .floors k in let bid = x .bids b d in omega arith)
+    (eligible-unplaced r p k b e)
     (λ q h.
     ⊎-elim
     (λ (o : q .owner .0 ≡ i).
@@ -110,6 +113,7 @@ sets-except i r r′ x =
       bidders = x .bidders;
       slots = x .slots;
       ticks = x .ticks;
+      floors = x .floors;
       bids = λ b d. x .bids b;
       there = λ q d. x .there q;
       back = λ q d. x .back q;

@@ -1,20 +1,23 @@
--- The greedy page is a page of the round that breaks no constraint, and each of its slots is filled by the greedy rule: its first slots are
+-- The greedy page is a page of the round that breaks no constraint and obeys the floors, and each of its slots is filled by the greedy rule: its first slots are
 -- the page as it was filled up to there. Assumes nothing.
 use Prim.Native.Nat.{ℕ, zero, suc, _-_, _<_, _≤_}
-use mathlib.Core.Path.{_≡_, refl, sym, _∙_, ap, ap₂}
+use mathlib.Core.Logic.{⊎-elim}
+use mathlib.Core.Path.{_≡_, refl, sym, _∙_, ap, ap₂, subst}
 use native.Mathlib.Nat.{not-suc-le-zero}
 use native.Mathlib.Omega.{arith}
 use Rattle.sheet.specs.declared.Page.{Page}
 use Rattle.sheet.specs.declared.Round.{Round}
-use Rattle.sheet.specs.Round.{bidOf}
+use Rattle.basis.proofs.NumberLaws.{below-or-not}
+use Rattle.sheet.specs.Round.{bidOf, floorOf}
 use Rattle.sheet.specs.Proper.{ProperRound}
 use Rattle.choice.specs.Winner.{ranksNoLower}
 use Rattle.choice.proofs.WinnerLaws.{ranks-cases}
 use Rattle.auction.specs.Page.{at, put}
 use Rattle.auction.specs.Allowed.{Allowed}
 use Rattle.auction.specs.Eligible.{eligible}
-use Rattle.auction.specs.Greedy.{pageUpTo, greedyPage}
+use Rattle.auction.specs.Greedy.{winnerAt, pageUpTo, greedyPage}
 use Rattle.auction.specs.Filled.{firstSlots, FilledGreedily}
+use Rattle.auction.proofs.BrokenLaws.{eligible-reaches}
 use Rattle.auction.proofs.GreedyLaws.{
   upTo-next,
   upTo-sized,
@@ -28,6 +31,20 @@ use Rattle.auction.proofs.GreedyLaws.{
 }
 
 module _ (r : Round) (c : ProperRound r) where
+  -- whoever stands at a slot was eligible for it, and so reaches its floor
+  greedy-reaches : (k : ℕ) → (at (greedyPage r) k ≡ 0 → ⊥) → floorOf r k ≤ bidOf r (at (greedyPage r) k)
+  unfolding at
+  greedy-reaches zero h = absurd (h refl)
+  greedy-reaches (suc k) h =
+      ⊎-elim
+      (λ (l : k < r .slots).
+      let won = slot-winner r (c .most-slots) k l in
+      subst (λ (b : ℕ). floorOf r (suc k) ≤ bidOf r b) (sym won)
+      (eligible-reaches r (pageUpTo r k) (suc k) (winnerAt r (pageUpTo r k) (suc k))
+      (winner-eligible r (pageUpTo r k) (suc k) (λ z. h (won ∙ z)) .is-eligible)))
+      (λ (l : r .slots ≤ k). absurd (h (unfold greedyPage in upTo-later r (r .slots) (suc k) (omega arith))))
+      (below-or-not k (r .slots))
+
   pub greedy-allowed : Allowed r (greedyPage r)
   unfolding greedyPage
   greedy-allowed =
@@ -40,6 +57,7 @@ module _ (r : Round) (c : ProperRound r) where
               once = λ j k. nobody-twice r (r .slots) j k (c .most-slots);
             };
         unbroken = greedy-unbroken r c;
+        reached = greedy-reaches;
       }
 
   -- the first slots of the greedy page are the page as it was filled up to there

@@ -1,9 +1,9 @@
 -- The price of documents 01 and 02, the smallest legal bid that still wins when the round is replayed, is the critical bid.
--- A lower bid changes no slot before the winner's: whoever won there still ranks no lower. At its own slot the same bidders are
--- eligible, since bids bar nobody, so it wins with exactly the legal bids from the critical one up. Assumes nothing.
+-- A lower bid changes no slot before the winner's: whoever won there still ranks no lower. At its own slot the same rivals are eligible, and
+-- so is the winner where its bid reaches the floor, so it wins with exactly the legal bids from the critical one up. Assumes nothing.
 use Prim.Native.Nat.{ℕ, zero, suc, _%_, _<_, _≤_}
 use borrow.Author.Tests.{eq-eqb, ne-eqb, eqb-true}
-use mathlib.Core.Bool.{Bool, true, false, _&&_, and-false}
+use mathlib.Core.Bool.{Bool, true, false, not, _&&_, _||_, and-false}
 use mathlib.Core.Logic.{_⊎_, ⊎-elim}
 use mathlib.Core.Path.{_≡_, refl, sym, _∙_, ap, ap₂, subst}
 use native.Mathlib.Nat.{not-suc-le-zero, zero-mod}
@@ -11,7 +11,7 @@ use native.Mathlib.Omega.{arith}
 use lib.ListN.{length}
 use lib.Seq.{getD-set-same, getD-set-other}
 use Rattle.basis.specs.Tests.{least}
-use Rattle.basis.proofs.TestLaws.{holds-or-fails, not-both, and-holds, least-is, least-at-most}
+use Rattle.basis.proofs.TestLaws.{holds-or-fails, not-both, same-tests, and-holds, least-is, least-at-most}
 use Rattle.sheet.specs.declared.Constraint.{Constraint}
 use Rattle.sheet.specs.declared.Page.{Page}
 use Rattle.sheet.specs.declared.Round.{Round}
@@ -21,16 +21,27 @@ use Rattle.auction.specs.Page.{at, put, placed}
 use Rattle.sheet.specs.Proper.{ProperRound}
 use Rattle.sheet.specs.Refusal.{legalBid}
 use Rattle.sheet.proofs.AcceptedLaws.{legal-parts, parts-legal}
-use Rattle.sheet.specs.Round.{constraintAt, bidOf, Has}
+use Rattle.sheet.specs.Round.{constraintAt, bidOf, floorOf, Has}
 use Rattle.auction.specs.Broken.{breaksOwn}
-use Rattle.auction.specs.Eligible.{breaksEarlier, firstFailed, eligible}
+use Rattle.auction.specs.Eligible.{breaksEarlier, eligible}
 use Rattle.auction.specs.Greedy.{winnerAt, pageUpTo, greedyPage}
 use Rattle.auction.specs.Price.{withBid, winsWith, priceFor, price}
 use Rattle.auction.specs.Except.{Except, SameSets}
 use Rattle.choice.proofs.WinnerLaws.{Wins, winner-wins, winner-same, ranks-cases}
-use Rattle.choice.proofs.CriticalLaws.{ExceptBid, enough-wins, less-loses, critical-at-most-bid, critical-multiple, critical-same}
+use Rattle.choice.proofs.CriticalLaws.{
+  ExceptBid,
+  enough-wins,
+  less-loses,
+  critical-at-most-bid,
+  critical-multiple,
+  critical-floor,
+  critical-alone,
+  critical-same,
+  floor-asks-reaches,
+  floor-asks-least,
+}
 use Rattle.basis.proofs.NumberLaws.{same-or-not}
-use Rattle.auction.proofs.BrokenLaws.{eligible-unplaced}
+use Rattle.auction.proofs.BrokenLaws.{eligible-reaches, eligible-sentence, eligible-unplaced}
 use Rattle.auction.proofs.GreedyLaws.{upTo-next, upTo-sized, slot-winner, winner-eligible, winner-bidder, empty-nobody}
 use Rattle.auction.proofs.ExceptLaws.{winner-except, unplaced-before, eligible-except, upTo-sets, sets-except, page-sets}
 
@@ -71,10 +82,40 @@ unfolding withBid bidOf
 with-own r zero x s m = absurd (not-suc-le-zero s)
 with-own r (suc i) x s m = getD-set-same (r .bids) i x 0 m
 
-pub with-eligible : (r : Round) (w x : ℕ) (p : Page) (k b : ℕ) → eligible (withBid r w x) p k b ≡ eligible r p k b
-unfolding withBid eligible firstFailed breaksEarlier breaksOwn constraintAt
-with-eligible r zero x p k b = refl
-with-eligible r (suc i) x p k b = refl
+pub with-floor : (r : Round) (w x k : ℕ) → floorOf (withBid r w x) k ≡ floorOf r k
+unfolding withBid floorOf
+with-floor r zero x k = refl
+with-floor r (suc i) x zero = refl
+with-floor r (suc i) x (suc k) = refl
+
+with-own-broken : (r : Round) (w x : ℕ) (p : Page) (b : ℕ) → breaksOwn (withBid r w x) p b ≡ breaksOwn r p b
+unfolding withBid breaksOwn constraintAt
+with-own-broken r zero x p b = refl
+with-own-broken r (suc i) x p b = refl
+
+with-earlier-broken : (r : Round) (w x : ℕ) (p p′ : Page) → breaksEarlier (withBid r w x) p p′ ≡ breaksEarlier r p p′
+unfolding withBid breaksEarlier constraintAt
+with-earlier-broken r zero x p p′ = refl
+with-earlier-broken r (suc i) x p p′ = refl
+
+-- who reaches the floor in both rounds is eligible in both or in none
+with-reached : (r : Round) (w x : ℕ) (p : Page) (k b : ℕ) → floorOf r k ≤ bidOf r b → floorOf r k ≤ bidOf (withBid r w x) b →
+    eligible (withBid r w x) p k b ≡ eligible r p k b
+with-reached r w x p k b reaches reaches′ =
+    eligible-sentence (withBid r w x) p k b (let e = with-floor r w x k in omega arith)
+    ∙ ap₂ (λ (own earlier : Bool). not (placed p b) && not (own || earlier)) (with-own-broken r w x (put p k b) b) (with-earlier-broken r w x p (put p k b))
+    ∙ sym (eligible-sentence r p k b reaches)
+
+-- so is whoever has the same bid in both
+with-eligible : (r : Round) (w x : ℕ) (p : Page) (k b : ℕ) → (b ≡ w → ⊥) → eligible (withBid r w x) p k b ≡ eligible r p k b
+with-eligible r w x p k b d =
+    let same = with-other r w x b d in
+    same-tests (eligible (withBid r w x) p k b) (eligible r p k b)
+    (λ e.
+    let reaches = eligible-reaches (withBid r w x) p k b e in
+    let floor = with-floor r w x k in
+    sym (with-reached r w x p k b (omega arith) (omega arith)) ∙ e)
+    (λ e. let reaches = eligible-reaches r p k b e in with-reached r w x p k b reaches (omega arith) ∙ e)
 
 with-has : (r : Round) (w x : ℕ) (q : Constraint) → Has r q → Has (withBid r w x) q
 unfolding withBid constraintAt
@@ -92,6 +133,7 @@ with-except r w x =
       bidders = sym (with-bidders r w x);
       slots = sym (with-slots r w x);
       ticks = sym (with-tick r w x);
+      floors = λ k. sym (with-floor r w x k);
       bids = λ b d. sym (with-other r w x b d);
       there = λ q d. with-has r w x q;
       back = λ q d. has-with r w x q;
@@ -105,16 +147,39 @@ price-least r k (suc i) s = refl
 
 -- With a bid x that is not above its own, the later winner w wins no slot before: whoever won there ranks no lower.
 module _ (r : Round) (w x : ℕ) (lower : x ≤ bidOf r w) (some : 0 < w) (has-bid : w ≤ length (r .bids)) where
+  -- if it wins, its bid reaches the floor,
+  replay-reaches : (p : Page) (k : ℕ) → winnerAt (withBid r w x) p k ≡ w → floorOf r k ≤ x
+  replay-reaches p k won =
+      let top = winner-eligible (withBid r w x) p k (λ z. absurd (let c : w ≡ 0 = sym won ∙ z in omega arith)) in
+      let reaches = eligible-reaches (withBid r w x) p k w (subst (λ (b : ℕ). eligible (withBid r w x) p k b ≡ true) won (top .is-eligible)) in
+      let floor = with-floor r w x k in
+      let own = with-own r w x some has-bid in
+      omega arith
+
+  -- and where it does, the same bidders are eligible
+  replay-winner : (p : Page) (k : ℕ) → floorOf r k ≤ x → winnerAt (withBid r w x) p k ≡ winner (eligible r p k) (bidOf (withBid r w x)) (r .bidders)
+  unfolding winnerAt
+  replay-winner p k reaches =
+      let bid′ = bidOf (withBid r w x) in
+      winner-same (eligible (withBid r w x) p k) (eligible r p k) bid′ bid′ (withBid r w x .bidders)
+      (λ j a z.
+      ⊎-elim
+      (λ (q : j ≡ w).
+      let own = with-own r w x some has-bid in
+      subst (λ (b : ℕ). eligible (withBid r w x) p k b ≡ eligible r p k b) (sym q) (with-reached r w x p k w (omega arith) (omega arith)))
+      (λ (d : j ≡ w → ⊥). with-eligible r w x p k j d)
+      (same-or-not j w))
+      (λ j a z. refl)
+      ∙ ap (winner (eligible r p k) bid′) (with-bidders r w x)
+
   no-earlier : (p : Page) (k : ℕ) → 0 < k → (winnerAt r p k ≡ w → ⊥) → winnerAt (withBid r w x) p k ≡ w → ⊥
   unfolding winnerAt
   no-earlier p k l lost won =
       let n = r .bidders in
       let e = eligible r p k in
       let bid′ = bidOf (withBid r w x) in
-      let won′ : winner e bid′ n ≡ w
-      = winner-same e (eligible (withBid r w x) p k) bid′ bid′ n (λ j a z. sym (with-eligible r w x p k j)) (λ j a z. refl)
-      ∙ ap (winner (eligible (withBid r w x) p k) bid′) (sym (with-bidders r w x))
-      ∙ won in
+      let won-there : winnerAt (withBid r w x) p k ≡ w = won in
+      let won′ : winner e bid′ n ≡ w = sym (replay-winner p k (replay-reaches p k won-there)) ∙ won-there in
       let top = winner-wins e bid′ n (λ z. absurd (let c : w ≡ 0 = sym won′ ∙ z in omega arith)) in
       let w-eligible : e w ≡ true = subst (λ (b : ℕ). e b ≡ true) won′ (top .is-eligible) in
       let most : w ≤ n = subst (λ (b : ℕ). b ≤ n) won′ (top .most) in
@@ -156,19 +221,14 @@ module _ (r : Round) (w x : ℕ) (lower : x ≤ bidOf r w) (some : 0 < w) (has-b
       ∙ ap₂ (λ (p : Page) (v : ℕ). put p (suc k) v) same (won ∙ ap (λ (p : Page). winnerAt r′ p (suc k)) same)
       ∙ sym (upTo-next r′ k)
 
-  -- and w's own slot goes to the winner among the same eligible bidders, with the new bid
+  -- and w's own slot goes to the winner there, with the new bid
   replay-slot : r .slots ≤ 16 → (k : ℕ) → k < r .slots → placed (pageUpTo r k) w ≡ false →
-      at (greedyPage (withBid r w x)) (suc k) ≡ winner (eligible r (pageUpTo r k) (suc k)) (bidOf (withBid r w x)) (r .bidders)
-  unfolding winnerAt
+      at (greedyPage (withBid r w x)) (suc k) ≡ winnerAt (withBid r w x) (pageUpTo r k) (suc k)
   replay-slot m k l u =
       let r′ = withBid r w x in
-      let p = pageUpTo r k in
       let slots = with-slots r w x in
       slot-winner r′ (omega arith) k (omega arith)
       ∙ ap (λ (q : Page). winnerAt r′ q (suc k)) (sym (replay-agrees k (omega arith) u))
-      ∙ winner-same (eligible r′ p (suc k)) (eligible r p (suc k)) (bidOf r′) (bidOf r′) (r′ .bidders)
-      (λ j a z. with-eligible r w x p (suc k) j) (λ j a z. refl)
-      ∙ ap (winner (eligible r p (suc k)) (bidOf r′)) (with-bidders r w x)
 
 -- the bids of a proper round are in ticks
 pub round-in-ticks : (r : Round) → ProperRound r → InTicks (r .tick) (bidOf r)
@@ -187,8 +247,11 @@ module _ (r : Round) (k w : ℕ) (proper : ProperRound r) (inside : k < r .slots
   abbrev here-eligible : ℕ → Bool
   here-eligible = eligible r (pageUpTo r k) (suc k)
 
+  abbrev floor : ℕ
+  floor = floorOf r (suc k)
+
   abbrev critical : ℕ
-  critical = criticalBid (r .tick) here-eligible (bidOf r) w (r .bidders)
+  critical = criticalBid (r .tick) floor here-eligible (bidOf r) w (r .bidders)
 
   top : Wins here-eligible (bidOf r) (r .bidders) w
   top =
@@ -198,15 +261,24 @@ module _ (r : Round) (k w : ℕ) (proper : ProperRound r) (inside : k < r .slots
   unplaced : placed (pageUpTo r k) w ≡ false
   unplaced = eligible-unplaced r (pageUpTo r k) (suc k) w (top .is-eligible)
 
+  reached : floor ≤ bidOf r w
+  reached = eligible-reaches r (pageUpTo r k) (suc k) w (top .is-eligible)
+
   critical-low : critical ≤ bidOf r w
   unfolding winnerAt
-  critical-low = critical-at-most-bid (r .tick) here-eligible (bidOf r) in-ticks (r .bidders) w some won
+  critical-low = critical-at-most-bid (r .tick) floor here-eligible (bidOf r) in-ticks (r .bidders) w reached some won
+
+  floor-within : floor ≤ critical
+  floor-within =
+      let asks = floor-asks-reaches (r .tick) floor (proper .some-tick) in
+      let h = critical-floor (r .tick) floor here-eligible (bidOf r) w (r .bidders) in
+      omega arith
 
   critical-legal : legalBid (r .tick) critical ≡ true
   critical-legal =
       parts-legal (r .tick) critical
       (let h = critical-low in let m = proper .most-bid w in omega arith)
-      (critical-multiple (r .tick) here-eligible (bidOf r) w (r .bidders) (proper .in-ticks))
+      (critical-multiple (r .tick) floor here-eligible (bidOf r) w (r .bidders) (proper .in-ticks))
 
   others-bid : (x : ℕ) → ExceptBid (bidOf r) (bidOf (withBid r w x)) w
   others-bid x = record { others = with-other r w x }
@@ -217,7 +289,8 @@ module _ (r : Round) (k w : ℕ) (proper : ProperRound r) (inside : k < r .slots
       let own = with-own r w x some has-bid in
       eq-eqb (at (greedyPage (withBid r w x)) (suc k)) w
       (replay-slot r w x low some has-bid few k inside unplaced
-      ∙ enough-wins (r .tick) here-eligible (bidOf r) in-ticks (r .bidders) w (bidOf (withBid r w x)) (others-bid x) some (top .most) (top .is-eligible) (omega arith))
+      ∙ replay-winner r w x low some has-bid (pageUpTo r k) (suc k) (let h = floor-within in omega arith)
+      ∙ enough-wins (r .tick) floor here-eligible (bidOf r) in-ticks (r .bidders) w (bidOf (withBid r w x)) (others-bid x) some (top .most) (top .is-eligible) (omega arith))
 
   loses-below-critical : (x : ℕ) → x < critical → legalBid (r .tick) x ≡ true → winsWith r (suc k) w x ≡ false
   unfolding winsWith
@@ -226,9 +299,11 @@ module _ (r : Round) (k w : ℕ) (proper : ProperRound r) (inside : k < r .slots
       let low : x ≤ bidOf r w = (let h = critical-low in omega arith) in
       ne-eqb (at (greedyPage (withBid r w x)) (suc k)) w
       (λ e.
-      less-loses (r .tick) here-eligible (bidOf r) in-ticks (r .bidders) w (bidOf (withBid r w x)) (others-bid x)
-      (ap (λ (y : ℕ). y % r .tick) own ∙ legal-parts (r .tick) x legal .1) some (omega arith)
-      (sym (replay-slot r w x low some has-bid few k inside unplaced) ∙ e))
+      let won-again : winnerAt (withBid r w x) (pageUpTo r k) (suc k) ≡ w = sym (replay-slot r w x low some has-bid few k inside unplaced) ∙ e in
+      let reaches = replay-reaches r w x low some has-bid (pageUpTo r k) (suc k) won-again in
+      less-loses (r .tick) floor here-eligible (bidOf r) in-ticks (r .bidders) w (bidOf (withBid r w x)) (others-bid x)
+      (ap (λ (y : ℕ). y % r .tick) own ∙ legal-parts (r .tick) x legal .1) (omega arith) some (omega arith)
+      (sym (replay-winner r w x low some has-bid (pageUpTo r k) (suc k) reaches) ∙ won-again))
 
   -- what the least is taken of: below the critical bid nothing passes, and it does
   none-below : (x : ℕ) → x < critical → (legalBid (r .tick) x && winsWith r (suc k) w x) ≡ false
@@ -247,6 +322,19 @@ module _ (r : Round) (k w : ℕ) (proper : ProperRound r) (inside : k < r .slots
       ∙ price-least r (suc k) w some
       ∙ least-is (λ x. legalBid (r .tick) x && winsWith r (suc k) w x) (bidOf r w) critical critical-low none-below
       (λ l. and-holds critical-legal (wins-from-critical critical critical-low (omega arith)))
+
+  -- It is at or above the floor,
+  pub price-reaches : floorOf r (suc k) ≤ price r (suc k)
+  price-reaches = let e = price-critical in let h = floor-within in omega arith
+
+  -- and where nobody else is eligible it is at most every multiple of the tick that is.
+  pub price-alone : ((b : ℕ) → 0 < b → b ≤ r .bidders → (b ≡ w → ⊥) → eligible r (pageUpTo r k) (suc k) b ≡ false) →
+      (x : ℕ) → x % r .tick ≡ 0 → floorOf r (suc k) ≤ x → price r (suc k) ≤ x
+  price-alone nobody x multiple reaches =
+      let e = price-critical in
+      let alone = critical-alone (r .tick) floor here-eligible (bidOf r) w (r .bidders) nobody in
+      let least = floor-asks-least (r .tick) floor x (proper .some-tick) multiple reaches in
+      omega arith
 
   -- It is at most the winner's bid,
   pub price-at-most-bid : price r (suc k) ≤ bidOf r w
@@ -283,12 +371,12 @@ price-except r r′ k w x proper proper′ inside some has-bid has-bid′ same w
     let few = proper .most-slots in
     let p = pageUpTo r k in
     price-critical r k w proper inside has-bid some won
-    ∙ critical-same (r .tick) (eligible r p (suc k)) (eligible r′ p (suc k)) (bidOf r) (bidOf r′) (r .bidders) w
+    ∙ critical-same (r .tick) (floorOf r (suc k)) (eligible r p (suc k)) (eligible r′ p (suc k)) (bidOf r) (bidOf r′) (r .bidders) w
     (λ j d a z.
     eligible-except w r r′ x p (suc k) j (upTo-sized r k) (omega arith) (omega arith) (unplaced r k w proper inside has-bid some won) d)
     (λ j d a z. x .bids j d)
-    ∙ ap (λ (t : ℕ). criticalBid t (eligible r′ p (suc k)) (bidOf r′) w (r .bidders)) (x .ticks)
-    ∙ ap₂ (λ (q : Page) (n : ℕ). criticalBid (r′ .tick) (eligible r′ q (suc k)) (bidOf r′) w n) same (x .bidders)
+    ∙ ap₂ (λ (t f : ℕ). criticalBid t f (eligible r′ p (suc k)) (bidOf r′) w (r .bidders)) (x .ticks) (x .floors (suc k))
+    ∙ ap₂ (λ (q : Page) (n : ℕ). criticalBid (r′ .tick) (floorOf r′ (suc k)) (eligible r′ q (suc k)) (bidOf r′) w n) same (x .bidders)
     ∙ sym (price-critical r′ k w proper′ (omega arith) has-bid′ some won′)
 
 -- Prices depend on each owner's set of constraints only.

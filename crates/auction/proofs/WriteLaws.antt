@@ -8,7 +8,7 @@ use mathlib.Core.Bool.{true}
 use mathlib.Core.Path.{_≡_, refl, sym, _∙_, ap, ap₂, subst}
 use native.Mathlib.Nat.{not-suc-le-zero}
 use native.Mathlib.Omega.{arith}
-use lib.ListN.{length, set}
+use lib.ListN.{length, set, replicate}
 use lib.Seq.{sets, length-sets}
 use Rattle.basis.specs.Bytes.{byteAt, word32At, bytes32}
 use Rattle.basis.specs.Rows.{padded}
@@ -266,6 +266,7 @@ module _ (s : List ℕ) (ok : Accepted s) (i x : ℕ) (most : i < bidderCount s)
         tick = same-tick j;
         version = same-version j;
         effects = effects j;
+        floors = replicate 16 0;
         bids = bids j;
         constraints = constraints j;
       }

@@ -8,7 +8,7 @@ use borrow.Author.Tests.{ltb-true, ltb-false}
 use lib.Dec.{ltb}
 use native.Mathlib.Nat.{eq-or-lt-of-le, le-of-suc-le-suc, not-suc-le-zero, sub-zero, mul-zero, mul-suc}
 use native.Mathlib.Omega.{arith}
-use lib.ListN.{length, getD, set, drop, replicate, length-append, length-drop, length-replicate, getD-replicate, List·getD-append, List·getD-eq-default}
+use lib.ListN.{length, getD, set, drop, replicate, length-append, length-drop, length-replicate, getD-replicate, replicate-append-replicate, List·getD-append, List·getD-eq-default}
 use lib.Seq.{sets, sets-eq, set-at, set-append-left, getD-append-add, getD-append-seam, take-at, drop-append-add, drop-drop}
 use Rattle.basis.specs.Rows.{row, padded, joined}
 use Rattle.basis.proofs.TestLaws.{holds-or-fails}
@@ -34,6 +34,22 @@ module _ {A : Type 0} (f : ℕ → A) where
   pub padded-none : (n : ℕ) (blank : A) → padded f 0 n blank ≡ replicate n blank
   unfolding padded row
   padded-none n blank = ap (λ (m : ℕ). replicate m blank) (sub-zero n)
+
+  -- a row of blanks, and blanks after it, are blanks
+  row-blanks : (k : ℕ) (blank : A) → ((j : ℕ) → j < k → f j ≡ blank) → row f k ≡ replicate k blank
+  unfolding row
+  row-blanks zero blank h = refl
+  row-blanks (suc k) blank h =
+      ap₂ (λ (l : List A) (x : A). l ++ (x ∷ [])) (row-blanks k blank (λ j l. h j (omega arith))) (h k (omega arith))
+      ∙ replicate-append-replicate k 1 blank
+      ∙ ap (λ (n : ℕ). replicate n blank) (let e : k + 1 ≡ suc k = omega arith in e)
+
+  pub padded-blanks : (k n : ℕ) (blank : A) → k ≤ n → ((j : ℕ) → j < k → f j ≡ blank) → padded f k n blank ≡ replicate n blank
+  unfolding padded
+  padded-blanks k n blank l h =
+      ap (λ (x : List A). x ++ replicate (n - k) blank) (row-blanks k blank h)
+      ∙ replicate-append-replicate k (n - k) blank
+      ∙ ap (λ (x : ℕ). replicate x blank) (let e : k + (n - k) ≡ n = omega arith in e)
 
   -- a store of the next value makes the row longer by one
   pub padded-next : (k n : ℕ) (blank : A) → k < n → set (padded f k n blank) k (f k) ≡ padded f (suc k) n blank

@@ -2,11 +2,11 @@
 -- bidder, so the seats that a constraint names are the bidders and slots that it marks. Assumes nothing.
 use Prim.Native.Nat.{ℕ, suc, _+_, _*_, _-_, _%_, _^_, _<_, _≤_}
 use borrow.Author.Tests.{eq-eqb, ne-eqb, eqb-true, eqb-false, not-true, lt-ltb, ltb-true}
-use mathlib.Core.Bool.{Bool, true, false, not, _&&_, _||_, or-false}
+use mathlib.Core.Bool.{Bool, true, false, not, _&&_, _||_, or-false, and-assoc}
 use mathlib.Core.List.{List}
 use mathlib.Core.Path.{_≡_, refl, sym, _∙_, ap, ap₂, subst}
 use native.Mathlib.Omega.{arith}
-use lib.Dec.{eqb, ltb}
+use lib.Dec.{eqb, ltb, leb}
 use lib.ListN.{getD}
 use Rattle.basis.specs.Bits.{bitOf}
 use Rattle.basis.specs.Tests.{anyBelow}
@@ -14,16 +14,21 @@ use Rattle.basis.proofs.TestLaws.{fails, same-tests, and-holds, and-parts, any-
 use Rattle.sheet.specs.declared.Bidder.{Bidder}
 use Rattle.sheet.specs.declared.Kind.{Kind}
 use Rattle.sheet.specs.declared.Kind.the-variants.{OwnSlot, OtherSlot, Pair}
+use Rattle.sheet.specs.declared.Page.{Page}
 use Rattle.sheet.specs.declared.Round.{Round}
 use Rattle.sheet.specs.Proper.{Proper, ProperRound}
 use Rattle.sheet.specs.Refusal.{Accepted}
-use Rattle.sheet.specs.Round.{constraintAt, roundOf}
+use Rattle.sheet.specs.Round.{constraintAt, roundOf, withFloors, bidOf, floorOf}
 use Rattle.sheet.specs.Sheet.{bidderCount, slotCount}
+use Rattle.sheet.proofs.FloorLaws.{floor-under}
 use Rattle.sheet.proofs.RoundLaws.{round-proper}
+use Rattle.choice.specs.EngineBids.{bidIn}
+use Rattle.auction.specs.Broken.{breaks}
 use Rattle.auction.specs.Page.{at, emptyPage}
 use Rattle.auction.proofs.PageLaws.{empty-sized, at-empty, empty-placed}
 use Rattle.auction.proofs.BrokenLaws.{none-breaks, empty-unbroken}
-use Rattle.best_clash.specs.EngineClash.{clash, clashes, mayStand, FreeFor, RanksOf, ShutOf}
+use Rattle.auction.proofs.GreedyLaws.{bid-in}
+use Rattle.best_clash.specs.EngineClash.{clash, clashes, mayStand, mayHave, FreeFor, RanksOf, ShutOf}
 use Rattle.best_clash.specs.EngineMarks.{sameAt, marks, someMarks, seatOf, shuts, someShuts, FilledBy, WordsOf, LeftBy}
 use Rattle.best_clash.proofs.ClashLaws.{breaks-added}
 use Rattle.best_clash.proofs.MarkLaws.{entry-twice, other-not-alone, pair-not-alone, alone-clash}
@@ -203,31 +208,54 @@ shut-of s ok few short ranked ranks table shut v filled words k l i j later l-lo
     k l i j (omega arith) l-low (λ e. absurd (omega arith)) i-low j-low))
     (ap (λ (x : ℕ). eqb x i) in-slot)
 
-pub free-start : (s : List ℕ) → Accepted s → bidderCount s ≤ 8 → slotCount s ≤ 8 → (ranked ranks table : List ℕ) (free : ℕ) →
-    RanksOf (bidderCount s) ranked ranks → FilledBy ranks (roundOf s) table → LeftBy table (bidderCount s) (slotCount s) free →
-    FreeFor (roundOf s) ranked emptyPage 0 free
-unfolding roundOf someShuts someMarks
-free-start s ok few short ranked ranks table free v filled left =
-    let r = roundOf s in
-    record {
-      low = subst (λ (n : ℕ). free < 2 ^ (8 * n)) (let e : slotCount s ≡ slotCount s - 0 = omega arith in e) (left .low);
-      told = λ l i l-low i-low.
-          left .told l i (omega arith) i-low
-          ∙ ap (λ (t : Bool). (t && ltb i (bidderCount s)) && not (bitOf (getD table 64 0) (8 * l + i))) (lt-ltb l (slotCount s) (omega arith))
-          ∙ and-same (ltb i (bidderCount s))
-          (λ e.
-          let i-named = ltb-true i (bidderCount s) e in
-          let b = getD ranked i 0 in
-          let b-some = v .named i i-named .0 in
-          let b-most = v .named i i-named .1 in
-          ap not
-          (filled .told 64 (8 * l + i) (omega arith)
-          ∙ any-same _ (λ a. marks (constraintAt r a .kind) (constraintAt r a .owner .0) b (suc l) b (suc l)) (r .used)
-          (λ a below.
-          let w = within-at s ok a below in
-          alone-told (bidderCount s) few ranked ranks v (slotCount s) short (constraintAt r a .owner) (w .some-owner) (w .most-owner) (constraintAt r a .kind)
-          (round-proper s ok .proper (constraintAt r a) (a, below, refl)) (w .parts) l i i-named)
-          ∙ alone-clash r (round-proper s ok) b (suc l) (entry-twice b (suc l) b-some (omega arith) (omega arith) (omega arith)))
-          ∙ sym (may-start r (round-proper s ok) (suc l) b (omega arith) (omega arith) b-some)
-          ∙ ap (λ (k : ℕ). mayStand r emptyPage (suc k) b) (let e : l ≡ 0 + l = omega arith in e));
-    }
+-- Floors mark nobody, and break nothing.
+pub shut-floors : (r : Round) (floors ranked shut : List ℕ) → ShutOf r ranked shut → ShutOf (withFloors r floors) ranked shut
+unfolding withFloors constraintAt someMarks
+shut-floors r floors ranked shut h = h
+
+stand-floors : (r : Round) (floors : List ℕ) (p : Page) (k b : ℕ) → mayStand r p k b ≡ mayStand (withFloors r floors) p k b
+unfolding withFloors constraintAt breaks mayStand
+stand-floors r floors p k b = refl
+
+module _ (s : List ℕ) (ok : Accepted s) (few : bidderCount s ≤ 8) (short : slotCount s ≤ 8) (ranked ranks table : List ℕ) (v : RanksOf (bidderCount s) ranked ranks)
+    (filled : FilledBy ranks (roundOf s) table) where
+  -- who is not shut from the start may stand on the empty page
+  stands-first : (l i : ℕ) → l < slotCount s → i < bidderCount s →
+      not (bitOf (getD table 64 0) (8 * l + i)) ≡ mayStand (roundOf s) emptyPage (suc l) (getD ranked i 0)
+  unfolding roundOf someShuts someMarks
+  stands-first l i l-low i-low =
+      let r = roundOf s in
+      let b = getD ranked i 0 in
+      let b-some = v .named i i-low .0 in
+      let b-most = v .named i i-low .1 in
+      ap not
+      (filled .told 64 (8 * l + i) (omega arith)
+      ∙ any-same _ (λ a. marks (constraintAt r a .kind) (constraintAt r a .owner .0) b (suc l) b (suc l)) (r .used)
+      (λ a below.
+      let w = within-at s ok a below in
+      alone-told (bidderCount s) few ranked ranks v (slotCount s) short (constraintAt r a .owner) (w .some-owner) (w .most-owner) (constraintAt r a .kind)
+      (round-proper s ok .proper (constraintAt r a) (a, below, refl)) (w .parts) l i i-low)
+      ∙ alone-clash r (round-proper s ok) b (suc l) (entry-twice b (suc l) b-some (omega arith) (omega arith) (omega arith)))
+      ∙ sym (may-start r (round-proper s ok) (suc l) b (omega arith) (omega arith) b-some)
+
+  pub free-start : (floors : List ℕ) (free : ℕ) → LeftBy table ranked (roundOf s .bids) floors (bidderCount s) (slotCount s) free →
+      FreeFor (withFloors (roundOf s) floors) ranked emptyPage 0 free
+  unfolding roundOf withFloors mayHave
+  free-start floors free left =
+      let r = withFloors (roundOf s) floors in
+      record {
+        low = subst (λ (n : ℕ). free < 2 ^ (8 * n)) (let e : slotCount s ≡ slotCount s - 0 = omega arith in e) (left .low);
+        told = λ l i l-low i-low.
+            let inside : l < slotCount s = omega arith in
+            let b = getD ranked i 0 in
+            let reached = leb (getD floors l 0) (bidIn (roundOf s .bids) b) in
+            let unshut = not (bitOf (getD table 64 0) (8 * l + i)) in
+            left .told l i (omega arith) i-low
+            ∙ ap (λ (t : Bool). (t && (ltb i (bidderCount s) && reached)) && unshut) (lt-ltb l (slotCount s) inside)
+            ∙ and-assoc (ltb i (bidderCount s)) reached unshut
+            ∙ and-same (ltb i (bidderCount s))
+            (λ e.
+            ap₂ _&&_ (ap₂ leb (sym (floor-under (roundOf s) floors l inside)) (bid-in r b))
+            (stands-first l i inside (ltb-true i (bidderCount s) e) ∙ stand-floors (roundOf s) floors emptyPage (suc l) b)
+            ∙ ap (λ (k : ℕ). leb (floorOf r (suc k)) (bidOf r b) && mayStand r emptyPage (suc k) b) (let e : l ≡ 0 + l = omega arith in e));
+      }

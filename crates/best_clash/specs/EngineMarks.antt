@@ -101,15 +101,18 @@ pub record WordsOf (table shut : List ℕ) : Type 0 where
       bitOf (getD shut (8 * k + i) 0) z
       ≡ ((bitOf (getD table (8 * k + i) 0) (8 * k + z) || bitOf (getD table (65 + i) 0) (8 * k + z)) || eqb (z % 8) i)
 
--- the list has the bidders 1 to n, in falling order of the bids in another
+-- the list has n bidders of the bids in another, in falling order of these
 pub record RankedBids (bids : List ℕ) (n : ℕ) (ranked : List ℕ) : Type 0 where
   pub room : n ≤ length ranked
-  pub bidders : (i : ℕ) → i < n → (0 < getD ranked i 0) × (getD ranked i 0 ≤ length bids)
+  pub named : (i : ℕ) → i < n → (0 < getD ranked i 0) × (getD ranked i 0 ≤ length bids)
   pub falls : (i j : ℕ) → i ≤ j → j < n → bidIn bids (getD ranked j 0) ≤ bidIn bids (getD ranked i 0)
+
+-- the bidder of rank i, of n, reaches a floor
+abbrev pub reaches : (bids ranked : List ℕ) → (n floor i : ℕ) → Bool
+reaches bids ranked n floor i = ltb i n && leb floor (bidIn bids (getD ranked i 0))
 
 -- the seats of so many bidders and slots where the bidder reaches the slot's floor, and that the table does not shut from the start
 pub record LeftBy (table ranked bids floors : List ℕ) (bidders slots free : ℕ) : Type 0 where
   pub low : free < 2 ^ (8 * slots)
   pub told : (l i : ℕ) → l < 8 → i < 8 →
-      bitOf free (8 * l + i)
-      ≡ ((ltb l slots && (ltb i bidders && leb (getD floors l 0) (bidIn bids (getD ranked i 0)))) && not (bitOf (getD table 64 0) (8 * l + i)))
+      bitOf free (8 * l + i) ≡ ((ltb l slots && reaches bids ranked bidders (getD floors l 0) i) && not (bitOf (getD table 64 0) (8 * l + i)))

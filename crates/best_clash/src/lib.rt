@@ -2,14 +2,13 @@
 ghost use mathlib.Core.Bool.{_&&_, _||_};
 ghost use mathlib.Core.Path.{_≡_};
 ghost use Prim.Native.Nat.{ℕ, _+_, _-_, _*_, _%_, _^_, _<_, _≤_};
-ghost use lib.Dec.{eqb, ltb, leb};
+ghost use lib.Dec.{eqb, ltb};
 ghost use lib.ListN.{length, getD};
 ghost use Rattle.basis.specs.Bits.{bitOf};
 ghost use Rattle.sheet.specs.Refusal.{Accepted};
 ghost use Rattle.sheet.specs.Round.{roundOf};
 ghost use Rattle.sheet.specs.Sheet.{bidderCount, slotCount};
-ghost use Rattle.choice.specs.EngineBids.{bidIn};
-ghost use Rattle.best_clash.specs.EngineMarks.{seatOf, Small, shuts, FilledBy, WordsOf, RankedBids, LeftBy};
+ghost use Rattle.best_clash.specs.EngineMarks.{seatOf, Small, shuts, FilledBy, WordsOf, RankedBids, reaches, LeftBy};
 use best_seats::Rank;
 use best_seats::Seat;
 use best_seats::Seats;
@@ -157,7 +156,7 @@ pub fn shut_by(shut: &[u64; 64], seat: Seat) -> Seats
 // How many of the first ranks bid at least a floor: bids fall from rank to rank, so these are the first so many.
 fn reaching(ranked: &[u8], bids: &[u32], bidders: usize, floor: u32) -> usize
     requires { ⌜ (bidders ≤ 8) × RankedBids (now bids) bidders (now ranked) ⌝ }
-    ensures { λ r. ⌜ (r ≤ bidders) × ((i : ℕ) → i < bidders → ltb i r ≡ leb floor (bidIn (now (bids .entry)) (getD (now (ranked .entry)) i 0))) ⌝ }
+    ensures { λ r. ⌜ (r ≤ bidders) × ((i : ℕ) → ltb i r ≡ reaches (now (bids .entry)) (now (ranked .entry)) bidders floor i) ⌝ }
 {
     if floor == 0 {
         return bidders;
@@ -176,7 +175,7 @@ fn reaching(ranked: &[u8], bids: &[u32], bidders: usize, floor: u32) -> usize
 // The seats of a round's bidders and slots where the bidder reaches the slot's floor.
 fn open_seats(ranked: &[u8], bids: &[u32], floors: &[u32], bidders: usize, slots: usize) -> Seats
     requires { ⌜ (bidders ≤ 8) × (slots ≤ 8) × (slots ≤ length (now floors)) × RankedBids (now bids) bidders (now ranked) ⌝ }
-    ensures { λ r. ⌜ (r .0 < 2 ^ (8 * slots)) × ((l i : ℕ) → l < 8 → i < 8 → bitOf (r .0) (8 * l + i) ≡ (ltb l slots && (ltb i bidders && leb (getD (now (floors .entry)) l 0) (bidIn (now (bids .entry)) (getD (now (ranked .entry)) i 0))))) ⌝ }
+    ensures { λ r. ⌜ (r .0 < 2 ^ (8 * slots)) × ((l i : ℕ) → l < 8 → i < 8 → bitOf (r .0) (8 * l + i) ≡ (ltb l slots && reaches (now (bids .entry)) (now (ranked .entry)) bidders (getD (now (floors .entry)) l 0) i)) ⌝ }
 {
     let mut all = Seats(0);
     let mut slot = Slot(1);

@@ -2,14 +2,14 @@
 -- that it can become; a free seat taken, or the next slot passed over, gives a node again, whose free seats are the old ones that the choice does not shut.
 -- Assumes nothing.
 use Prim.Native.Nat.{ℕ, zero, suc, _+_, _*_, _-_, _^_, _<_, _≤_}
-use borrow.Author.Tests.{eq-eqb, ne-eqb, eqb-false, not-true, lt-ltb, le-ltb, ltb-true}
-use mathlib.Core.Bool.{Bool, true, false, not, _&&_, _||_, and-false, or-false}
+use borrow.Author.Tests.{eq-eqb, ne-eqb, eqb-false, not-true, lt-ltb, le-ltb, ltb-true, le-leb, leb-true}
+use mathlib.Core.Bool.{Bool, true, false, not, _&&_, _||_, and-false, and-assoc, or-false}
 use mathlib.Core.List.{List}
 use mathlib.Core.Logic.{_⊎_, inl, inr, ⊎-elim}
 use mathlib.Core.Path.{_≡_, refl, sym, _∙_, ap, ap₂, subst}
 use native.Mathlib.Nat.{eq-or-lt-of-le, le-of-suc-le-suc}
 use native.Mathlib.Omega.{arith}
-use lib.Dec.{eqb, ltb}
+use lib.Dec.{eqb, ltb, leb}
 use lib.ListN.{getD}
 use Rattle.basis.specs.Bits.{bitOf}
 use Rattle.basis.specs.Tests.{anyBelow}
@@ -18,7 +18,7 @@ use Rattle.basis.proofs.NumberLaws.{same-or-not, below-or-not}
 use Rattle.basis.proofs.TestLaws.{holds-or-fails, not-both, same-tests, and-holds, and-parts, or-left, or-right, or-parts, not-holds, any-at, any-where}
 use Rattle.sheet.specs.declared.Page.{Page}
 use Rattle.sheet.specs.declared.Round.{Round}
-use Rattle.sheet.specs.Round.{bidOf, effectOf}
+use Rattle.sheet.specs.Round.{bidOf, effectOf, floorOf}
 use Rattle.auction.specs.Allowed.{Allowed, totalUpTo}
 use Rattle.auction.specs.Broken.{breaks}
 use Rattle.auction.specs.Page.{at, put, placed, Sized}
@@ -26,7 +26,7 @@ use Rattle.auction.proofs.PageLaws.{put-sized, at-zero, at-put-same, at-put-oth
 use Rattle.best_page.specs.EngineSearch.{Agrees}
 use Rattle.best_seats.specs.EngineSeats.{somewhere}
 use Rattle.best_bound.specs.EngineBound.{gainIn}
-use Rattle.best_clash.specs.EngineClash.{clash, clashes, mayStand, FreeFor}
+use Rattle.best_clash.specs.EngineClash.{clash, clashes, mayStand, mayHave, FreeFor}
 use Rattle.best_clash.specs.EngineMarks.{someMarks}
 use Rattle.best_clash.proofs.ClashLaws.{breaks-added, unbroken-alone}
 use Rattle.best_clash.proofs.MarkLaws.{pairs-clash}
@@ -135,7 +135,7 @@ module _ (r : Round) (ranked shut gains : List ℕ) (v : TablesOf r ranked shut 
   -- who stands at a slot left of a page that the node can become has a free seat there
   pub seat-free : (q : Page) → Agrees p k q → Allowed r q → (j i : ℕ) → k ≤ j → (at q (suc j) ≡ 0 → ⊥) → i < r .bidders → getD ranked i 0 ≡ at q (suc j) →
       bitOf free (8 * (j - k) + i) ≡ true
-  unfolding mayStand
+  unfolding mayHave mayStand
   seat-free q a ok j i l s low e =
       let inside = stands-within q ok j s in
       let short = v .few-slots in
@@ -143,9 +143,10 @@ module _ (r : Round) (ranked shut gains : List ℕ) (v : TablesOf r ranked shut 
       let at-j : suc (k + (j - k)) ≡ suc j = omega arith in
       f .told (j - k) i (omega arith) (omega arith)
       ∙ ap₂ _&&_ (lt-ltb i (r .bidders) low)
-      (ap₂ (mayStand r p) at-j e
-      ∙ and-holds (not-holds (later-unplaced r p k had w q a ok j l s))
-      (not-holds (broken-later r (v .proper) p k had w q a ok j (at q (suc j)) l (omega arith) refl)))
+      (ap₂ (mayHave r p) at-j e
+      ∙ and-holds (le-leb (floorOf r (suc j)) (bidOf r (at q (suc j))) (ok .reached (suc j) s))
+      (and-holds (not-holds (later-unplaced r p k had w q a ok j l s))
+      (not-holds (broken-later r (v .proper) p k had w q a ok j (at q (suc j)) l (omega arith) refl))))
 
   pub somewhere-free : (q : Page) → Agrees p k q → Allowed r q → (j i : ℕ) → k ≤ j → (at q (suc j) ≡ 0 → ⊥) → i < r .bidders → getD ranked i 0 ≡ at q (suc j) →
       somewhere free i ≡ true
@@ -192,6 +193,7 @@ module _ (r : Round) (ranked shut gains : List ℕ) (v : TablesOf r ranked shut 
         room = inside;
         later = λ j l. w .later j (omega arith);
         unbroken = w .unbroken;
+        reached = w .reached;
         had-is =
             w .had-is
             ∙ (let none : bidOf r (at p (suc k)) ≡ 0 = ap (bidOf r) (w .later (suc k) (omega arith)) in
@@ -208,7 +210,7 @@ module _ (r : Round) (ranked shut gains : List ℕ) (v : TablesOf r ranked shut 
             told (8 * l + i)
             ∙ ap (bitOf free) (let e : 8 + (8 * l + i) ≡ 8 * suc l + i = omega arith in e)
             ∙ f .told (suc l) i (omega arith) few
-            ∙ ap (λ (n : ℕ). ltb i (r .bidders) && mayStand r p n (getD ranked i 0)) at-l;
+            ∙ ap (λ (n : ℕ). ltb i (r .bidders) && mayHave r p n (getD ranked i 0)) at-l;
       }
 
   -- A free seat at the next slot taken.
@@ -216,12 +218,12 @@ module _ (r : Round) (ranked shut gains : List ℕ) (v : TablesOf r ranked shut 
     few : r .slots ≤ 16
     few = (let short = v .few-slots in omega arith)
 
-    may : (ltb i (r .bidders) ≡ true) × (mayStand r p (suc k) (getD ranked i 0) ≡ true)
+    may : (ltb i (r .bidders) ≡ true) × (mayHave r p (suc k) (getD ranked i 0) ≡ true)
     may =
         let first : i ≡ 8 * 0 + i = omega arith in
         let at-k : suc (k + 0) ≡ suc k = omega arith in
-        and-parts (ltb i (r .bidders)) (mayStand r p (suc k) (getD ranked i 0))
-        (ap (λ (n : ℕ). ltb i (r .bidders) && mayStand r p n (getD ranked i 0)) (sym at-k)
+        and-parts (ltb i (r .bidders)) (mayHave r p (suc k) (getD ranked i 0))
+        (ap (λ (n : ℕ). ltb i (r .bidders) && mayHave r p n (getD ranked i 0)) (sym at-k)
         ∙ sym (f .told 0 i (omega arith) i-low)
         ∙ ap (bitOf free) (sym first)
         ∙ i-free)
@@ -235,18 +237,23 @@ module _ (r : Round) (ranked shut gains : List ℕ) (v : TablesOf r ranked shut 
     b-some : b ≡ 0 → ⊥
     b-some z = (let s = v .ranking .some i rank-low .0 in absurd (omega arith))
 
+    -- its bid reaches the floor, and it stands nowhere yet and breaks nothing
+    parts : (leb (floorOf r (suc k)) (bidOf r b) ≡ true) × (mayStand r p (suc k) b ≡ true)
+    unfolding mayHave
+    parts = and-parts (leb (floorOf r (suc k)) (bidOf r b)) (mayStand r p (suc k) b) (may .1)
+
     unplaced : placed p b ≡ false
     unfolding mayStand
-    unplaced = not-true (placed p b) (and-parts (not (placed p b)) (not (breaks r (put p (suc k) b))) (may .1) .0)
+    unplaced = not-true (placed p b) (and-parts (not (placed p b)) (not (breaks r (put p (suc k) b))) (parts .1) .0)
 
     unbroken : breaks r (put p (suc k) b) ≡ false
     unfolding mayStand
-    unbroken = not-true (breaks r (put p (suc k) b)) (and-parts (not (placed p b)) (not (breaks r (put p (suc k) b))) (may .1) .1)
+    unbroken = not-true (breaks r (put p (suc k) b)) (and-parts (not (placed p b)) (not (breaks r (put p (suc k) b))) (parts .1) .1)
 
     pub led-node : Node r (put p (suc k) b) (suc k) (had + gainIn gains i k)
     led-node =
         subst (λ (n : ℕ). Node r (put p (suc k) b) (suc k) (had + n)) (sym (v .gains-are i k rank-low (omega arith)))
-        (node-next r p k had b w few inside (v .ranking .some i rank-low .1) (inr unplaced) unbroken)
+        (node-next r p k had b w few inside (v .ranking .some i rank-low .1) unplaced unbroken (leb-true (floorOf r (suc k)) (bidOf r b) (parts .0)))
 
     here-empty : at p (suc k) ≡ 0
     here-empty = w .later (suc k) (omega arith)
@@ -325,6 +332,15 @@ module _ (r : Round) (ranked shut gains : List ℕ) (v : TablesOf r ranked shut 
                 subst (λ (x : ℕ). clash r x (suc k) x (suc k) ≡ false) at-b
                 (unbroken-alone r (v .proper) (put p (suc k) b) (put-sized p (suc k) b (w .page .sized)) unbroken (suc k) (λ z. b-some (sym at-b ∙ z)))))
 
+    -- and has a bid at or above the floor: the floors and the bids stay
+    have-next : (j l : ℕ) → j < r .bidders → suc k < l → l ≤ r .slots →
+        (mayHave r p l (getD ranked j 0) && not (someMarks r (r .used) b (suc k) (getD ranked j 0) l || eqb j i)) ≡ mayHave r (put p (suc k) b) l (getD ranked j 0)
+    unfolding mayHave
+    have-next j l j-low later within =
+        let high = leb (floorOf r l) (bidOf r (getD ranked j 0)) in
+        and-assoc high (mayStand r p l (getD ranked j 0)) (not (someMarks r (r .used) b (suc k) (getD ranked j 0) l || eqb j i))
+        ∙ ap (λ (t : Bool). high && t) (may-next j l j-low later within)
+
     pub led-free : (rest : ℕ) → ((z : ℕ) → bitOf rest z ≡ (bitOf free (8 + z) && not (bitOf (getD shut (8 * k + i) 0) (8 + z)))) →
         rest < 2 ^ (8 * (r .slots - suc k)) → FreeFor r ranked (put p (suc k) b) (suc k) rest
     led-free rest told low =
@@ -339,15 +355,15 @@ module _ (r : Round) (ranked shut gains : List ℕ) (v : TablesOf r ranked shut 
               ∙ ap (λ (t : Bool). t && not (bitOf (getD shut (8 * k + i) 0) (8 + (8 * l + j))))
               (ap (bitOf free) bit
               ∙ f .told (suc l) j (omega arith) j-few
-              ∙ ap (λ (n : ℕ). ltb j (r .bidders) && mayStand r p n (getD ranked j 0)) at-l)
+              ∙ ap (λ (n : ℕ). ltb j (r .bidders) && mayHave r p n (getD ranked j 0)) at-l)
               ∙ ⊎-elim
               (λ (m : j < r .bidders).
-              ap₂ (λ (s t : Bool). (s && mayStand r p (suc (suc k + l)) (getD ranked j 0)) && not t) (lt-ltb j (r .bidders) m)
+              ap₂ (λ (s t : Bool). (s && mayHave r p (suc (suc k + l)) (getD ranked j 0)) && not t) (lt-ltb j (r .bidders) m)
               (ap (bitOf (getD shut (8 * k + i) 0)) shut-bit ∙ v .shuts k (suc k + l) i j (omega arith) (omega arith) rank-low m)
-              ∙ may-next j (suc (suc k + l)) m (omega arith) (omega arith)
-              ∙ sym (ap (λ (t : Bool). t && mayStand r (put p (suc k) b) (suc (suc k + l)) (getD ranked j 0)) (lt-ltb j (r .bidders) m)))
+              ∙ have-next j (suc (suc k + l)) m (omega arith) (omega arith)
+              ∙ sym (ap (λ (t : Bool). t && mayHave r (put p (suc k) b) (suc (suc k + l)) (getD ranked j 0)) (lt-ltb j (r .bidders) m)))
               (λ (m : r .bidders ≤ j).
-              ap (λ (s : Bool). (s && mayStand r p (suc (suc k + l)) (getD ranked j 0)) && not (bitOf (getD shut (8 * k + i) 0) (8 + (8 * l + j)))) (le-ltb j (r .bidders) m)
-              ∙ sym (ap (λ (t : Bool). t && mayStand r (put p (suc k) b) (suc (suc k + l)) (getD ranked j 0)) (le-ltb j (r .bidders) m)))
+              ap (λ (s : Bool). (s && mayHave r p (suc (suc k + l)) (getD ranked j 0)) && not (bitOf (getD shut (8 * k + i) 0) (8 + (8 * l + j)))) (le-ltb j (r .bidders) m)
+              ∙ sym (ap (λ (t : Bool). t && mayHave r (put p (suc k) b) (suc (suc k + l)) (getD ranked j 0)) (le-ltb j (r .bidders) m)))
               (below-or-not j (r .bidders));
         }

@@ -7,7 +7,7 @@ use native.Mathlib.Omega.{arith}
 use Rattle.basis.proofs.TestLaws.{not-both, fails}
 use Rattle.sheet.specs.declared.Page.{Page}
 use Rattle.sheet.specs.declared.Round.{Round}
-use Rattle.sheet.specs.Round.{bidOf, effectOf}
+use Rattle.sheet.specs.Round.{bidOf, effectOf, floorOf}
 use Rattle.auction.specs.Page.{at, put, placed}
 use Rattle.auction.specs.Broken.{breaks}
 use Rattle.sheet.specs.Proper.{ProperRound}
@@ -83,12 +83,16 @@ module _ (r : Round) where
       ∙ total-split q k left
       ∙ ap (λ (a : ℕ). a + sumFrom (bidOf r) (λ j. effectOf r (suc j)) (λ j. at q (suc j)) k left) (agree-total p q k f ∙ sym (v .had-is))
 
-  -- the node with bidder b, or nobody, at the next slot
+  -- the page itself is allowed
+  pub node-allowed : (p : Page) (k had : ℕ) → Node r p k had → Allowed r p
+  node-allowed p k had v = record { page = v .page; unbroken = v .unbroken; reached = v .reached }
+
+  -- the node with bidder b at the next slot
   pub node-next : (p : Page) (k had b : ℕ) → Node r p k had → r .slots ≤ 16 → k < r .slots → b ≤ r .bidders →
-      (b ≡ 0) ⊎ (placed p b ≡ false) → breaks r (put p (suc k) b) ≡ false →
+      placed p b ≡ false → breaks r (put p (suc k) b) ≡ false → floorOf r (suc k) ≤ bidOf r b →
       Node r (put p (suc k) b) (suc k) (had + bidOf r b * effectOf r (suc k))
   unfolding totalUpTo
-  node-next p k had b v few inside nth eligible unbroken =
+  node-next p k had b v few inside nth unplaced unbroken high =
       let here : at (put p (suc k) b) (suc k) ≡ b = at-put-same p (suc k) b (v .page .sized) (omega arith) (omega arith) in
       let other = at-put-other p (suc k) b in
       record {
@@ -118,6 +122,11 @@ module _ (r : Round) where
         room = inside;
         later = λ j l. other j (λ e. absurd (omega arith)) ∙ v .later j (omega arith);
         unbroken = unbroken;
+        reached = λ j s.
+            ⊎-elim
+            (λ (e : j ≡ suc k). subst (λ (x : ℕ). floorOf r x ≤ bidOf r (at (put p (suc k) b) x)) (sym e) (subst (λ (x : ℕ). floorOf r (suc k) ≤ bidOf r x) (sym here) high))
+            (λ (d : j ≡ suc k → ⊥). subst (λ (x : ℕ). floorOf r j ≤ bidOf r x) (sym (other j d)) (v .reached j (λ z. s (other j d ∙ z))))
+            (same-or-not j (suc k));
         had-is =
             ap₂ (λ (a x : ℕ). a + bidOf r x * effectOf r (suc k))
             (v .had-is ∙ agree-total (put p (suc k) b) p k (λ j l. sym (other j (λ e. absurd (omega arith)))))
@@ -128,12 +137,8 @@ module _ (r : Round) where
       again : (i : ℕ) → (i ≡ suc k → ⊥) → at (put p (suc k) b) i ≡ b → (at (put p (suc k) b) i ≡ 0 → ⊥) → ⊥
       again i d e s =
           let there : at p i ≡ b = sym (at-put-other p (suc k) b i d) ∙ e in
-          ⊎-elim
-          (λ (z : b ≡ 0). s (e ∙ z))
-          (λ (u : placed p b ≡ false).
           let place = at-within p i (v .page .sized) (λ z. s (e ∙ sym there ∙ z)) in
-          not-both (placed-at p b i (place .0) (place .1) there) u)
-          eligible
+          not-both (placed-at p b i (place .0) (place .1) there) unplaced
 
   -- a page that agrees with a node and has b at a slot left breaks what the node with b there breaks
   pub broken-later : ProperRound r → (p : Page) (k had : ℕ) → Node r p k had → (q : Page) → Agrees p k q → Allowed r q →

@@ -1,6 +1,6 @@
 -- Trying every page finds the best one: the steps of the search, with nothing left out. Assumes nothing.
 use Prim.Native.Nat.{ℕ, zero, suc, _+_, _<_, _≤_}
-use borrow.Author.Tests.{leb-true, leb-false, eq-eqb, ne-eqb, eqb-true, eqb-false, not-true}
+use borrow.Author.Tests.{le-leb, leb-true, leb-false, eq-eqb, ne-eqb, eqb-true, eqb-false, not-true}
 use mathlib.Core.Bool.{Bool, true, false, cond, not, _&&_, _||_}
 use mathlib.Core.Logic.{_⊎_, inl, inr, ⊎-elim}
 use mathlib.Core.Path.{_≡_, refl, sym, _∙_, ap, subst}
@@ -10,6 +10,7 @@ use Rattle.basis.specs.Tests.{allBelow}
 use Rattle.basis.proofs.TestLaws.{holds-or-fails, not-both, and-holds, and-parts, or-parts, or-left, or-right, not-holds, at-all, all-at}
 use Rattle.sheet.specs.declared.Page.{Page}
 use Rattle.sheet.specs.declared.Round.{Round}
+use Rattle.sheet.specs.Round.{bidOf, floorOf}
 use Rattle.auction.specs.Page.{at, put, emptyPage, Sized}
 use Rattle.auction.specs.Broken.{breaks}
 use Rattle.sheet.specs.Proper.{ProperRound}
@@ -20,7 +21,7 @@ use Rattle.best_page.specs.Best.{Best}
 use Rattle.auction.specs.Allowed.{Allowed, total}
 use Rattle.best_page.specs.EngineSearch.{Searched}
 use Rattle.best_page.specs.EngineSearch.{Agrees, Tried}
-use Rattle.best_page.specs.BestPage.{nobodyTwice, isAllowed, keep, eachChoice, tryAll, bestPage}
+use Rattle.best_page.specs.BestPage.{nobodyTwice, reachesFloors, isAllowed, keep, eachChoice, tryAll, bestPage}
 use Rattle.best_page.specs.declared.Answer.{Answer}
 use Rattle.best_page.proofs.BestLaws.{best-unique}
 use Rattle.best_page.proofs.SearchLaws.{searched-none, searched-best}
@@ -79,14 +80,35 @@ told-twice p m h =
     (same-or-not (at p (suc i)) (at p (suc j))))
     (same-or-not (at p (suc i)) 0)))
 
+floors-told : (r : Round) (p : Page) → reachesFloors r p ≡ true → (k : ℕ) → k < r .slots → (at p (suc k) ≡ 0 → ⊥) → floorOf r (suc k) ≤ bidOf r (at p (suc k))
+unfolding reachesFloors
+floors-told r p e k l s =
+    ⊎-elim
+    (λ (t : eqb (at p (suc k)) 0 ≡ true). absurd (s (eqb-true (at p (suc k)) 0 t)))
+    (λ (t : leb (floorOf r (suc k)) (bidOf r (at p (suc k))) ≡ true). leb-true (floorOf r (suc k)) (bidOf r (at p (suc k))) t)
+    (or-parts (eqb (at p (suc k)) 0) (leb (floorOf r (suc k)) (bidOf r (at p (suc k))))
+    (all-at (λ k. eqb (at p (suc k)) 0 || leb (floorOf r (suc k)) (bidOf r (at p (suc k)))) (r .slots) e k l))
+
+told-floors : (r : Round) (p : Page) → ((k : ℕ) → (at p k ≡ 0 → ⊥) → floorOf r k ≤ bidOf r (at p k)) → reachesFloors r p ≡ true
+unfolding reachesFloors
+told-floors r p h =
+    at-all (λ k. eqb (at p (suc k)) 0 || leb (floorOf r (suc k)) (bidOf r (at p (suc k)))) (r .slots)
+    (λ k l.
+    ⊎-elim
+    (λ (z : at p (suc k) ≡ 0). or-left (leb (floorOf r (suc k)) (bidOf r (at p (suc k)))) (eq-eqb (at p (suc k)) 0 z))
+    (λ (s : at p (suc k) ≡ 0 → ⊥). or-right (eqb (at p (suc k)) 0) (le-leb (floorOf r (suc k)) (bidOf r (at p (suc k))) (h (suc k) s)))
+    (same-or-not (at p (suc k)) 0))
+
 module _ (r : Round) (few : r .slots ≤ 16) where
   is-allowed : (p : Page) → Chosen-to r p (r .slots) → isAllowed r p ≡ true → Allowed r p
   unfolding isAllowed
   is-allowed p v e =
-      let parts = and-parts (nobodyTwice p (r .slots)) (not (breaks r p)) e in
+      let both = and-parts (nobodyTwice p (r .slots) && not (breaks r p)) (reachesFloors r p) e in
+      let parts = and-parts (nobodyTwice p (r .slots)) (not (breaks r p)) (both .0) in
       record {
         page = record { sized = v .sized; bidders = v .bidders; slots = v .later; once = once (parts .0) };
         unbroken = not-true (breaks r p) (parts .1);
+        reached = reached (both .1);
       }
     where
       inside : (j : ℕ) → (at p j ≡ 0 → ⊥) → j ≤ r .slots
@@ -98,10 +120,16 @@ module _ (r : Round) (few : r .slots ≤ 16) where
       once t (suc i) (suc j) s q =
           ap suc (twice-told p (r .slots) t i j (inside (suc i) s) (inside (suc j) (λ z. s (q ∙ z))) s q)
 
+      reached : reachesFloors r p ≡ true → (k : ℕ) → (at p k ≡ 0 → ⊥) → floorOf r k ≤ bidOf r (at p k)
+      reached t zero s = absurd (s (at-zero p))
+      reached t (suc k) s = floors-told r p t k (inside (suc k) s) s
+
   allowed-is : (p : Page) → Allowed r p → isAllowed r p ≡ true
   unfolding isAllowed
   allowed-is p ok =
-      and-holds (told-twice p (r .slots) (λ i j s q. (let e = ok .page .once (suc i) (suc j) s q in omega arith))) (not-holds (ok .unbroken))
+      and-holds
+      (and-holds (told-twice p (r .slots) (λ i j s q. (let e = ok .page .once (suc i) (suc j) s q in omega arith))) (not-holds (ok .unbroken)))
+      (told-floors r p (ok .reached))
 
   -- a chosen page is the only one that agrees with it
   chosen-only : (p : Page) → Chosen-to r p (r .slots) → (q : Page) → Agrees p (r .slots) q → Allowed r q → q ≡ p
@@ -170,7 +198,7 @@ module _ (r : Round) (few : r .slots ≤ 16) where
         later = λ j l. at-empty j;
       }
 
-  empty-allowed : ProperRound r → Allowed r emptyPage
+  pub empty-allowed : ProperRound r → Allowed r emptyPage
   empty-allowed c =
       record {
         page =
@@ -181,6 +209,7 @@ module _ (r : Round) (few : r .slots ≤ 16) where
               once = λ i j s e. absurd (s (at-empty i));
             };
         unbroken = none-breaks r emptyPage (λ q h. empty-unbroken q (c .proper q h));
+        reached = λ k s. absurd (s (at-empty k));
       }
 
   -- The best page is best, and every best page is it.

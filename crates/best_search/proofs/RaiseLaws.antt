@@ -20,6 +20,7 @@ use Rattle.best_node.specs.EngineNode.{TablesOf, Node}
 use Rattle.best_search.specs.EngineFound.{Largest}
 use Rattle.best_node.proofs.FreeLaws.{only-page, agrees-next, agrees-before}
 use Rattle.best_node.proofs.LeadLaws.{free-here}
+use Rattle.best_node.proofs.NodeLaws.{node-allowed}
 use Rattle.best_node.proofs.TotalLaws.{had-total}
 
 -- the larger of what was known and of the totals of the pages with one of the first `start` ranks at the next slot
@@ -47,7 +48,7 @@ module _ (r : Round) (ranked shut gains : List ℕ) (v : TablesOf r ranked shut 
       record {
         no-less = omega arith;
         most = λ q a ok. (let e = leaf-all none q a ok in omega arith);
-        reached = inr (p, (λ j l. refl), record { page = w .page; unbroken = w .unbroken }, had-total r p k had w);
+        reached = inr (p, (λ j l. refl), node-allowed r p k had w, had-total r p k had w);
       }
 
   pub leaf-less : free ≡ 0 → (known : ℕ) → had ≤ known → Largest r (Agrees p k) known known

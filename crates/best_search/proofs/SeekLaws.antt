@@ -18,6 +18,7 @@ use Rattle.best_clash.specs.EngineClash.{FreeFor}
 use Rattle.best_node.specs.EngineNode.{TablesOf, Node}
 use Rattle.best_search.specs.EngineFound.{FirstWith}
 use Rattle.best_node.proofs.FreeLaws.{only-page, agrees-next, agrees-before}
+use Rattle.best_node.proofs.NodeLaws.{node-allowed}
 use Rattle.best_node.proofs.TotalLaws.{had-total}
 
 -- no page that agrees and has a number below b at the next slot has the total
@@ -31,7 +32,7 @@ leaf-first r ranked shut gains v p k had w free f none sum =
     record {
       none = λ e q a ok t. eqb-false had sum e (sym (had-total r p k had w) ∙ sym (ap (total r) (only q a ok)) ∙ t);
       within = λ e j l. refl;
-      allowed = λ e. record { page = w .page; unbroken = w .unbroken };
+      allowed = λ e. node-allowed r p k had w;
       has = λ e. had-total r p k had w ∙ eqb-true had sum e;
       first = λ e q a ok t. inl (sym (only q a ok));
     }

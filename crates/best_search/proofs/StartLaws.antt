@@ -16,17 +16,18 @@ use Rattle.choice.specs.EngineRanking.{InOrder}
 use Rattle.choice.proofs.RankingLaws.{ranked-once, ranked-falls}
 use Rattle.auction.specs.Allowed.{Allowed, totalUpTo, total}
 use Rattle.auction.specs.Page.{emptyPage}
-use Rattle.auction.proofs.BrokenLaws.{none-breaks, empty-unbroken}
 use Rattle.auction.proofs.GreedyLaws.{bid-in}
-use Rattle.auction.proofs.PageLaws.{empty-sized, at-empty}
+use Rattle.auction.proofs.PageLaws.{at-empty}
 use Rattle.best_page.specs.Best.{Best}
 use Rattle.best_page.specs.EngineSearch.{Agrees}
+use Rattle.best_page.proofs.BestPageLaws.{empty-allowed}
 use Rattle.best_page.proofs.TriedLaws.{all-agree}
 use Rattle.best_bound.specs.EngineBound.{nth, bidAtRank, GainsOf}
 use Rattle.best_bound.proofs.BoundLaws.{bid-ranked}
 use Rattle.best_clash.specs.EngineClash.{FreeFor, RanksOf, ShutOf}
 use Rattle.best_node.specs.EngineNode.{RankedBy, TablesOf, Node}
 use Rattle.best_search.specs.EngineFound.{Largest, FirstWith, Raised, Sought}
+use Rattle.best_node.proofs.NodeLaws.{node-allowed}
 use Rattle.best_node.proofs.TotalLaws.{had-total}
 
 pub bids-low : (r : Round) → ProperRound r → (i : ℕ) → getD (r .bids) i 0 ≤ 1_000_000_000
@@ -71,17 +72,13 @@ module _ (r : Round) (c : ProperRound r) (few : r .bidders ≤ 8) (short : r .sl
     first-node : Node r emptyPage 0 0
     unfolding totalUpTo
     first-node =
+        let allowed = empty-allowed r (c .most-slots) c in
         record {
-          page =
-              record {
-                sized = empty-sized;
-                bidders = λ j. (let e = at-empty j in omega arith);
-                slots = λ j l. at-empty j;
-                once = λ i j s e. absurd (s (at-empty i));
-              };
+          page = allowed .page;
           room = omega arith;
           later = λ j l. at-empty j;
-          unbroken = none-breaks r emptyPage (λ q h. empty-unbroken q (c .proper q h));
+          unbroken = allowed .unbroken;
+          reached = allowed .reached;
           had-is = refl;
         }
 
@@ -111,6 +108,6 @@ module _ (r : Round) (c : ProperRound r) (few : r .bidders ≤ 8) (short : r .sl
         some : (q : Page) × Allowed r q × (total r q ≡ largest)
         some =
             ⊎-elim
-            (λ (e : largest ≡ 0). (emptyPage, record { page = first-node .page; unbroken = first-node .unbroken }, had-total r emptyPage 0 0 first-node ∙ sym e))
+            (λ (e : largest ≡ 0). (emptyPage, node-allowed r emptyPage 0 0 first-node, had-total r emptyPage 0 0 first-node ∙ sym e))
             (λ (w : (q : Page) × Agrees emptyPage 0 q × Allowed r q × (total r q ≡ largest)). (w .0, w .2, w .3))
             (most .reached)

@@ -1,4 +1,5 @@
--- The first two of the eligible bidders, in the order in which they win: the first is the winner, and the second sets its critical bid.
+-- The first two of the eligible bidders, in the order in which they win: the first is the winner, and the second sets its critical bid, or where
+-- there is none the floor does.
 -- Assumes nothing.
 use Prim.Native.Nat.{ℕ, zero, suc, _+_, _-_, _<_, _≤_}
 use borrow.Author.Tests.{ltb-true, ltb-false}
@@ -11,13 +12,13 @@ use native.Mathlib.Omega.{arith}
 use lib.Dec.{ltb}
 use lib.ListN.{getD}
 use Rattle.basis.proofs.NumberLaws.{multiple-above}
-use Rattle.basis.proofs.TestLaws.{holds-or-fails, not-both}
+use Rattle.basis.proofs.TestLaws.{holds-or-fails, not-both, fails}
 use Rattle.choice.specs.Winner.{ranksNoLower, winner}
-use Rattle.choice.specs.Critical.{InTicks, criticalAgainst, criticalBid}
+use Rattle.choice.specs.Critical.{InTicks, floorAsks, criticalAgainst, criticalBid}
 use Rattle.choice.specs.EngineBids.{bidIn}
 use Rattle.choice.specs.EngineRanking.{InOrder, NextAt}
 use Rattle.choice.proofs.WinnerLaws.{ranks-cases, ranks-self, wins-winner}
-use Rattle.choice.proofs.CriticalLaws.{against-lower, against-higher, critical-covers, critical-within}
+use Rattle.choice.proofs.CriticalLaws.{against-lower, against-higher, floor-asks-least, critical-covers, critical-within, critical-alone}
 
 -- a bidder's bid stands at the index before its number
 pub bid-index : (bids : List ℕ) (b : ℕ) → 0 < b → bidIn bids b ≡ getD bids (b - 1) 0
@@ -120,29 +121,34 @@ module _ (tick : ℕ) (eligible : ℕ → Bool) (bid : ℕ → ℕ) (in-ticks : 
           (holds-or-fails (ltb i s)))
           (eq-or-lt-of-le (p .3))
 
-      -- where there is none, the critical bid is 0
-      pub no-rival-costs : s ≡ n → criticalBid tick eligible bid (getD ranked f 0) n ≡ 0
-      no-rival-costs q =
-          let a =
-          critical-within tick eligible bid (getD ranked f 0) n 0
-          (λ b z m e d.
+      -- where there is none, the floor sets the critical bid,
+      pub floor-sets : (floor : ℕ) → s ≡ n → criticalBid tick floor eligible bid (getD ranked f 0) n ≡ floorAsks tick floor
+      floor-sets floor q =
+          critical-alone tick floor eligible bid (getD ranked f 0) n
+          (λ b z m d.
+          fails (eligible b)
+          (λ e.
           let p = rival-stands b z m e d in
           let h : p .0 < n = p .1 in
           let h′ : s ≤ p .0 = p .3 in
-          absurd (omega arith)) in
-          omega arith
+          omega arith))
 
-      -- and else the bidder there sets it
-      pub second-sets : s < n → criticalBid tick eligible bid (getD ranked f 0) n ≡ criticalAgainst tick bid (getD ranked f 0) (getD ranked s 0)
-      second-sets h =
+      -- and else the bidder there, which reaches the floor, sets it
+      pub second-sets : (floor : ℕ) → ((b : ℕ) → eligible b ≡ true → floor ≤ bid b) → s < n →
+          criticalBid tick floor eligible bid (getD ranked f 0) n ≡ criticalAgainst tick bid (getD ranked f 0) (getD ranked s 0)
+      second-sets floor reaches h =
           let w = getD ranked f 0 in
           let v = getD ranked s 0 in
-          let most : criticalBid tick eligible bid w n ≤ criticalAgainst tick bid w v =
-          critical-within tick eligible bid w n (criticalAgainst tick bid w v)
+          let asks : floorAsks tick floor ≤ criticalAgainst tick bid w v =
+          (let own = floor-asks-least tick floor (bid v) (in-ticks .some-tick) (in-ticks .multiple v) (reaches v (second .here h)) in
+          let sum = against-sum tick bid w v in
+          omega arith) in
+          let most : criticalBid tick floor eligible bid w n ≤ criticalAgainst tick bid w v =
+          critical-within tick floor eligible bid w n (criticalAgainst tick bid w v) asks
           (λ b z m e d.
           let p = rival-stands b z m e d in
           critical-no-less tick bid in-ticks w v b (subst (λ (u : ℕ). ranksNoLower bid v u ≡ true) (p .2) (order-at s (p .0) (p .3) (p .1)))) in
-          let least : criticalAgainst tick bid w v ≤ criticalBid tick eligible bid w n =
-          critical-covers tick eligible bid w n v (o .some s h .0) (o .some s h .1) (second .here h)
+          let least : criticalAgainst tick bid w v ≤ criticalBid tick floor eligible bid w n =
+          critical-covers tick floor eligible bid w n v (o .some s h .0) (o .some s h .1) (second .here h)
           (λ q. let k = second .low in o .order f s (omega arith) h .1 (sym q)) in
           omega arith

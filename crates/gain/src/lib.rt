@@ -1,6 +1,7 @@
 // The gain of a bidder from a played sheet, by its true constraints.
-ghost use mathlib.Core.Bool.{_&&_};
+ghost use mathlib.Core.Bool.{true, _&&_};
 ghost use lib.Dec.{eqb};
+ghost use Rattle.auction.specs.Page.{placed};
 ghost use Rattle.auction.specs.Broken.{broken, breaksOwn};
 ghost use mathlib.Core.Path.{_≡_};
 ghost use Prim.Native.Nat.{_*_, _≤_, _<_};
@@ -39,9 +40,9 @@ fn slot_of(page: Page, bidder: Bidder) -> Slot
     Slot(0)
 }
 
-// Whether a constraint is the bidder's and is broken on the page.
+// Whether a constraint is the bidder's and is broken on the page, where the bidder has a slot.
 fn own_broken(page: Page, constraint: Constraint, bidder: Bidder) -> bool
-    requires { ⌜ Proper constraint ⌝ }
+    requires { ⌜ Proper constraint × (placed page (bidder .0) ≡ true) ⌝ }
     ensures { λ r. ⌜ r ≡ (eqb (constraint .owner .0) (bidder .0) && broken page constraint) ⌝ }
 {
     let owner = constraint.owner;
@@ -51,9 +52,9 @@ fn own_broken(page: Page, constraint: Constraint, bidder: Bidder) -> bool
     false
 }
 
-// Whether a constraint of the bidder is broken on the page. The truth sheet's constraints are read one by one, and no round is made of them.
+// Whether a constraint of the bidder is broken on the page, where it has a slot. The truth sheet's constraints are read one by one, and no round is made of them.
 fn breaks_own(truth: &[u8], page: Page, bidder: Bidder) -> bool
-    requires { ⌜ Accepted (now truth) ⌝ }
+    requires { ⌜ Accepted (now truth) × (placed page (bidder .0) ≡ true) ⌝ }
     ensures { λ r. ⌜ r ≡ breaksOwn (roundOf (now (truth .entry))) page (bidder .0) ⌝ }
 {
     let used = sheet_read::constraint_count(truth);

@@ -1,7 +1,7 @@
 -- What the marks know of a page, and that they say which test a candidate fails first. With a candidate on an unbroken page, a constraint is
 -- broken exactly when one of its keys was true and the other is the candidate's. Its chain is the candidate's and its owner stands where it says: then
 -- it is an earlier winner's. Or its chain is the candidate's and the owner's key is always so, or the owner's key is one of the candidate's and the
--- chain's was true: then it is the candidate's own. Assumes nothing.
+-- chain's was true: then it is the candidate's own. The floor is asked of the bid itself. Assumes nothing.
 use Prim.Native.Nat.{ℕ, _<_, _≤_}
 use borrow.Author.Tests.{eq-eqb, ne-eqb, eqb-true}
 use mathlib.Core.Bool.{Bool, true, false, not, _&&_, _||_, and-comm, or-false, or-comm, false≢true, and-or-distrib-left, and-or-distrib-right}
@@ -9,7 +9,7 @@ use mathlib.Core.List.{List}
 use mathlib.Core.Logic.{⊎-elim}
 use mathlib.Core.Path.{_≡_, refl, sym, _∙_, ap, ap₂}
 use native.Mathlib.Omega.{arith}
-use lib.Dec.{eqb}
+use lib.Dec.{eqb, ltb}
 use lib.ListN.{getD, replicate}
 use Rattle.basis.specs.First.{_when_otherwise_}
 use Rattle.basis.specs.Tests.{anyBelow}
@@ -18,11 +18,14 @@ use Rattle.basis.proofs.TestLaws.{not-both, fails, and-parts, or-parts, or-asso
 use Rattle.sheet.specs.declared.Constraint.{Constraint}
 use Rattle.sheet.specs.declared.Page.{Page}
 use Rattle.sheet.specs.declared.Round.{Round}
-use Rattle.sheet.specs.Round.{constraintAt, blank, Has, roundOf}
+use Rattle.sheet.specs.Round.{constraintAt, blank, bidOf, floorOf, Has, roundOf}
 use Rattle.sheet.specs.Proper.{Proper, ProperRound}
+use Rattle.choice.specs.EngineBids.{bidIn}
 use Rattle.auction.specs.Page.{at, put, emptyPage, placed, Sized}
 use Rattle.auction.specs.Broken.{broken, breaksOwn}
-use Rattle.auction.specs.Eligible.{breaksEarlier, firstFailed}
+use Rattle.auction.specs.Eligible.{breaksEarlier, firstFailed, eligible}
+use Rattle.auction.proofs.BrokenLaws.{eligible-reaches}
+use Rattle.auction.proofs.GreedyLaws.{bid-in}
 use Rattle.greedy_links.specs.declared.Named.{Named}
 use Rattle.greedy_links.specs.EngineKeys.{key, chainBidder, chainSlot, ownerBidder, ownerSlot, isSo, chainSo, ownerSo, madeSo, isMarked}
 use Rattle.greedy_links.specs.EngineLinks.{linkKey, linkOwner, someOwner, namedFor}
@@ -310,41 +313,71 @@ some-same r s same-constraints same-used x test =
         eqb (key (chainBidder (q .owner .0) (q .kind)) (chainSlot (q .kind))) x
         && test (key (ownerBidder (q .owner .0) (q .kind)) (ownerSlot (q .kind)))
 
+-- A round's lent bids are its own,
+pub lent-bid : (r : Round) (bids : List ℕ) → bids ≡ r .bids → (b : ℕ) → bidIn bids b ≡ bidOf r b
+lent-bid r bids same b = ap (λ (bs : List ℕ). bidIn bs b) same ∙ bid-in r b
+
+-- and who is eligible bids at least the lent floor.
+pub lent-reaches : (r : Round) (p : Page) (s barred held bids : List ℕ) (floor l : ℕ) → SoFar r p s barred held bids floor l →
+    (b : ℕ) → eligible r p l b ≡ true → floor ≤ bidIn bids b
+lent-reaches r p s barred held bids floor l h b e =
+    let bid = lent-bid r bids (h .bids-are) b in
+    let under = h .floor-is in
+    let reaches = eligible-reaches r p l b e in
+    omega arith
+
 -- The step's answers, for the page so far.
-module _ (r : Round) (p : Page) (s barred held : List ℕ) (l b : ℕ) (h : SoFar r p s barred held l)
+module _ (r : Round) (p : Page) (s barred held bids : List ℕ) (floor l b : ℕ) (h : SoFar r p s barred held bids floor l)
     (b-some : 0 < b) (b-most : b ≤ 64) (l-some : 0 < l) (l-most : l ≤ 16) where
   held-placed : isMarked held b ≡ placed p b
   held-placed = placed-told r (h .proper) p l b (h .sized) l-some l-most (h .vacant) b-some b-most (h .unbroken) barred held (h .known)
 
-  pub first-placed : isMarked held b ≡ true → 1 ≡ firstFailed r p l b
+  below-told : ltb (bidIn bids b) floor ≡ ltb (bidOf r b) (floorOf r l)
+  below-told = ap₂ ltb (lent-bid r bids (h .bids-are) b) (h .floor-is)
+
+  -- the tests in their order, the first as it was answered
+  in-order : (t : Bool) → placed p b ≡ t →
+      firstFailed r p l b
+      ≡ (1 when t otherwise 2 when breaksEarlier r p (put p l b) otherwise 3 when breaksOwn r (put p l b) b otherwise 4 when ltb (bidOf r b) (floorOf r l) otherwise 0)
   unfolding firstFailed
-  first-placed e =
-      sym
-      (ap (λ (t : Bool). 1 when t otherwise 2 when breaksEarlier r p (put p l b) otherwise 3 when breaksOwn r (put p l b) b otherwise 0)
-      (sym held-placed ∙ e))
+  in-order t =
+      ap
+      (λ (t : Bool).
+      1 when t otherwise
+      2 when breaksEarlier r p (put p l b) otherwise
+      3 when breaksOwn r (put p l b) b otherwise
+      4 when ltb (bidOf r b) (floorOf r l) otherwise
+      0)
+
+  pub first-placed : isMarked held b ≡ true → 1 ≡ firstFailed r p l b
+  first-placed e = sym (in-order true (sym held-placed ∙ e))
 
   -- where an earlier winner's constraint names the candidate, the rest does not count
-  own-unasked : (earlier own rest : Bool) →
-      (2 when earlier otherwise 3 when (not earlier && own) || rest otherwise 0) ≡ (2 when earlier otherwise 3 when own || rest otherwise 0)
-  own-unasked true own rest = refl
-  own-unasked false own rest = refl
+  own-unasked : (earlier own bars : Bool) (rest : ℕ) →
+      (2 when earlier otherwise 3 when (not earlier && own) || bars otherwise rest) ≡ (2 when earlier otherwise 3 when own || bars otherwise rest)
+  own-unasked true own bars rest = refl
+  own-unasked false own bars rest = refl
 
   pub first-unplaced : isMarked held b ≡ false → (named : Named) →
       named ≡ namedFor (someOwner (roundOf s) (key b l) (isMarked held) (roundOf s .used)) (someOwner (roundOf s) (key b l) (λ y. eqb y 0) (roundOf s .used)) →
-      (2 when named .earlier otherwise 3 when named .itself || (isMarked barred b || isMarked barred (key b l)) otherwise 0) ≡ firstFailed r p l b
-  unfolding firstFailed namedFor
+      (2 when named .earlier otherwise
+      3 when named .itself || (isMarked barred b || isMarked barred (key b l)) otherwise
+      4 when ltb (bidIn bids b) floor otherwise
+      0)
+      ≡ firstFailed r p l b
+  unfolding namedFor
   first-unplaced e named told =
       let bars = isMarked barred b || isMarked barred (key b l) in
       let unplaced : placed p b ≡ false = sym held-placed ∙ e in
       let earlier = someOwner (roundOf s) (key b l) (isMarked held) (roundOf s .used) in
       let own = someOwner (roundOf s) (key b l) (λ y. eqb y 0) (roundOf s .used) in
       let same = some-same r s (h .constraints-are) (h .used-are) (key b l) in
-      ap (λ (n : Named). 2 when n .earlier otherwise 3 when n .itself || bars otherwise 0) told
-      ∙ own-unasked earlier own bars
-      ∙ ap₂ (λ (x y : Bool). 2 when x otherwise 3 when y otherwise 0)
+      let last = 4 when ltb (bidOf r b) (floorOf r l) otherwise 0 in
+      ap₂ (λ (n : Named) (t : Bool). 2 when n .earlier otherwise 3 when n .itself || bars otherwise 4 when t otherwise 0) told below-told
+      ∙ own-unasked earlier own bars last
+      ∙ ap₂ (λ (x y : Bool). 2 when x otherwise 3 when y otherwise last)
       (same (isMarked held)
       ∙ earlier-told r (h .proper) p l b (h .sized) l-some l-most (h .vacant) b-some b-most (h .unbroken) barred held (h .known) unplaced)
       (ap (λ (t : Bool). t || bars) (same (λ y. eqb y 0))
       ∙ own-told r (h .proper) p l b (h .sized) l-some l-most (h .vacant) b-some b-most (h .unbroken) barred held (h .known) unplaced)
-      ∙ sym
-      (ap (λ (t : Bool). 1 when t otherwise 2 when breaksEarlier r p (put p l b) otherwise 3 when breaksOwn r (put p l b) b otherwise 0) unplaced)
+      ∙ sym (in-order false unplaced)

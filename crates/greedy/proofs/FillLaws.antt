@@ -7,28 +7,28 @@ use mathlib.Core.Logic.{⊎-elim}
 use mathlib.Core.Path.{_≡_, refl, sym, _∙_, ap, ap₂, subst}
 use native.Mathlib.Omega.{arith}
 use lib.Dec.{eqb}
-use lib.ListN.{length, set, replicate}
+use lib.ListN.{length, getD, set, replicate}
 use Rattle.basis.specs.Rows.{padded}
 use Rattle.basis.proofs.RowLaws.{padded-none, padded-next}
 use Rattle.basis.proofs.NumberLaws.{same-or-not}
 use Rattle.sheet.specs.declared.Page.{Page}
 use Rattle.sheet.specs.declared.Round.{Round}
-use Rattle.sheet.specs.Round.{bidOf, roundOf}
+use Rattle.sheet.specs.Round.{bidOf, floorOf, roundOf}
 use Rattle.sheet.specs.Proper.{ProperRound}
-use Rattle.choice.specs.Critical.{InTicks}
+use Rattle.choice.specs.Critical.{InTicks, Awarded}
 use Rattle.choice.specs.EngineBids.{bidIn}
 use Rattle.choice.proofs.WinnerLaws.{winner-same}
-use Rattle.choice.proofs.CriticalLaws.{critical-same, critical-nobody}
+use Rattle.choice.proofs.CriticalLaws.{critical-same}
 use Rattle.auction.specs.Page.{at, put, emptyPage}
 use Rattle.auction.specs.Eligible.{eligible}
 use Rattle.auction.specs.Greedy.{winnerAt, pageUpTo}
 use Rattle.auction.specs.Price.{price}
 use Rattle.auction.proofs.PageLaws.{put-nobody}
-use Rattle.auction.proofs.GreedyLaws.{bid-in, upTo-next, upTo-sized, upTo-later, upTo-unbroken, slot-winner, winner-bidder, empty-nobody}
+use Rattle.auction.proofs.GreedyLaws.{bid-in, upTo-next, upTo-sized, upTo-later, upTo-unbroken, slot-winner, winner-bidder}
 use Rattle.auction.proofs.PriceLaws.{price-critical, empty-costs-nothing}
 use Rattle.greedy_links.specs.EngineKeys.{key, isMarked}
-use Rattle.greedy.specs.EngineEligible.{Known, SoFar, Awarded, Settled, Lent}
-use Rattle.greedy.proofs.EligibleLaws.{known-start, known-next, some-same}
+use Rattle.greedy.specs.EngineEligible.{Known, SoFar, Settled, Lent}
+use Rattle.greedy.proofs.EligibleLaws.{known-start, known-next, some-same, lent-bid}
 
 -- slots 1 to k are filled
 pub record Filled (r : Round) (k : ℕ) (barred held : List ℕ) (page : Page) (prices : List ℕ) : Type 0 where
@@ -49,7 +49,7 @@ filled-start r c =
 
 module _ (r : Round) (c : ProperRound r) (k : ℕ) (inside : k < r .slots) (barred held : List ℕ) (page : Page) (prices : List ℕ)
     (f : Filled r k barred held page prices) (w paid : ℕ)
-    (awarded : Awarded (r .tick) (eligible r (pageUpTo r k) (suc k)) (bidIn (r .bids)) (r .bidders) w paid) where
+    (awarded : Awarded (r .tick) (floorOf r (suc k)) (eligible r (pageUpTo r k) (suc k)) (bidIn (r .bids)) (r .bidders) w paid) where
   abbrev p : Page
   p = pageUpTo r k
 
@@ -65,23 +65,19 @@ module _ (r : Round) (c : ProperRound r) (k : ℕ) (inside : k < r .slots) (barr
   pub won-most : w ≤ 64
   won-most = let e = won-slot in let m = winner-bidder r p (suc k) in let n = c .most-bidders in omega arith
 
-  -- what is paid is the price of document 01
+  -- what is paid is the price of documents 01 and 02
   paid-price : paid ≡ price r (suc k)
   paid-price =
-      let critical = critical-same (r .tick) (eligible r p (suc k)) (eligible r p (suc k)) (bidIn (r .bids)) (bidOf r) (r .bidders) w (λ j d s m. refl)
-      (λ j d s m. bid-in r j) in
-      let here = slot-winner r few k inside in
       ⊎-elim
-      (λ (z : w ≡ 0).
-      awarded .paid-as
-      ∙ critical
-      ∙ critical-nobody (r .tick) (eligible r p (suc k)) (bidOf r) w (r .bidders) (empty-nobody r p (suc k) (sym won-slot ∙ z))
-      ∙ sym (empty-costs-nothing r (suc k) (here ∙ sym won-slot ∙ z)))
+      (λ (z : w ≡ 0). awarded .nobody-pays z ∙ sym (empty-costs-nothing r (suc k) (slot-winner r few k inside ∙ sym won-slot ∙ z)))
       (λ (s : w ≡ 0 → ⊥).
       let most = winner-bidder r p (suc k) in
       let has-bid : w ≤ length (r .bids)
       = (let e = won-slot in let h = c .sized-bids in let m = c .most-bidders in omega arith) in
-      awarded .paid-as ∙ critical ∙ sym (price-critical r k w c inside has-bid (omega arith) (sym won-slot)))
+      awarded .paid-as s
+      ∙ critical-same (r .tick) (floorOf r (suc k)) (eligible r p (suc k)) (eligible r p (suc k)) (bidIn (r .bids)) (bidOf r) (r .bidders) w (λ j d s m. refl)
+      (λ j d s m. bid-in r j)
+      ∙ sym (price-critical r k w c inside has-bid (omega arith) (sym won-slot)))
       (same-or-not w 0)
 
   next : pageUpTo r (suc k) ≡ put p (suc k) w
@@ -111,8 +107,8 @@ module _ (r : Round) (c : ProperRound r) (k : ℕ) (inside : k < r .slots) (barr
       }
 
 -- The same of what is lent, at the slot that comes next.
-module _ (r : Round) (s : List ℕ) (start : ℕ) (last links bids : List ℕ) (bidders slots tick : ℕ)
-    (lent : Lent r s start last links bids bidders slots tick) where
+module _ (r : Round) (s : List ℕ) (start : ℕ) (last links bids floors : List ℕ) (bidders slots tick : ℕ)
+    (lent : Lent r s start last links bids floors bidders slots tick) where
   pub lent-few : (bidders ≤ 64) × (length bids ≡ 64) × (slots ≤ 16)
   lent-few =
       let n = lent .bidders-are in
@@ -121,9 +117,6 @@ module _ (r : Round) (s : List ℕ) (start : ℕ) (last links bids : List ℕ) (
       let room = lent .proper .most-slots in
       (omega arith, ap length (lent .bids-are) ∙ lent .proper .sized-bids, omega arith)
 
-  lent-bid : (b : ℕ) → bidIn bids b ≡ bidOf r b
-  lent-bid b = ap (λ (bs : List ℕ). bidIn bs b) (lent .bids-are) ∙ bid-in r b
-
   pub lent-in-ticks : InTicks tick (bidIn bids)
   lent-in-ticks =
       let proper = lent .proper in
@@ -131,27 +124,39 @@ module _ (r : Round) (s : List ℕ) (start : ℕ) (last links bids : List ℕ) (
       record {
         some-tick = (let t = proper .some-tick in omega arith);
         most-tick = (let t = proper .most-tick in omega arith);
-        most-bid = λ b. (let e = lent-bid b in let m = proper .most-bid b in omega arith);
-        multiple = λ b. ap₂ (λ (x t : ℕ). x % t) (lent-bid b) (lent .tick-is) ∙ proper .in-ticks b;
+        most-bid = λ b. (let e = lent-bid r bids (lent .bids-are) b in let m = proper .most-bid b in omega arith);
+        multiple = λ b. ap₂ (λ (x t : ℕ). x % t) (lent-bid r bids (lent .bids-are) b) (lent .tick-is) ∙ proper .in-ticks b;
       }
 
-  module _ (barred held : List ℕ) (page : Page) (prices : List ℕ) (w paid : ℕ) where
+  -- the floor that is lent for a slot is the round's
+  lent-floor : (k : ℕ) → 0 < k → k ≤ slots → getD floors (k - 1) 0 ≡ floorOf r k
+  lent-floor zero some most = absurd (omega arith)
+  lent-floor (suc k) some most =
+      let e : suc k - 1 ≡ k = omega arith in
+      ap (λ (i : ℕ). getD floors i 0) e ∙ lent .floors-are k most
+
+  pub lent-floor-most : (k : ℕ) → 0 < k → k ≤ slots → getD floors (k - 1) 0 ≤ 1_000_000_000
+  lent-floor-most k some most = let e = lent-floor k some most in let h = lent .proper .most-floor k in omega arith
+
+  module _ (barred held : List ℕ) (page : Page) (prices : List ℕ) (w paid floor : ℕ) where
     -- what an award promises
     abbrev Award : ℕ → Type 0
-    Award k = (q : Round) (p : Page) → SoFar q p s barred held k → Awarded tick (eligible q p k) (bidIn bids) bidders w paid
+    Award k = (q : Round) (p : Page) → SoFar q p s barred held bids floor k → Awarded tick floor (eligible q p k) (bidIn bids) bidders w paid
 
     inside-at : (k : ℕ) → suc k ≤ slots → k < r .slots
     inside-at k most = let e = lent .slots-are in omega arith
 
     -- what the marks know before slot k + 1 is awarded
-    so-far : (k : ℕ) → suc k ≤ slots → Filled r k barred held page prices → SoFar r (pageUpTo r k) s barred held (suc k)
-    so-far k most f =
+    so-far : (k : ℕ) → suc k ≤ slots → floor ≡ floorOf r (suc k) → Filled r k barred held page prices → SoFar r (pageUpTo r k) s barred held bids floor (suc k)
+    so-far k most under f =
         let inside = inside-at k most in
         let room = lent .proper .most-slots in
         record {
           proper = lent .proper;
           constraints-are = lent .constraints-are;
           used-are = lent .used-are;
+          bids-are = lent .bids-are;
+          floor-is = under;
           sized = upTo-sized r k;
           unbroken = upTo-unbroken r (lent .proper .proper) k (omega arith);
           vacant = upTo-later r k (suc k) (omega arith);
@@ -159,13 +164,14 @@ module _ (r : Round) (s : List ℕ) (start : ℕ) (last links bids : List ℕ) (
         }
 
     -- the award, promised for every page so far, for the round's own
-    awarded-of : (k : ℕ) → suc k ≤ slots → Filled r k barred held page prices → Award (suc k) →
-        Awarded (r .tick) (eligible r (pageUpTo r k) (suc k)) (bidIn (r .bids)) (r .bidders) w paid
-    awarded-of k most f a =
-        subst (λ (t : ℕ). Awarded t (eligible r (pageUpTo r k) (suc k)) (bidIn (r .bids)) (r .bidders) w paid) (lent .tick-is)
-        (subst (λ (bs : List ℕ). Awarded tick (eligible r (pageUpTo r k) (suc k)) (bidIn bs) (r .bidders) w paid) (lent .bids-are)
-        (subst (λ (n : ℕ). Awarded tick (eligible r (pageUpTo r k) (suc k)) (bidIn bids) n w paid) (lent .bidders-are)
-        (a r (pageUpTo r k) (so-far k most f))))
+    awarded-of : (k : ℕ) → suc k ≤ slots → floor ≡ floorOf r (suc k) → Filled r k barred held page prices → Award (suc k) →
+        Awarded (r .tick) (floorOf r (suc k)) (eligible r (pageUpTo r k) (suc k)) (bidIn (r .bids)) (r .bidders) w paid
+    awarded-of k most under f a =
+        subst (λ (x : ℕ). Awarded (r .tick) x (eligible r (pageUpTo r k) (suc k)) (bidIn (r .bids)) (r .bidders) w paid) under
+        (subst (λ (t : ℕ). Awarded t floor (eligible r (pageUpTo r k) (suc k)) (bidIn (r .bids)) (r .bidders) w paid) (lent .tick-is)
+        (subst (λ (bs : List ℕ). Awarded tick floor (eligible r (pageUpTo r k) (suc k)) (bidIn bs) (r .bidders) w paid) (lent .bids-are)
+        (subst (λ (n : ℕ). Awarded tick floor (eligible r (pageUpTo r k) (suc k)) (bidIn bids) n w paid) (lent .bidders-are)
+        (a r (pageUpTo r k) (so-far k most under f)))))
 
     -- and so the marks
     settled-of : (k : ℕ) (barred′ held′ : List ℕ) → Settled (roundOf s) w k barred held barred′ held′ → Settled r w k barred held barred′ held′
@@ -180,17 +186,18 @@ module _ (r : Round) (s : List ℕ) (start : ℕ) (last links bids : List ℕ) (
           );
         }
 
-    pub slot-won : (k : ℕ) → 0 < k → k ≤ slots → Filled r (k - 1) barred held page prices → Award k → w ≤ 64
-    slot-won zero some most f a = absurd (omega arith)
-    slot-won (suc k) some most f a =
+    pub slot-won : (k : ℕ) → 0 < k → k ≤ slots → floor ≡ getD floors (k - 1) 0 → Filled r (k - 1) barred held page prices → Award k → w ≤ 64
+    slot-won zero some most under f a = absurd (omega arith)
+    slot-won (suc k) some most under f a =
         let e : suc k - 1 ≡ k = omega arith in
-        won-most r (lent .proper) k (inside-at k most) barred held page prices (rw e at f) w paid (awarded-of k most (rw e at f) a)
+        won-most r (lent .proper) k (inside-at k most) barred held page prices (rw e at f) w paid
+        (awarded-of k most (under ∙ lent-floor (suc k) some most) (rw e at f) a)
 
-    pub slot-filled : (k : ℕ) → 0 < k → k ≤ slots → Filled r (k - 1) barred held page prices → Award k → (barred′ held′ : List ℕ) →
+    pub slot-filled : (k : ℕ) → 0 < k → k ≤ slots → floor ≡ getD floors (k - 1) 0 → Filled r (k - 1) barred held page prices → Award k → (barred′ held′ : List ℕ) →
         Settled (roundOf s) w k barred held barred′ held′ → Filled r k barred′ held′ (put page k w) (set prices (k - 1) paid)
-    slot-filled zero some most f a barred′ held′ settled = absurd (omega arith)
-    slot-filled (suc k) some most f a barred′ held′ settled =
+    slot-filled zero some most under f a barred′ held′ settled = absurd (omega arith)
+    slot-filled (suc k) some most under f a barred′ held′ settled =
         let e : suc k - 1 ≡ k = omega arith in
         rw e
-        (filled-next r (lent .proper) k (inside-at k most) barred held page prices (rw e at f) w paid (awarded-of k most (rw e at f) a) barred′ held′
-        (settled-of (suc k) barred′ held′ settled))
+        (filled-next r (lent .proper) k (inside-at k most) barred held page prices (rw e at f) w paid
+        (awarded-of k most (under ∙ lent-floor (suc k) some most) (rw e at f) a) barred′ held′ (settled-of (suc k) barred′ held′ settled))

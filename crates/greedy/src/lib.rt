@@ -1,9 +1,9 @@
 // The greedy page and its prices, from the links of the constraints.
 //
-// A candidate is eligible for a slot where it has none yet, no constraint of an earlier winner names it there, and none of its own is broken
-// there; with a floor under the slot, where its bid is no less besides. Who stands where is marked in `held`, by key; the constraints that name a candidate at a slot are the links of one chain; and whom a
-// constraint of its own keeps from where, since its other stands where it says, is marked in `barred`, by key. A winner adds its two keys to
-// `held`, and to `barred` the owners' keys along its chain.
+// A candidate is eligible for a slot where it has none yet, no constraint of an earlier winner names it there, none of its own is broken there,
+// and its bid is no less than the slot's floor. Who stands where is marked in `held`, by key; the constraints that name a candidate at a slot are
+// the links of one chain; and whom a constraint of its own keeps from where, since its other stands where it says, is marked in `barred`, by key.
+// A winner adds its two keys to `held`, and to `barred` the owners' keys along its chain.
 //
 // What depends on the constraints (`greedy_links::link_all`) stands apart from what depends on the bids (`fill`). A sheet is lent on for its
 // constraints, which start at `start`; its own bids and tick are not read there: those handed on count, and so do the floors, slot by slot.
@@ -236,8 +236,17 @@ fn next_slot(slot: Slot) -> Slot
     Slot(slot.0 + 1)
 }
 
-// Where a slot's floor and price stand in their lists.
-fn index_of(slot: Slot) -> usize
+// The floor under a slot.
+fn floor_under(floors: &[u32], slot: Slot) -> u32
+    requires { ⌜ (0 < slot .0) × (slot .0 ≤ 16) × (slot .0 ≤ length (now floors)) ⌝ }
+    ensures { λ r. ⌜ r ≡ getD (now (floors .entry)) (slot .0 - 1) 0 ⌝ }
+{
+    let index = slot.0 as usize - 1;
+    floors[index]
+}
+
+// Where a slot's price stands in the list of prices.
+fn price_index(slot: Slot) -> usize
     requires { ⌜ (0 < slot .0) × (slot .0 ≤ 16) ⌝ }
     ensures { λ r. ⌜ r ≡ slot .0 - 1 ⌝ }
 {
@@ -266,7 +275,7 @@ pub fn fill(
     let mut prices = [0u32; 16];
     let mut slot = Slot(1);
     while slot.0 as usize <= slots {
-        let index = index_of(slot);
+        let floor = floor_under(floors, slot);
         let awarded = award_slot(
             &ranked,
             &barred,
@@ -276,13 +285,14 @@ pub fn fill(
             sheet,
             start,
             bids,
-            floors[index],
+            floor,
             bidders,
             tick,
             slot,
         );
         let winner = awarded.winner;
         page = auction::with_bidder(page, slot, winner);
+        let index = price_index(slot);
         prices[index] = awarded.critical;
         settle(
             &mut barred,

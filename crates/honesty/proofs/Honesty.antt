@@ -8,15 +8,23 @@ use lib.IntN.{ℤ}
 use lib.ListN.{getD}
 use lib.Signed.{_≤ℤ_}
 use Rattle.basis.specs.Rows.{padded}
-use Rattle.basis.proofs.FirstLaws.{orElse-right}
 use Rattle.basis.proofs.RowLaws.{padded-same}
 use Rattle.sheet.specs.Sheet.{bidderCount, slotCount, effectField, bidField}
 use Rattle.sheet.specs.Refusal.{refusalOf, Accepted}
-use Rattle.sheet.specs.Round.{roundOf, bidOf, effectOf}
+use Rattle.sheet.specs.declared.Round.{Round}
+use Rattle.sheet.specs.Round.{roundOf, withFloors, bidOf, effectOf, floorOf, constraintAt}
+use Rattle.sheet.specs.Proper.{ProperRound, ProperFloors}
 use Rattle.sheet.proofs.RoundLaws.{round-bidders, round-slots, round-tick, round-bid, round-proper, sheet-round, round-sheet}
+use Rattle.sheet.proofs.FloorLaws.{floors-proper, floors-bid, floors-effect, floors-slots, floors-bidders, floors-tick, floors-has, has-floors}
+use Rattle.floors.specs.Floors.{floorsRefusal}
+use Rattle.floors.proofs.FloorLaws.{passed-proper}
+use Rattle.auction.specs.Broken.{breaksOwn}
+use Rattle.auction.specs.Greedy.{greedyPage}
 use Rattle.auction.specs.Except.{Except}
-use Rattle.gain.specs.Gain.{gainOf}
-use Rattle.gain.specs.Call.{laterRefusal, gainRefusal, gainedFor, gainedOf}
+use Rattle.gain.specs.Gain.{slotOf, gainAt, gainOf}
+use Rattle.gain.specs.Call.{laterRefusal, gainRefusal, gainedFloorsOf}
+use Rattle.gain.proofs.CallLaws.{for-gained, left-of-gain, floored-gains}
+use Rattle.downward.specs.Downward.{listHas, asksLower, downward}
 use Rattle.honesty.specs.Honesty.{DifferOnlyInList, Honesty}
 use Rattle.gain.specs.declared.Gained.{Gained}
 use Rattle.downward.proofs.DownwardLaws.{tested-yes}
@@ -41,14 +49,26 @@ effects-of s t m f (suc k) =
     (padded-same (λ k. effectField s (suc k)) (λ k. effectField t (suc k)) (slotCount s) 16 0 (λ k l. f (suc k) (omega arith) l)
     ∙ ap (λ (j : ℕ). padded (λ k. effectField t (suc k)) j 16 0) m)
 
+-- floors change neither whether a list is downward monotonic nor what a truth sheet's list is
+downward-floors : (r : Round) (f : List ℕ) (i : ℕ) → downward (withFloors r f) i ≡ downward r i
+unfolding downward listHas asksLower withFloors constraintAt
+downward-floors r f i = refl
+
+truth-floors : (q t : Round) (f : List ℕ) (i v : ℕ) → gainOf q (withFloors t f) i v ≡ gainOf q t i v
+unfolding gainOf gainAt breaksOwn withFloors constraintAt
+truth-floors q t f i v = by-slot (slotOf (greedyPage q) i)
+  where
+    by-slot : (k : ℕ) → gainAt k q (withFloors t f) i v ≡ gainAt k q t i v
+    by-slot zero = refl
+    by-slot (suc k) = refl
+
 -- a call on accepted sheets of the same n and m, with a bidder and a worth in range, is not refused, whatever their ticks
-pub not-refused : (s t : List ℕ) (i v : ℕ) → Accepted s → Accepted t → bidderCount t ≡ bidderCount s → slotCount t ≡ slotCount s →
-    0 < i → i ≤ bidderCount s → v ≤ 1_000_000_000 → gainRefusal s t i v ≡ 0
-unfolding gainRefusal laterRefusal
-not-refused s t i v ok ok′ n m some within low =
-    orElse-right (refusalOf s) (laterRefusal s t i v) ok
-    ∙ simp (
-      eq-eqb (refusalOf t) 0 ok′,
+pub none-later : (s t : List ℕ) (i v : ℕ) → Accepted t → bidderCount t ≡ bidderCount s → slotCount t ≡ slotCount s →
+    0 < i → i ≤ bidderCount s → v ≤ 1_000_000_000 → laterRefusal s t i v ≡ 0
+unfolding laterRefusal
+none-later s t i v ok n m some within low =
+    simp (
+      eq-eqb (refusalOf t) 0 ok,
       eq-eqb (bidderCount t) (bidderCount s) n,
       eq-eqb (slotCount t) (slotCount s) m,
       ne-eqb i 0 (omega arith),
@@ -56,34 +76,62 @@ not-refused s t i v ok ok′ n m some within low =
       le-ltb 1_000_000_000 v low,
     )
 
-gained-is : (s t : List ℕ) (i v : ℕ) → gainRefusal s t i v ≡ 0 → gainedOf s t i v ≡ record { refusal = 0; gain = gainOf (roundOf s) (roundOf t) i v }
-unfolding gainedOf gainedFor
-gained-is s t i v e = ap (λ (k : ℕ). gainedFor k s t i v) e
+pub not-refused : (s t : List ℕ) (i v : ℕ) → Accepted s → Accepted t → bidderCount t ≡ bidderCount s → slotCount t ≡ slotCount s →
+    0 < i → i ≤ bidderCount s → v ≤ 1_000_000_000 → gainRefusal s t i v ≡ 0
+not-refused s t i v ok ok′ n m some within low = left-of-gain s t i v ok ∙ none-later s t i v ok′ n m some within low
 
--- sheets that differ only in i's list have rounds that differ only there
-rounds-except : (i : ℕ) (s t : List ℕ) → Accepted s → Accepted t → DifferOnlyInList i s t → Except i (roundOf s) (roundOf t)
-rounds-except i s t ok ok′ d =
-    record {
-      bidders = round-bidders s ∙ d .same-n ∙ sym (round-bidders t);
-      slots = round-slots s ∙ d .same-m ∙ sym (round-slots t);
-      ticks = round-tick s ∙ d .same-tick ∙ sym (round-tick t);
-      bids = λ a e. bids-of s t (d .same-n) (d .same-bids) a;
-      there = λ q e h. sheet-round t ok′ q (d .there q e (round-sheet s ok q h));
-      back = λ q e h. sheet-round s ok q (d .back q e (round-sheet t ok′ q h));
-    }
+-- the two rounds of a call with floors
+module _ (f : List ℕ) where
+  gained-is : (s t : List ℕ) (i v : ℕ) → Accepted s → floorsRefusal (slotCount s) f ≡ 0 → laterRefusal s t i v ≡ 0 →
+      gainedFloorsOf f s t i v ≡ record { refusal = 0; gain = gainOf (withFloors (roundOf s) f) (roundOf t) i v }
+  gained-is s t i v ok none later = sym (for-gained (laterRefusal s t i v) (withFloors (roundOf s) f) t i v later ∙ floored-gains f s t i v ok none)
+
+  proper : (s : List ℕ) → Accepted s → floorsRefusal (slotCount s) f ≡ 0 → ProperRound (withFloors (roundOf s) f)
+  proper s ok none =
+      floors-proper (roundOf s) f (round-proper s ok) (subst (λ (m : ℕ). ProperFloors m f) (sym (round-slots s)) (passed-proper (slotCount s) f none))
+
+  -- rounds with as many slots have the same floors
+  floors-of : (r r′ : Round) → r .slots ≡ r′ .slots → (k : ℕ) → floorOf (withFloors r f) k ≡ floorOf (withFloors r′ f) k
+  unfolding withFloors floorOf
+  floors-of r r′ m zero = refl
+  floors-of r r′ m (suc k) = ap (λ (n : ℕ). getD (padded (λ k. getD f k 0) n 16 0) k 0) m
+
+  -- sheets that differ only in i's list have rounds that differ only there
+  rounds-except : (i : ℕ) (s t : List ℕ) → Accepted s → Accepted t → DifferOnlyInList i s t → Except i (withFloors (roundOf s) f) (withFloors (roundOf t) f)
+  rounds-except i s t ok ok′ d =
+      let r = roundOf s in
+      let r′ = roundOf t in
+      let slots = round-slots s ∙ d .same-m ∙ sym (round-slots t) in
+      record {
+        bidders = floors-bidders r f ∙ round-bidders s ∙ d .same-n ∙ sym (floors-bidders r′ f ∙ round-bidders t);
+        slots = floors-slots r f ∙ slots ∙ sym (floors-slots r′ f);
+        ticks = floors-tick r f ∙ round-tick s ∙ d .same-tick ∙ sym (floors-tick r′ f ∙ round-tick t);
+        floors = floors-of r r′ slots;
+        bids = λ a e. floors-bid r f a ∙ bids-of s t (d .same-n) (d .same-bids) a ∙ sym (floors-bid r′ f a);
+        there = λ q e h. floors-has r′ f q (sheet-round t ok′ q (d .there q e (round-sheet s ok q (has-floors r f q h))));
+        back = λ q e h. floors-has r f q (sheet-round s ok q (d .back q e (round-sheet t ok′ q (has-floors r′ f q h))));
+      }
 
 pub honesty : Honesty
 unfolding Honesty
-honesty s o i v ok ok′ d passed low worth =
+honesty f s o i v ok ok′ floored d passed low worth =
     let tested = tested-yes o i passed in
     let within : i ≤ bidderCount s = (let n = d .same-n in let h = tested .1 .0 in omega arith) in
-    let first = not-refused s s i v ok ok refl refl (tested .0) within worth in
-    let second = not-refused o s i v ok′ ok (d .same-n) (d .same-m) (tested .0) (tested .1 .0) worth in
+    let floored′ : floorsRefusal (slotCount o) f ≡ 0 = ap (λ (m : ℕ). floorsRefusal m f) (sym (d .same-m)) ∙ floored in
+    let first = gained-is f s s i v ok floored (none-later s s i v ok refl refl (tested .0) within worth) in
+    let second = gained-is f o s i v ok′ floored′ (none-later o s i v ok (d .same-n) (d .same-m) (tested .0) (tested .1 .0) worth) in
+    let r = withFloors (roundOf s) f in
+    let r′ = withFloors (roundOf o) f in
     let bids = bids-of s o (d .same-n) (d .same-bids) in
-    let except = rounds-except i s o ok ok′ d in
-    let pays = honest-pays (roundOf s) (roundOf o) i v (round-proper s ok) (round-proper o ok′) except (bids i)
-    (effects-of s o (d .same-m) (d .same-effects)) (tested .1 .1) (tested .0) (let n = round-bidders s in omega arith) (subst (λ (a : ℕ). a ≤ v) (sym (round-bid s ok i within)) low) in (
-      ap (λ (g : Gained). g .refusal) (gained-is s s i v first),
-      ap (λ (g : Gained). g .refusal) (gained-is o s i v second),
-      subst₂ (λ (g h : ℤ). g ≤ℤ h) (sym (ap (λ (g : Gained). g .gain) (gained-is o s i v second))) (sym (ap (λ (g : Gained). g .gain) (gained-is s s i v first))) pays,
+    let pays : gainOf r′ r i v ≤ℤ gainOf r r i v
+    = honest-pays r r′ i v (proper f s ok floored) (proper f o ok′ floored′) (rounds-except f i s o ok ok′ d)
+    (floors-bid (roundOf s) f i ∙ bids i ∙ sym (floors-bid (roundOf o) f i))
+    (λ k. floors-effect (roundOf s) f k ∙ effects-of s o (d .same-m) (d .same-effects) k ∙ sym (floors-effect (roundOf o) f k))
+    (downward-floors (roundOf o) f i ∙ tested .1 .1) (tested .0)
+    (let n = round-bidders s in let e = floors-bidders (roundOf s) f in omega arith)
+    (subst (λ (a : ℕ). a ≤ v) (sym (floors-bid (roundOf s) f i ∙ round-bid s ok i within)) low) in
+    let same : (q : Round) → gainOf q r i v ≡ gainOf q (roundOf s) i v = (λ q. truth-floors q (roundOf s) f i v) in (
+      ap (λ (g : Gained). g .refusal) first,
+      ap (λ (g : Gained). g .refusal) second,
+      subst₂ (λ (g h : ℤ). g ≤ℤ h) (sym (ap (λ (g : Gained). g .gain) second ∙ sym (same r′))) (sym (ap (λ (g : Gained). g .gain) first ∙ sym (same r))) pays,
     )

@@ -5,6 +5,7 @@
 --   3. It has a slot k and no true constraint is broken. Then the honest round gives it no slot before k: if it did, i would be
 --      eligible there by its true list and not by the other, and a downward monotonic list that bars it there bars it from k too. So
 --      both rounds fill the slots before k alike, i is eligible for k by both lists, wins it in both, and pays the same critical bid.
+--   Floors may be in any order: i bids the same in both rounds, so it reaches a slot's floor in both or in neither.
 -- Assumes nothing.
 use Prim.Native.Nat.{ℕ, zero, suc, _*_, _-_, _<_, _≤_}
 use mathlib.Core.Bool.{Bool, true, false}
@@ -24,13 +25,13 @@ use Rattle.auction.specs.Page.{at, put, placed, Sized}
 use Rattle.auction.specs.Broken.{broken, breaks, breaksOwn}
 use Rattle.auction.specs.Eligible.{eligible}
 use Rattle.auction.specs.Greedy.{winnerAt, pageUpTo, greedyPage}
-use Rattle.sheet.specs.Round.{bidOf, effectOf, Has}
+use Rattle.sheet.specs.Round.{bidOf, effectOf, floorOf, Has}
 use Rattle.sheet.specs.Proper.{ProperRound}
 use Rattle.auction.specs.Price.{price}
 use Rattle.auction.specs.Except.{Except}
 use Rattle.auction.proofs.PageLaws.{placed-where, placed-at, Keeps, keeps-placed}
 use Rattle.basis.proofs.NumberLaws.{same-or-not, below-or-not}
-use Rattle.auction.proofs.BrokenLaws.{broken-stays, breaks-where, breaks-own-at, breaks-none, eligible-unplaced, eligible-unbroken, unbroken-eligible}
+use Rattle.auction.proofs.BrokenLaws.{broken-stays, breaks-where, breaks-own-at, breaks-none, eligible-reaches, eligible-unplaced, eligible-unbroken, unbroken-eligible}
 use Rattle.auction.proofs.GreedyLaws.{
   upTo-next,
   upTo-sized,
@@ -53,11 +54,11 @@ use Rattle.gain.proofs.SlotLaws.{
 }
 use Rattle.honesty.proofs.BlockedLaws.{Blocked, broken-blocks, blocked-below, blocked-ineligible}
 
--- an unplaced bidder that is not eligible breaks a constraint there
-ineligible-where : (r : Round) (p : Page) (k b : ℕ) → placed p b ≡ false → eligible r p k b ≡ false → (q : Constraint) × Has r q × (broken (put p k b) q ≡ true)
-ineligible-where r p k b u e =
+-- an unplaced bidder that reaches the floor and is not eligible breaks a constraint there
+ineligible-where : (r : Round) (p : Page) (k b : ℕ) → floorOf r k ≤ bidOf r b → placed p b ≡ false → eligible r p k b ≡ false → (q : Constraint) × Has r q × (broken (put p k b) q ≡ true)
+ineligible-where r p k b reaches u e =
     breaks-where r (put p k b)
-    (holds (breaks r (put p k b)) (λ f. not-both (unbroken-eligible r p k b u (breaks-none r (put p k b) f)) e))
+    (holds (breaks r (put p k b)) (λ f. not-both (unbroken-eligible r p k b reaches u (breaks-none r (put p k b) f)) e))
 
 -- a bidder with a slot among the first k won it
 won-among : (r : Round) (i k : ℕ) → (i ≡ 0 → ⊥) → k ≤ 16 → placed (pageUpTo r k) i ≡ true → (j : ℕ) × (j < k) × (winnerAt r (pageUpTo r j) (suc j) ≡ i)
@@ -109,7 +110,9 @@ module _ (r r′ : Round) (i : ℕ) (c : ProperRound r) (c′ : ProperRound r′
   -- where only the true list lets i in, the other list has a constraint of i that blocks it
   blocks : (p : Page) (k : ℕ) → Sized p → 0 < k → k ≤ 16 → placed p i ≡ false → eligible r p k i ≡ true → eligible r′ p k i ≡ false → Blocked r′ i p k
   blocks p k s l m u e e′ =
-      let w = ineligible-where r′ p k i u e′ in
+      let reaches = eligible-reaches r p k i e in
+      let floor = x .floors k in
+      let w = ineligible-where r′ p k i (omega arith) u e′ in
       ⊎-elim
       (λ (o : w .0 .owner .0 ≡ i). broken-blocks p k i s l m u i-some r′ (w .0) (w .1) (c′ .proper (w .0) (w .1)) o (w .2))
       (λ (o : w .0 .owner .0 ≡ i → ⊥).
@@ -174,7 +177,9 @@ module _ (r r′ : Round) (i : ℕ) (c : ProperRound r) (c′ : ProperRound r′
         let may-stand : eligible r p (suc k) i ≡ true
         = holds (eligible r p (suc k) i)
         (λ f.
-        let w = ineligible-where r p (suc k) i no-slot-before f in
+        let reaches = eligible-reaches r′ p (suc k) i may-stand′ in
+        let floor = x .floors (suc k) in
+        let w = ineligible-where r p (suc k) i (omega arith) no-slot-before f in
         ⊎-elim
         (λ (o : w .0 .owner .0 ≡ i).
         let next : put p (suc k) i ≡ pageUpTo r′ (suc k)

@@ -9,7 +9,8 @@ use Rattle.sheet.specs.Sheet.{bidderCount, slotCount, tickField, effectField, b
 use Rattle.sheet.specs.Refusal.{Accepted}
 use Rattle.sheet.specs.Round.{SheetHas}
 use Rattle.downward.specs.Call.{testedOf}
-use Rattle.gain.specs.Call.{gainedOf}
+use Rattle.floors.specs.Floors.{floorsRefusal}
+use Rattle.gain.specs.Call.{gainedFloorsOf}
 
 -- "Two sheets differ only in one bidder's list when n, m, effects, bids and, for each other owner, the set of conditions are equal." And "both
 -- sheets have the same tick": a version 1 sheet has tick 1, so the other may then be of version 2 with tick 1.
@@ -22,14 +23,14 @@ pub record DifferOnlyInList (i : ℕ) (s t : List ℕ) : Type 0 where
   pub there : (q : Constraint) → (q .owner .0 ≡ i → ⊥) → SheetHas s q → SheetHas t q
   pub back : (q : Constraint) → (q .owner .0 ≡ i → ⊥) → SheetHas t q → SheetHas s q
 
--- Let an honest sheet and another differ only in bidder i's list, and let the other's list be downward monotonic. At any worth from
--- i's bid up, the gain with the other sheet played is at most the gain with the honest sheet played; the honest sheet tells the truth
--- in both.
+-- Let an honest sheet and another differ only in bidder i's list, and let the other's list be downward monotonic. With any floors, the same for
+-- both, and at any worth from i's bid up, the gain with the other sheet played is at most the gain with the honest sheet played; the honest sheet
+-- tells the truth in both.
 unfoldable pub Honesty : Type 0
 Honesty =
-    (honest other : List ℕ) (i worth : ℕ) → Accepted honest → Accepted other → DifferOnlyInList i honest other →
-    testedOf other i ≡ record { refusal = 0; yes = true } →
+    (floors honest other : List ℕ) (i worth : ℕ) → Accepted honest → Accepted other → floorsRefusal (slotCount honest) floors ≡ 0 →
+    DifferOnlyInList i honest other → testedOf other i ≡ record { refusal = 0; yes = true } →
     bidField honest i ≤ worth → worth ≤ 1_000_000_000 →
-    (gainedOf honest honest i worth .refusal ≡ 0)
-    × (gainedOf other honest i worth .refusal ≡ 0)
-    × (gainedOf other honest i worth .gain ≤ℤ gainedOf honest honest i worth .gain)
+    (gainedFloorsOf floors honest honest i worth .refusal ≡ 0)
+    × (gainedFloorsOf floors other honest i worth .refusal ≡ 0)
+    × (gainedFloorsOf floors other honest i worth .gain ≤ℤ gainedFloorsOf floors honest honest i worth .gain)

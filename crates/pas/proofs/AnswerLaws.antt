@@ -5,21 +5,22 @@ use mathlib.Core.Path.{_≡_, refl, sym, _∙_, ap}
 use lib.IntN.{ℤ}
 use Rattle.basis.specs.First.{unlessRefused}
 use Rattle.basis.proofs.FirstLaws.{refused-leaves, answered-gives}
-use Rattle.sheet.specs.Round.{roundOf}
+use Rattle.sheet.specs.declared.Round.{Round}
+use Rattle.sheet.specs.Round.{roundOf, withFloors}
 use Rattle.downward.specs.Downward.{downward}
 use Rattle.downward.specs.Call.{testRefusal, testedFor, testedOf}
 use Rattle.downward.specs.declared.Tested.{Tested}
 use Rattle.gain.specs.Gain.{gainOf}
-use Rattle.gain.specs.Call.{gainRefusal, gainedFor, gainedOf}
+use Rattle.gain.specs.Call.{gainRefusal, gainFloorsRefusal, gainedFor, gainedOf, gainedFloorsOf}
 use Rattle.gain.specs.declared.Gained.{Gained}
 use Rattle.auction.specs.Allowed.{total}
 use Rattle.best_page.specs.BestPage.{bestPage}
-use Rattle.best_search.specs.Call.{bestRefusal, chosenFor, BestGiven}
+use Rattle.best_search.specs.Call.{bestRefusal, bestFloorsRefusal, chosenFor, BestGiven, BestFloorsGiven}
 use Rattle.best_search.specs.declared.Chosen.{Chosen}
 use Rattle.owner_part.specs.OwnerPart.{partRefusal, bytesBefore, partLength, boundsFor, boundsOf}
 use Rattle.owner_part.specs.declared.Bounds.{Bounds}
 use Rattle.owner_part.proofs.CallLaws.{given-bounds}
-use Rattle.pas.specs.Calls.{yesNumber, DownwardGiven, GainGiven, BestPageGiven, PartGiven}
+use Rattle.pas.specs.Calls.{yesNumber, DownwardGiven, GainGiven, GainFloorsGiven, BestPageGiven, BestFloorsPageGiven, PartGiven}
 
 -- an answered call's memory holds what is written there
 answered : {A : Type 0} (k n : ℕ) (answer before written : A) → n ≡ k → n ≡ 0 → (k ≡ 0 → written ≡ answer) → written ≡ unlessRefused k answer before
@@ -50,57 +51,112 @@ module _ (s : List ℕ) (i before : ℕ) (t : Tested) (e : t ≡ testedOf s i) w
         written = answered (testRefusal s i) (t .refusal) (yesNumber (downward (roundOf s) i)) before written test-number z (λ k. w ∙ ap yesNumber (test-answer k));
       }
 
-gained-number : (k : ℕ) (s t : List ℕ) (i worth : ℕ) → gainedFor k s t i worth .refusal ≡ k
+-- the gain call's, with floors or without: k is its number, r the round that is played
+gained-number : (k : ℕ) (r : Round) (t : List ℕ) (i worth : ℕ) → gainedFor k r t i worth .refusal ≡ k
 unfolding gainedFor
-gained-number zero s t i worth = refl
-gained-number (suc k) s t i worth = refl
+gained-number zero r t i worth = refl
+gained-number (suc k) r t i worth = refl
+
+module _ (k : ℕ) (r : Round) (t : List ℕ) (i worth : ℕ) (before : ℤ) (g : Gained) (e : g ≡ gainedFor k r t i worth) where
+  pub gain-number : g .refusal ≡ k
+  gain-number = ap (λ (x : Gained). x .refusal) e ∙ gained-number k r t i worth
+
+  pub gain-answer : k ≡ 0 → g .gain ≡ gainOf r (roundOf t) i worth
+  unfolding gainedFor
+  gain-answer z = ap (λ (x : Gained). x .gain) e ∙ ap (λ (n : ℕ). gainedFor n r t i worth .gain) z
+
+  gain-left : (g .refusal ≡ 0 → ⊥) → before ≡ unlessRefused k (gainOf r (roundOf t) i worth) before
+  gain-left h = refused-leaves k (g .refusal) (gainOf r (roundOf t) i worth) before gain-number h
+
+  gain-put : g .refusal ≡ 0 → (written : ℤ) → written ≡ g .gain → written ≡ unlessRefused k (gainOf r (roundOf t) i worth) before
+  gain-put z written w = answered k (g .refusal) (gainOf r (roundOf t) i worth) before written gain-number z (λ n. w ∙ gain-answer n)
 
 module _ (s t : List ℕ) (i worth : ℕ) (before : ℤ) (g : Gained) (e : g ≡ gainedOf s t i worth) where
-  pub gain-number : g .refusal ≡ gainRefusal s t i worth
-  unfolding gainedOf
-  gain-number = ap (λ (x : Gained). x .refusal) e ∙ gained-number (gainRefusal s t i worth) s t i worth
-
-  pub gain-answer : gainRefusal s t i worth ≡ 0 → g .gain ≡ gainOf (roundOf s) (roundOf t) i worth
-  unfolding gainedOf gainedFor
-  gain-answer z = ap (λ (x : Gained). x .gain) e ∙ ap (λ (n : ℕ). gainedFor n s t i worth .gain) z
-
   pub gain-refused : (g .refusal ≡ 0 → ⊥) → GainGiven s t i worth before (g .refusal) before
-  gain-refused h = record { number = gain-number; written = refused-leaves (gainRefusal s t i worth) (g .refusal) (gainOf (roundOf s) (roundOf t) i worth) before gain-number h }
-
-  pub gain-answered : g .refusal ≡ 0 → (written : ℤ) → written ≡ g .gain → GainGiven s t i worth before 0 written
-  gain-answered z written w =
+  unfolding gainedOf
+  gain-refused h =
       record {
-        number = sym z ∙ gain-number;
-        written = answered (gainRefusal s t i worth) (g .refusal) (gainOf (roundOf s) (roundOf t) i worth) before written gain-number z (λ k. w ∙ gain-answer k);
+        number = gain-number (gainRefusal s t i worth) (roundOf s) t i worth before g e;
+        written = gain-left (gainRefusal s t i worth) (roundOf s) t i worth before g e h;
       }
 
-chosen-number : (k : ℕ) (s : List ℕ) → chosenFor k s .refusal ≡ k
+  pub gain-answered : g .refusal ≡ 0 → (written : ℤ) → written ≡ g .gain → GainGiven s t i worth before 0 written
+  unfolding gainedOf
+  gain-answered z written w =
+      record {
+        number = sym z ∙ gain-number (gainRefusal s t i worth) (roundOf s) t i worth before g e;
+        written = gain-put (gainRefusal s t i worth) (roundOf s) t i worth before g e z written w;
+      }
+
+module _ (f s t : List ℕ) (i worth : ℕ) (before : ℤ) (g : Gained) (e : g ≡ gainedFloorsOf f s t i worth) where
+  pub floors-gain-refused : (g .refusal ≡ 0 → ⊥) → GainFloorsGiven f s t i worth before (g .refusal) before
+  unfolding gainedFloorsOf
+  floors-gain-refused h =
+      record {
+        number = gain-number (gainFloorsRefusal f s t i worth) (withFloors (roundOf s) f) t i worth before g e;
+        written = gain-left (gainFloorsRefusal f s t i worth) (withFloors (roundOf s) f) t i worth before g e h;
+      }
+
+  pub floors-gain-answered : g .refusal ≡ 0 → (written : ℤ) → written ≡ g .gain → GainFloorsGiven f s t i worth before 0 written
+  unfolding gainedFloorsOf
+  floors-gain-answered z written w =
+      record {
+        number = sym z ∙ gain-number (gainFloorsRefusal f s t i worth) (withFloors (roundOf s) f) t i worth before g e;
+        written = gain-put (gainFloorsRefusal f s t i worth) (withFloors (roundOf s) f) t i worth before g e z written w;
+      }
+
+-- the best page's
+chosen-number : (k : ℕ) (r : Round) → chosenFor k r .refusal ≡ k
 unfolding chosenFor
-chosen-number zero s = refl
-chosen-number (suc k) s = refl
+chosen-number zero r = refl
+chosen-number (suc k) r = refl
+
+module _ (k : ℕ) (r : Round) (before : ℕ) (c : Chosen) (e : c ≡ chosenFor k r) where
+  best-number : c .refusal ≡ k
+  best-number = ap (λ (x : Chosen). x .refusal) e ∙ chosen-number k r
+
+  best-answer : k ≡ 0 → c .total ≡ total r (bestPage r)
+  unfolding chosenFor
+  best-answer z = ap (λ (x : Chosen). x .total) e ∙ ap (λ (n : ℕ). chosenFor n r .total) z
+
+  best-left : (c .refusal ≡ 0 → ⊥) → before ≡ unlessRefused k (total r (bestPage r)) before
+  best-left h = refused-leaves k (c .refusal) (total r (bestPage r)) before best-number h
+
+  best-put : c .refusal ≡ 0 → c .total ≡ unlessRefused k (total r (bestPage r)) before
+  best-put z = answered k (c .refusal) (total r (bestPage r)) before (c .total) best-number z best-answer
 
 module _ (s out : List ℕ) (before : ℕ) (c : Chosen) (out′ : List ℕ) (given : BestGiven s out c out′) where
-  best-number : c .refusal ≡ bestRefusal s out
-  best-number = ap (λ (x : Chosen). x .refusal) (given .returned) ∙ chosen-number (bestRefusal s out) s
-
-  best-answer : bestRefusal s out ≡ 0 → c .total ≡ total (roundOf s) (bestPage (roundOf s))
-  unfolding chosenFor
-  best-answer z = ap (λ (x : Chosen). x .total) (given .returned) ∙ ap (λ (n : ℕ). chosenFor n s .total) z
-
   pub best-refused : (c .refusal ≡ 0 → ⊥) → BestPageGiven s out before (c .refusal) out′ before
   best-refused h =
       record {
-        number = best-number;
+        number = best-number (bestRefusal s out) (roundOf s) before c (given .returned);
         buffer = given .buffer;
-        written = refused-leaves (bestRefusal s out) (c .refusal) (total (roundOf s) (bestPage (roundOf s))) before best-number h;
+        written = best-left (bestRefusal s out) (roundOf s) before c (given .returned) h;
       }
 
   pub best-answered : c .refusal ≡ 0 → BestPageGiven s out before 0 out′ (c .total)
   best-answered z =
       record {
-        number = sym z ∙ best-number;
+        number = sym z ∙ best-number (bestRefusal s out) (roundOf s) before c (given .returned);
         buffer = given .buffer;
-        written = answered (bestRefusal s out) (c .refusal) (total (roundOf s) (bestPage (roundOf s))) before (c .total) best-number z best-answer;
+        written = best-put (bestRefusal s out) (roundOf s) before c (given .returned) z;
+      }
+
+module _ (f s out : List ℕ) (before : ℕ) (c : Chosen) (out′ : List ℕ) (given : BestFloorsGiven f s out c out′) where
+  pub floors-best-refused : (c .refusal ≡ 0 → ⊥) → BestFloorsPageGiven f s out before (c .refusal) out′ before
+  floors-best-refused h =
+      record {
+        number = best-number (bestFloorsRefusal f s out) (withFloors (roundOf s) f) before c (given .returned);
+        buffer = given .buffer;
+        written = best-left (bestFloorsRefusal f s out) (withFloors (roundOf s) f) before c (given .returned) h;
+      }
+
+  pub floors-best-answered : c .refusal ≡ 0 → BestFloorsPageGiven f s out before 0 out′ (c .total)
+  floors-best-answered z =
+      record {
+        number = sym z ∙ best-number (bestFloorsRefusal f s out) (withFloors (roundOf s) f) before c (given .returned);
+        buffer = given .buffer;
+        written = best-put (bestFloorsRefusal f s out) (withFloors (roundOf s) f) before c (given .returned) z;
       }
 
 bounds-number : (k : ℕ) (s : List ℕ) (i : ℕ) → boundsFor k s i .refusal ≡ k

@@ -6,7 +6,8 @@ use mathlib.Core.Logic.{_⊎_, ⊎-elim}
 use mathlib.Core.Path.{_≡_, refl, sym, _∙_, ap, ap₂, subst}
 use native.Mathlib.Nat.{not-suc-le-zero, zero-mod}
 use native.Mathlib.Omega.{arith}
-use Rattle.basis.proofs.RowLaws.{length-padded, getD-padded, getD-padded-after}
+use lib.ListN.{length-replicate}
+use Rattle.basis.proofs.RowLaws.{length-padded, getD-padded, getD-padded-after, zeros}
 use Rattle.sheet.specs.declared.Constraint.{Constraint}
 use Rattle.sheet.specs.Sheet.{
   version,
@@ -22,7 +23,7 @@ use Rattle.sheet.specs.Sheet.{
   otherSlotField,
 }
 use Rattle.sheet.specs.Refusal.{constraintBelow, Accepted}
-use Rattle.sheet.specs.Round.{kindOf, constraintField, writtenOwn, writtenOther, writtenOthers, standsBelow, blank, roundOf, bidOf, effectOf, constraintAt, Has, SheetHas}
+use Rattle.sheet.specs.Round.{kindOf, constraintField, writtenOwn, writtenOther, writtenOthers, standsBelow, blank, roundOf, bidOf, effectOf, floorOf, constraintAt, Has, SheetHas}
 use Rattle.sheet.proofs.AcceptedLaws.{accepted-sheet, constraints-rise}
 use Rattle.sheet.specs.Accepted.{ConstraintAccepted, AcceptedSheet}
 use Rattle.sheet.specs.Proper.{ProperKind, Proper, ProperRound}
@@ -74,6 +75,12 @@ round-tick s = refl
 pub round-version : (s : List ℕ) → roundOf s .version ≡ version s
 unfolding roundOf
 round-version s = refl
+
+-- and it has no floors
+pub no-floor : (s : List ℕ) (k : ℕ) → floorOf (roundOf s) k ≡ 0
+unfolding roundOf floorOf
+no-floor s zero = refl
+no-floor s (suc k) = zeros 16 k
 
 module _ (s : List ℕ) (ok : Accepted s) where
   facts : AcceptedSheet s
@@ -179,12 +186,14 @@ module _ (s : List ℕ) (ok : Accepted s) where
         some-tick = facts .counts .some-tick;
         most-tick = facts .counts .most-tick;
         sized-effects = length-padded (λ k. effectField s (suc k)) (slotCount s) 16 0 (facts .counts .most-slots);
+        sized-floors = length-replicate {A = ℕ} 16 0;
         sized-bids = length-padded (λ i. bidField s (suc i)) (bidderCount s) 64 0 (facts .counts .most-bidders);
         sized-constraints = length-padded (constraintField s) (constraintCount s) 1024 blank (facts .counts .most-constraints);
         most-bid = low-bid;
         in-ticks = bid-in-ticks;
         most-effect = low-effect;
         no-rise = effects-fall;
+        most-floor = λ k. let e = no-floor s k in omega arith;
         proper = λ q h. subst Proper (sym (round-constraint (h .0) (h .1)) ∙ h .2) (field-proper (h .0) (h .1));
         rising = constraints-in-order;
       }

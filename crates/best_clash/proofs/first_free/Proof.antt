@@ -1,4 +1,4 @@
--- `best_clash::first_free` meets its contract: the round's seats without those that are shut from the start. Assumes nothing.
+-- `best_clash::first_free` meets its contract: the open seats without those that are shut from the start. Assumes nothing.
 use Prim.Native.Nat.{ℕ, _+_, _*_}
 use mathlib.Core.Bool.{Bool, not, _&&_}
 use mathlib.Core.Path.{_∙_, ap, ap₂}
@@ -11,25 +11,25 @@ use Rattle.best_clash.proofs.first_free.Tie as tie
 always-requires : tie.Need-always-requires
 always-requires c κs = search needs
 
-all-seats-requires : tie.Need-all-seats-requires
-all-seats-requires c κs = search needs
+open-seats-requires : tie.Need-open-seats-requires
+open-seats-requires c κs = search needs
 
-cast-t6 : tie.Need-cast-t6
-cast-t6 c = search needs
+cast-t9 : tie.Need-cast-t9
+cast-t9 c = search needs
 
-mul-t7 : tie.Need-mul-t7
-mul-t7 c = search needs
+mul-t10 : tie.Need-mul-t10
+mul-t10 c = search needs
 
-element-copy-out-t10 : tie.Need-element-copy-out-t10
-element-copy-out-t10 c = search needs
+element-copy-out-t13 : tie.Need-element-copy-out-t13
+element-copy-out-t13 c = search needs
 
 without-requires : tie.Need-without-requires
 without-requires c κs = search needs
 
 returns : tie.Need-returns
 returns c =
-    let seats = c .before .before .before .all-seats .ensures in
-    let table = c .before .before .before .before .before .args .table .now in
+    let seats = c .before .before .before .open-seats .ensures in
+    let table = c .before .before .before .before .before .before .before .before .args .table .now in
     record {
       low = c .without .ensures .1 _ (seats .0);
       told = λ l i l-low i-low.
@@ -43,9 +43,9 @@ first-free-spec =
     tie.close
     (tie.spec
     always-requires
-    all-seats-requires
-    cast-t6
-    mul-t7
-    element-copy-out-t10
+    open-seats-requires
+    cast-t9
+    mul-t10
+    element-copy-out-t13
     without-requires
     returns)

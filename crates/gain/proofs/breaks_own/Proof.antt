@@ -41,7 +41,7 @@ start c = c .before .before .before .before .before
 -- the constraint that a turn reads is the round's
 read : (c : tie.After-constraint-at Inv-loop μ-loop) →
     c .constraint-at .result ≡ constraintAt (roundOf (start (c .before) .args .truth .now)) (c .before .before .loop .a)
-read c = c .constraint-at .ensures ∙ sym (round-constraint _ (start (c .before) .pre) _ (omega arith))
+read c = c .constraint-at .ensures ∙ sym (round-constraint _ (start (c .before) .pre .0) _ (omega arith))
 
 -- and what it tests is the round's too
 tested : (c : tie.After-own-broken Inv-loop μ-loop) →
@@ -50,28 +50,31 @@ tested : (c : tie.After-own-broken Inv-loop μ-loop) →
 tested c = c .own-broken .ensures ∙ ap (ownBroken _ _) (read (c .before))
 
 constraint-count-requires : tie.Need-constraint-count-requires Inv-loop μ-loop
-constraint-count-requires c κs = c .before .pre
+constraint-count-requires c κs = c .before .pre .0
 
 constraints-start-requires : tie.Need-constraints-start-requires Inv-loop μ-loop
-constraints-start-requires c κs = c .before .before .pre
+constraints-start-requires c κs = c .before .before .pre .0
 
 loop-holds : tie.Need-loop-holds Inv-loop μ-loop
 unfolding anyBelow
 loop-holds c = (omega arith, refl)
 
 constraint-at-requires : tie.Need-constraint-at-requires Inv-loop μ-loop
-constraint-at-requires c κs = (c .before .before .constraints-start .ensures, omega (arith, accepted-sheet _ (start c .pre) .counts))
+constraint-at-requires c κs = (c .before .before .constraints-start .ensures, omega (arith, accepted-sheet _ (start c .pre .0) .counts))
 
 own-broken-requires : tie.Need-own-broken-requires Inv-loop μ-loop
 unfolding roundOf
-own-broken-requires c κs = subst Proper (sym (read c)) (round-proper _ (start (c .before) .pre) .proper _ (c .before .before .loop .a, omega arith, refl))
+own-broken-requires c κs = (
+  subst Proper (sym (read c)) (round-proper _ (start (c .before) .pre .0) .proper _ (c .before .before .loop .a, omega arith, refl)),
+  start (c .before) .pre .1,
+)
 
 returns : tie.Need-returns Inv-loop μ-loop
 unfolding breaksOwn roundOf
 returns c = sym (any-at _ _ (c .before .before .before .before .loop .a) (omega arith) (sym (tested (c .before)) ∙ c .if1 .taken))
 
 add-a : tie.Need-add-a Inv-loop μ-loop
-add-a c = omega (arith, accepted-sheet _ (start (c .before .before .before) .pre) .counts)
+add-a c = omega (arith, accepted-sheet _ (start (c .before .before .before) .pre .0) .counts)
 
 loop-less : tie.Need-loop-less Inv-loop μ-loop
 loop-less c = omega arith

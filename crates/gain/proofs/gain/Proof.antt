@@ -1,64 +1,41 @@
--- `gain::gain` meets its contract, by the cases of the call. Assumes nothing.
+-- `gain::gain` meets its contract, by the cases of the call; an accepted sheet is played with floors of 0. Assumes nothing.
 use mathlib.Core.Path.{_≡_, sym, _∙_}
-use mir.Facts.{toZ-ofZ}
-use mir.Syntax.{w64}
-use native.Mathlib.Omega.{arith}
+use Rattle.basis.proofs.RowLaws.{zeros}
 use Rattle.sheet.specs.Refusal.{Accepted}
 use Rattle.sheet.proofs.AcceptedLaws.{accepted-sheet}
-use Rattle.gain.specs.Call.{laterRefusal}
-use Rattle.gain.proofs.CallLaws.{played-refused, later-refused, later-accepted, gained}
+use Rattle.sheet.proofs.FloorLaws.{zeros-proper, without-floors}
+use Rattle.gain.proofs.CallLaws.{played-refused, accepted-gains}
 use borrow.Author.Needs.{needs}
 use Rattle.gain.proofs.gain.Statement.{statement}
 use Rattle.gain.proofs.gain.Tie as tie
 
--- where the call started
-abbrev start : tie.Else1 → tie.Start
-start c = c .before .before .before .before
-
--- its played sheet is accepted
-accepted : (c : tie.Else1) → Accepted (start c .args .played .now)
+-- past the check the played sheet is accepted
+accepted : (c : tie.Else1) → Accepted (c .before .before .before .before .args .played .now)
 accepted c = sym (c .before .check .ensures) ∙ c .if1 .left
-
--- and 14 to 17 leave it
-none-later : (c : tie.Else2) →
-    let given = start (c .before .before) .args in
-    laterRefusal (given .played .now) (given .truth .now) (given .bidder) (given .worth) ≡ 0
-none-later c = sym (c .before .later-refusal .ensures) ∙ c .if2 .left
 
 check-requires : tie.Need-check-requires
 check-requires c κs = search needs
 
-returns : tie.Need-returns
-returns c = played-refused _ _ _ _ _ (c .before .check .ensures) (c .if1 .taken)
+refused-requires : tie.Need-refused-requires
+refused-requires c κs = search needs
 
-later-refusal-requires : tie.Need-later-refusal-requires
-later-refusal-requires c κs = accepted c
+returns : tie.Need-returns
+returns c = c .refused .ensures ∙ played-refused _ _ _ _ _ (c .before .before .check .ensures) (c .before .if1 .taken)
+
+slice-aggregate-gain-accepted : tie.Need-slice-aggregate-gain-accepted
+slice-aggregate-gain-accepted c = search needs
+
+gain-accepted-requires : tie.Need-gain-accepted-requires
+gain-accepted-requires c κs =
+    let ok = accepted (c .before) in
+    (ok, zeros-proper _ (accepted-sheet _ ok .counts .most-slots))
 
 returns-2 : tie.Need-returns-2
-returns-2 c = later-refused _ _ _ _ _ (accepted (c .before .before)) (c .before .later-refusal .ensures) (c .if2 .taken)
-
-cast-t9 : tie.Need-cast-t9
-cast-t9 c = omega (arith, later-accepted _ _ _ _ (none-later c) .in-range, accepted-sheet _ (accepted (c .before .before)) .counts)
-
-gain-of-requires : tie.Need-gain-of-requires
-gain-of-requires c κs = let facts = later-accepted _ _ _ _ (none-later c) in (accepted (c .before .before), facts .truth, facts .low, facts .some)
-
-returns-3 : tie.Need-returns-3
-returns-3 c =
-    (λ j. record {
-      refusal = 0;
-      gain = (toZ-ofZ {w = w64} {z = c .gain-of .result} (record { sfits = c .gain-of .ok }) ∙ c .gain-of .ensures) j;
-    })
-    ∙ gained _ _ _ _ (accepted (c .before .before .before)) (none-later (c .before))
+returns-2 c =
+    let ok = accepted (c .before .before) in
+    c .gain-accepted .ensures ∙ accepted-gains _ _ _ _ _ ok (without-floors _ _ (accepted-sheet _ ok .counts .most-slots) (λ k l. zeros 16 k))
 
 pub gain-spec : {M : Type 1} → statement M
 gain-spec =
     tie.close
-    (tie.spec
-    check-requires
-    returns
-    later-refusal-requires
-    returns-2
-    cast-t9
-    gain-of-requires
-    returns-3)
+    (tie.spec check-requires refused-requires returns slice-aggregate-gain-accepted gain-accepted-requires returns-2)

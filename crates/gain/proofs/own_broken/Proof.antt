@@ -2,13 +2,14 @@
 use borrow.Author.Tests.{eq-eqb, ne-eqb}
 use mathlib.Core.Bool.{Bool, _&&_}
 use mathlib.Core.Path.{sym, _∙_, ap}
+use Rattle.auction.specs.Page.{placed}
 use Rattle.auction.specs.Broken.{broken}
 use borrow.Author.Needs.{needs}
 use Rattle.gain.proofs.own_broken.Statement.{statement}
 use Rattle.gain.proofs.own_broken.Tie as tie
 
 is-broken-requires : tie.Need-is-broken-requires
-is-broken-requires c κs = search needs
+is-broken-requires c κs = (c .before .before .before .before .pre .0, ap (placed (c .before .before .before .before .args .page)) (c .if1 .taken) ∙ c .before .before .before .before .pre .1)
 
 returns : tie.Need-returns
 returns c =

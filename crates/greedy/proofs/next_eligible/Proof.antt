@@ -16,20 +16,20 @@ use Rattle.greedy.proofs.next_eligible.Statement.{statement}
 use Rattle.greedy.proofs.next_eligible.Tie as tie
 
 -- none of the bidders from `start` to before i is eligible
-record Going (s ranked barred held : List ℕ) (bidders slot start i : ℕ) : Type 0 where
+record Going (s ranked barred held bids : List ℕ) (floor bidders slot start i : ℕ) : Type 0 where
   low : start ≤ i
   high : i ≤ bidders
-  passed : (q : Round) (p : Page) → SoFar q p s barred held slot → (j : ℕ) → start ≤ j → j < i → eligible q p slot (getD ranked j 0) ≡ false
+  passed : (q : Round) (p : Page) → SoFar q p s barred held bids floor slot → (j : ℕ) → start ≤ j → j < i → eligible q p slot (getD ranked j 0) ≡ false
 
 abbrev Inv-loop : tie.InvT-loop
-Inv-loop ranked barred held last links sheet start bidders slot from i₀ i = Going sheet ranked barred held bidders (slot .0) from i
+Inv-loop ranked barred held last links sheet start bids floor bidders slot from i₀ i = Going sheet ranked barred held bids floor bidders (slot .0) from i
 
 abbrev μ-loop : tie.MeasureT-loop
-μ-loop ranked barred held last links sheet start bidders slot from i₀ i = bidders - i
+μ-loop ranked barred held last links sheet start bids floor bidders slot from i₀ i = bidders - i
 
 loop-holds : tie.Need-loop-holds Inv-loop μ-loop
 loop-holds c =
-    let p = c .before .before .before .before .before .before .pre .1 .0 in
+    let p = c .before .before .before .before .before .before .before .pre .1 .0 in
     record {
       low = omega arith;
       high = omega arith;
@@ -38,28 +38,28 @@ loop-holds c =
 
 ranked-at-requires : tie.Need-ranked-at-requires Inv-loop μ-loop
 ranked-at-requires c κs =
-    let p = c .before .before .before .before .before .before .before .before .pre .1 .0 in
+    let p = c .before .before .before .before .before .before .before .before .before .pre .1 .0 in
     let below = c .loop-test .taken in
     omega arith
 
 eligibility-requires : tie.Need-eligibility-requires Inv-loop μ-loop
 eligibility-requires c κs =
-    let p = c .before .before .before .before .before .before .before .before .before .pre in
+    let p = c .before .before .before .before .before .before .before .before .before .before .pre in
     let named = p .1 .1 (c .before .before .loop .i) (c .before .loop-test .taken) in
     let b = c .ranked-at .ensures in
     let few = p .1 .0 .1 in
-    (p .0, ((omega arith, omega arith), p .1 .0 .3))
+    (p .0, ((omega arith, omega arith, omega arith), p .1 .0 .4))
 
 -- what the step said of the bidder at this rank
 said : (c : tie.After-fails-none Inv-loop μ-loop) → (q : Round) (p : Page) →
-    SoFar q p (c .before .before .before .before .before .before .before .before .before .before .before .args .sheet .now) (c .before .before .before .before .before .before .before .before .before .before .before .args .barred .now) (c .before .before .before .before .before .before .before .before .before .before .before .args .held .now) (c .before .before .before .before .before .before .before .before .before .before .before .args .slot .0) →
-    eligible q p (c .before .before .before .before .before .before .before .before .before .before .before .args .slot .0) (getD (c .before .before .before .before .before .before .before .before .before .before .before .args .ranked .now) (c .before .before .before .before .loop .i) 0) ≡ c .fails-none .result
+    SoFar q p (c .before .before .before .before .before .before .before .before .before .before .before .before .args .sheet .now) (c .before .before .before .before .before .before .before .before .before .before .before .before .args .barred .now) (c .before .before .before .before .before .before .before .before .before .before .before .before .args .held .now) (c .before .before .before .before .before .before .before .before .before .before .before .before .args .bids .now) (c .before .before .before .before .before .before .before .before .before .before .before .before .args .floor) (c .before .before .before .before .before .before .before .before .before .before .before .before .args .slot .0) →
+    eligible q p (c .before .before .before .before .before .before .before .before .before .before .before .before .args .slot .0) (getD (c .before .before .before .before .before .before .before .before .before .before .before .before .args .ranked .now) (c .before .before .before .before .loop .i) 0) ≡ c .fails-none .result
 unfolding eligible
 said c q p far =
     sym
     (c .fails-none .ensures
     ∙ ap (λ (x : ℕ). eqb x 0) (c .before .eligibility .ensures q p far)
-    ∙ ap (eligible q p (c .before .before .before .before .before .before .before .before .before .before .before .args .slot .0)) (c .before .before .ranked-at .ensures))
+    ∙ ap (eligible q p (c .before .before .before .before .before .before .before .before .before .before .before .before .args .slot .0)) (c .before .before .ranked-at .ensures))
 
 fails-none-requires : tie.Need-fails-none-requires Inv-loop μ-loop
 fails-none-requires c κs = tt
@@ -79,7 +79,7 @@ returns c =
 
 add-i : tie.Need-add-i Inv-loop μ-loop
 add-i c =
-    let p = c .before .before .before .before .before .before .before .before .before .before .before .before .pre .1 .0 in
+    let p = c .before .before .before .before .before .before .before .before .before .before .before .before .before .pre .1 .0 in
     let below = c .before .before .before .before .loop-test .taken in
     omega arith
 
@@ -90,7 +90,7 @@ loop-less c =
 
 loop-again : tie.Need-loop-again Inv-loop μ-loop
 loop-again c =
-    let a = c .before .before .before .before .before .before .before .before .before .before .before .before .args in
+    let a = c .before .before .before .before .before .before .before .before .before .before .before .before .before .args in
     let v = c .before .before .before .before .before .loop .inv in
     let low = v .low in
     let below = c .before .before .before .before .loop-test .taken in

@@ -1,6 +1,6 @@
 -- `greedy_links::link_all` meets its contract: after i turns the first i constraints are linked. Assumes nothing.
 use Prim.Native.Nat.{ℕ, _-_, _≤_}
-use mathlib.Core.Path.{refl, sym, _∙_, ap, subst}
+use mathlib.Core.Path.{refl, sym, _∙_, subst}
 use native.Mathlib.Nat.{le-antisymm}
 use native.Mathlib.Numerals.{add-one}
 use native.Mathlib.Omega.{arith}
@@ -68,20 +68,18 @@ loop-again c =
     (omega arith, rw (add-one (c .before .before .before .before .before .before .before .before .before .loop .i)) (c .before .before .before .before .enter .ensures (c .before .before .before .before .before .before .before .before .before .before .accepted-round .result) refl (c .before .before .before .before .before .before .before .before .before .loop .inv .1)))
 
 same-length : tie.Need-same-length Inv-loop μ-loop
-same-length c = c .before .before .loop .inv .1 .sized-last ∙ sym (c .before .before .before .before .before .before .before .pre .1 .sized-last)
+same-length c = c .before .loop .inv .1 .sized-last ∙ sym (c .before .before .before .before .before .before .pre .1 .sized-last)
 
 same-length-2 : tie.Need-same-length-2 Inv-loop μ-loop
-same-length-2 c = c .before .before .loop .inv .1 .sized-links ∙ sym (c .before .before .before .before .before .before .before .pre .1 .sized-links)
+same-length-2 c = c .before .loop .inv .1 .sized-links ∙ sym (c .before .before .before .before .before .before .pre .1 .sized-links)
 
 returns : tie.Need-returns Inv-loop μ-loop
 returns c =
-    let l = c .before .before .loop in
-    let made = c .before .before .before .accepted-round .ensures in
-    let end = le-antisymm (l .inv .0) (c .before .loop-test .left) in (
-      ap (λ (r : Round). r .bids) made,
-      subst (λ (r : Round). Linked r (r .used) (l .last) (l .links)) made
-          (subst (λ (n : ℕ). Linked (c .before .before .before .accepted-round .result) n (l .last) (l .links)) end (l .inv .1)),
-    )
+    let l = c .before .loop in
+    let made = c .before .before .accepted-round .ensures in
+    let end = le-antisymm (l .inv .0) (c .loop-test .left) in
+    subst (λ (r : Round). Linked r (r .used) (l .last) (l .links)) made
+    (subst (λ (n : ℕ). Linked (c .before .before .accepted-round .result) n (l .last) (l .links)) end (l .inv .1))
 
 pub link-all-spec : {M : Type 1} → statement M
 link-all-spec =

@@ -30,6 +30,7 @@ roundWith s constraints =
       tick = tickField s;
       version = version s;
       effects = padded (λ k. effectField s (suc k)) (slotCount s) 16 0;
+      floors = replicate 16 0;
       bids = padded (λ i. bidField s (suc i)) (bidderCount s) 64 0;
       constraints = constraints;
     }
@@ -111,6 +112,7 @@ loop-holds c =
         tick = (c .before .before .before .before .tick-of .ensures) i;
         version = (c .before .word162 .ensures .0) i;
         effects = (c .before .before .before .read-effects .ensures) i;
+        floors = replicate 16 0;
         bids = (c .before .before .read-bids .ensures) i;
         constraints = (ap (replicate 1024) (c .blank-constraint .ensures) ∙ sym (padded-none (constraintField s) 1024 blank)) i;
       },
@@ -137,11 +139,11 @@ cast-kind-of-3 c = search needs
 kind-of-requires : tie.Need-kind-of-requires Inv-loop μ-loop
 kind-of-requires c κs = search needs
 
-cast-t33 : tie.Need-cast-t33 Inv-loop μ-loop
-cast-t33 c = search needs
+cast-t34 : tie.Need-cast-t34 Inv-loop μ-loop
+cast-t34 c = search needs
 
-mul-t23 : tie.Need-mul-t23 Inv-loop μ-loop
-mul-t23 c = omega (arith, room _ (c .before .before .before .before .before .before .before .before .before .before .before .before .before .before .pre))
+mul-t24 : tie.Need-mul-t24 Inv-loop μ-loop
+mul-t24 c = omega (arith, room _ (c .before .before .before .before .before .before .before .before .before .before .before .before .before .before .pre))
 
 element-set-from-round : tie.Need-element-set-from-round Inv-loop μ-loop
 element-set-from-round c = omega (arith, room _ (c .before .before .before .before .before .before .before .before .before .before .before .before .before .before .pre))
@@ -201,8 +203,8 @@ accepted-round-spec =
     cast-kind-of-2
     cast-kind-of-3
     kind-of-requires
-    cast-t33
-    mul-t23
+    cast-t34
+    mul-t24
     element-set-from-round
     add-k
     loop-less
