@@ -37,15 +37,15 @@ pub fn show(rows: &[Row]) -> ExitCode {
         eprintln!("Neither perf nor valgrind counts instructions on this machine.");
         return ExitCode::FAILURE;
     };
-    println!("{} library instructions | Rust instructions | library / Rust | without floors | with / without |", crate::TITLES);
-    println!("{}---------------------:|------------------:|---------------:|---------------:|---------------:|", crate::RULES);
+    println!("{} library instructions | Rust instructions | library / Rust | without floors | with floors / without |", crate::TITLES);
+    println!("{}---------------------:|------------------:|---------------:|---------------:|----------------------:|", crate::RULES);
     for (at, row) in rows.iter().enumerate() {
         let [library, rust] = [LIBRARY, RUST].map(|engine| a_call(counter, engine, at));
         let ratio = library as f64 / rust as f64;
         let first = row.call.first_form().map(|_| a_call(counter, FIRST, at));
         let without = first.map_or(String::new(), |first| first.to_string());
         let more = first.map_or(String::new(), |first| format!("{:.3}", library as f64 / first as f64));
-        println!("{} {library:>20} | {rust:>17} | {ratio:>14.2} | {without:>14} | {more:>14} |", crate::title(row.part, row));
+        println!("{} {library:>20} | {rust:>17} | {ratio:>14.2} | {without:>14} | {more:>21} |", crate::title(row.part, row));
     }
     ExitCode::SUCCESS
 }
