@@ -1,32 +1,43 @@
 -- The three demands, and what the requests of document 02 that have landed add. Assumes nothing.
-use Prim.Native.Nat.{ℕ, suc, _≤_}
-use mathlib.Core.List.{List, _++_}
-use mathlib.Core.Path.{_≡_, sym, _∙_, ap}
-use lib.ListN.{length, drop}
+use Prim.Native.Nat.{ℕ}
+use mathlib.Core.Path.{_≡_, sym, _∙_}
 use Rattle.basis.specs.First.{unlessRefused}
-use Rattle.basis.specs.Rows.{row}
 use Rattle.basis.proofs.FirstLaws.{refused-leaves, answered-gives}
-use Rattle.sheet.specs.Sheet.{bidderCount, slotCount}
-use Rattle.sheet.specs.Refusal.{Accepted}
-use Rattle.sheet.specs.Round.{roundOf}
-use Rattle.sheet.proofs.RoundLaws.{round-proper, round-slots}
-use Rattle.auction.specs.Page.{at}
+use Rattle.sheet.specs.Round.{roundOf, withFloors}
+use Rattle.sheet.proofs.RoundLaws.{no-floor}
 use Rattle.auction.specs.Allowed.{total}
 use Rattle.auction.proofs.BrokenLaws.{eligible-sentence}
-use Rattle.play.specs.Play.{playRefusal, playedBuffer}
+use Rattle.play.specs.Play.{playRefusal, playFloorsRefusal, playedBuffer}
 use Rattle.downward.specs.Downward.{downward}
 use Rattle.downward.specs.Call.{testRefusal}
 use Rattle.gain.specs.Gain.{gainOf}
-use Rattle.gain.specs.Call.{gainRefusal}
+use Rattle.gain.specs.Call.{gainRefusal, gainFloorsRefusal}
 use Rattle.best_page.specs.BestPage.{bestPage}
-use Rattle.best_page.proofs.BestPageLaws.{best-page}
-use Rattle.best_search.specs.Call.{bestRefusal, bestBuffer}
-use Rattle.best_search.proofs.CallLaws.{best-unrefused}
+use Rattle.best_search.specs.Call.{bestRefusal, bestFloorsRefusal, bestBuffer}
 use Rattle.owner_part.specs.OwnerPart.{partRefusal, bytesBefore, partLength}
-use Rattle.pas.specs.Calls.{yesNumber, BestPageGiven}
-use Rattle.demands.specs.Demands.{Owed, DemandOne, BestRight, DemandTwo, DemandThree, RequestThree, RequestFour, RequestFive}
-use Rattle.demands.proofs.PlayLaws.{played-number, played-right}
-use Rattle.demands.proofs.HonestLaws.{honest-demand}
+use Rattle.pas.specs.Calls.{yesNumber}
+use Rattle.demands.specs.Demands.{Owed, DemandOne, DemandTwo, DemandThree, RequestThree, RequestFour, RequestFive, RequestSeven}
+use Rattle.demands.proofs.FloorsLaws.{
+  play-without,
+  gain-without,
+  best-without,
+  floors-are,
+  eligible-only,
+  played-with,
+  played-without,
+  floor-counted,
+  alone,
+  best-with,
+  best-plain,
+  allowed-without,
+  sheet-first,
+  thirty,
+  thirty-one,
+  play-then,
+  gain-then,
+  best-then,
+}
+use Rattle.demands.proofs.HonestLaws.{honest-with, honest-demand}
 use Rattle.demands.proofs.AnswerLaws.{answered-in-order}
 use Rattle.demands.proofs.TickLaws.{request-four-holds}
 use Rattle.demands.proofs.OwnerOrderLaws.{request-five-holds}
@@ -66,32 +77,27 @@ demand-one =
             refused = λ h. (place .refused h, bytes .refused h);
             answered = λ z. (place .answered z, bytes .answered z);
           };
+      play-floors = λ f s out out′ number g.
+          owed number (playFloorsRefusal f s out) (playedBuffer (withFloors (roundOf s) f) out) out out′ (g .number) (g .buffer);
+      gain-floors = λ f s t i worth before number after g.
+          owed number (gainFloorsRefusal f s t i worth) (gainOf (withFloors (roundOf s) f) (roundOf t) i worth) before after (g .number) (g .written);
+      best-floors = λ f s out out′ before number after g.
+          let r = withFloors (roundOf s) f in
+          let buffer = owed number (bestFloorsRefusal f s out) (bestBuffer r out) out out′ (g .number) (g .buffer) in
+          let sum = owed number (bestFloorsRefusal f s out) (total r (bestPage r)) before after (g .number) (g .written) in
+          record {
+            first-number = g .number;
+            refused = λ h. (buffer .refused h, sum .refused h);
+            answered = λ z. (buffer .answered z, sum .answered z);
+          };
     }
 
--- Demand 2: the result's page and prices, and the best page.
-best-right : (s out out′ : List ℕ) (before number after : ℕ) → Accepted s → bidderCount s ≤ 8 → slotCount s ≤ 8 → slotCount s ≤ length out →
-    BestPageGiven s out before number out′ after → (number ≡ 0) × BestRight s out out′ after
-unfolding bestBuffer
-best-right s out out′ before number after ok few-bidders few-slots room g =
-    let none = best-unrefused s out ok few-bidders few-slots room in
-    let proper = round-proper s ok in (
-      g .number ∙ none,
-      record {
-        page = bestPage (roundOf s);
-        best = best-page (roundOf s) (proper .most-slots) proper;
-        said =
-            g .buffer
-            ∙ sym (answered-gives (bestRefusal s out) (bestBuffer (roundOf s) out) out none)
-            ∙ ap (λ (m : ℕ). row (λ k. at (bestPage (roundOf s)) (suc k)) m ++ drop m out) (round-slots s);
-        own-total = g .written ∙ sym (answered-gives (bestRefusal s out) (total (roundOf s) (bestPage (roundOf s))) before none);
-      },
-    )
-
+-- Demand 2: the result's page and prices, and the best page, with floors of 0.
 pub demand-two : DemandTwo
 demand-two =
     record {
-      play = λ s out out′ number ok room g. (played-number s out out′ number ok room g, played-right s out out′ number ok room g);
-      best = best-right;
+      play = played-without;
+      best = best-plain;
     }
 
 -- Demand 3: from the theorem over what the calls return.
@@ -109,3 +115,27 @@ request-four = request-four-holds
 -- Request S-5: the order of the conditions in version 2, and one bidder's part.
 pub request-five : RequestFive
 request-five = request-five-holds
+
+-- Request S-7: a floor under each place.
+pub request-seven : RequestSeven
+request-seven =
+    record {
+      play-without = play-without;
+      gain-without = gain-without;
+      best-without = best-without;
+      floors-are = floors-are;
+      no-floors = no-floor;
+      eligible-only = eligible-only;
+      play = played-with;
+      floor-counted = floor-counted;
+      alone = alone;
+      best = best-with;
+      allowed-without = allowed-without;
+      honest = honest-with;
+      sheet-first = sheet-first;
+      thirty = thirty;
+      thirty-one = thirty-one;
+      play-then = λ f s out right. play-then f s right out;
+      gain-then = λ f s t i worth right. gain-then f s right t i worth;
+      best-then = λ f s out right. best-then f s right out;
+    }

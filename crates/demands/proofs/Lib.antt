@@ -1,5 +1,6 @@
 -- The three demands and the requests' promises, and what they rest on.
 pub mod PlayLaws
+pub mod FloorsLaws
 pub mod HonestLaws
 pub mod AnswerLaws
 pub mod TickLaws

@@ -150,7 +150,7 @@ pub record AnsweredInOrder (r : Round) (p : Page) (k b : ℕ) (answer : Eligibil
 
 pub record RequestThree : Type 0 where
   -- the step (`eligibility`, greedy/src/lib.rt) promises the equation, for each round and page that the engine is filling; page and prices take who
-  -- is eligible from its answers, and from nowhere else
+  -- is eligible from its answers, and that nobody else is from the first bid below the floor, in falling order of bids
   pub step : (r : Round) (p : Page) (k b : ℕ) (answer : Eligibility) → failedTest answer ≡ firstFailed r p k b → AnsweredInOrder r p k b answer
   -- "An unplaced bidder is eligible for place k if, with the places already filled and it at k, neither its own conditions nor those of an earlier
   -- winner are broken." A floor is reached by every bid where it is 0, as in a call without floors.

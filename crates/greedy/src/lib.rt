@@ -108,7 +108,8 @@ fn fails_none(answer: Eligibility) -> bool
     }
 }
 
-// The first rank from `from` on whose bidder is eligible, or the number of bidders.
+// The first rank from `from` on whose bidder is eligible, or the number of bidders. Bids fall from rank to rank, so the search ends at the first bid
+// below the floor; of every other bidder the step decides.
 fn next_eligible(
     ranked: &[u8],
     barred: &[u8],
@@ -125,13 +126,16 @@ fn next_eligible(
 ) -> usize
     requires { ⌜ (length (now barred) ≡ 1089) × (length (now held) ≡ 1089) × Kept (now sheet) start (now last) (now links) ⌝ }
     requires { ⌜ (from ≤ bidders) × (bidders ≤ 64) × (bidders ≤ length (now ranked)) × (bidders ≤ length (now bids)) × ((0 < slot .0) × (slot .0 ≤ 16)) ⌝ }
-    requires { ⌜ ((i : ℕ) → i < bidders → (0 < getD (now ranked) i 0) × (getD (now ranked) i 0 ≤ bidders)) ⌝ }
+    requires { ⌜ InOrder (bidIn (now bids)) bidders (now ranked) ⌝ }
     ensures { λ r. ⌜ r ≤ bidders ⌝ }
     ensures { λ r. ⌜ ((q : Round) (p : Page) → SoFar q p (now (sheet .entry)) (now (barred .entry)) (now (held .entry)) (now (bids .entry)) floor (slot .0) → NextAt (eligible q p (slot .0)) (now (ranked .entry)) bidders from r) ⌝ }
 {
     let mut i: usize = from;
     while i < bidders {
         let bidder = choice::ranked_at(ranked, i);
+        if is_below(bids, floor, bidder) {
+            return bidders;
+        }
         let answer = eligibility(
             barred,
             held,

@@ -16,14 +16,14 @@ use Rattle.sheet.specs.Refusal.{refusalOf, Accepted}
 use Rattle.sheet.specs.Round.{roundOf}
 use Rattle.sheet.proofs.AcceptedLaws.{accepted-sheet}
 use Rattle.sheet.proofs.RoundLaws.{round-proper}
-use Rattle.play.specs.Play.{playRefusal, playedBuffer, Played}
+use Rattle.play.specs.Play.{roomRefusal, playRefusal, playedBuffer, Played}
 use Rattle.page_lines.specs.Lines.{line, refusedLine, resultLine, resultLines}
 use Rattle.page_job.specs.PageText.{slotLine, textFor, pageText}
 use Rattle.play.proofs.SaidLaws.{entry-bidder, entry-price}
 
 -- 80 bytes are enough for every accepted sheet: 19 never comes up
 room-enough : (s out : List ℕ) → length out ≡ 80 → playRefusal s out ≡ refusalOf s
-unfolding playRefusal
+unfolding playRefusal roomRefusal
 room-enough s out size =
     ⊎-elim
     (λ (ok : Accepted s).

@@ -32,7 +32,7 @@ use Rattle.sheet.specs.Refusal.{
   constraintRefusal,
   refusalOf,
 }
-use Rattle.sheet.specs.Round.{kindOf, constraintField, roundOf, constraintAt, bidOf}
+use Rattle.sheet.specs.Round.{kindOf, constraintField, roundOf, constraintAt, bidOf, floorOf}
 use Rattle.choice.specs.Winner.{ranksNoLower, wins, winner}
 use Rattle.auction.specs.Page.{at, put, emptyPage, placed}
 use Rattle.auction.specs.Broken.{ownHolds, otherHolds, broken, breaksOwn}
@@ -45,5 +45,5 @@ use Rattle.page_job.specs.PageText.{slotLine, textFor, pageText}
 use Rattle.page_job.specs.Printed.{TextsPrinted}
 
 pub texts-printed : TextsPrinted
-unfolding word16At word32At firstOver row padded joined anyBelow allBelow least tickField effectsStart effectField bidField ownerField ownSlotField otherField otherSlotField formRefusal countsRefusal effectRefusal bidRefusal tickRefusal legalBid inRange fieldsRefusal termsRefusal fieldsBelow constraintBelow aboveBefore orderRefusal constraintRefusal refusalOf kindOf constraintField roundOf ranksNoLower wins winner at put emptyPage placed ownHolds otherHolds broken constraintAt bidOf breaksOwn breaksEarlier firstFailed eligible winnerAt fillSlot pageUpTo greedyPage withBid winsWith priceFor price digitsWithin decimal field line refusedLine slotLine textFor pageText
+unfolding word16At word32At firstOver row padded joined anyBelow allBelow least tickField effectsStart effectField bidField ownerField ownSlotField otherField otherSlotField formRefusal countsRefusal effectRefusal bidRefusal tickRefusal legalBid inRange fieldsRefusal termsRefusal fieldsBelow constraintBelow aboveBefore orderRefusal constraintRefusal refusalOf kindOf constraintField roundOf ranksNoLower wins winner at put emptyPage placed ownHolds otherHolds broken constraintAt bidOf floorOf breaksOwn breaksEarlier firstFailed eligible winnerAt fillSlot pageUpTo greedyPage withBid winsWith priceFor price digitsWithin decimal field line refusedLine slotLine textFor pageText
 texts-printed = refl

@@ -1,5 +1,6 @@
 -- The right-hand sides of the calls' contracts give, for every worked round, what documents 01 and 02 say of it: the antt kernel computes them from
--- the sheets' bytes, the best pages by trying every page. So too the answers of the eligibility step, and the parts of single bidders.
+-- the sheets' bytes, the best pages by trying every page. Some rounds are played with floors as well. So too the answers of the eligibility step, and the
+-- parts of single bidders.
 -- Assumes nothing.
 use mathlib.Core.List.{map}
 use mathlib.Core.Path.{_≡_, refl}
@@ -25,7 +26,8 @@ use Rattle.sheet.specs.Refusal.{
   constraintRefusal,
   refusalOf,
 }
-use Rattle.sheet.specs.Round.{kindOf, constraintField, roundOf, constraintAt, bidOf, effectOf}
+use Rattle.sheet.specs.Round.{kindOf, constraintField, roundOf, withFloors, constraintAt, bidOf, effectOf, floorOf}
+use Rattle.floors.specs.Floors.{someTooHigh, floorsRefusal}
 use Rattle.choice.specs.Winner.{ranksNoLower, wins, winner}
 use Rattle.auction.specs.Page.{at, put, emptyPage, placed}
 use Rattle.auction.specs.Broken.{ownHolds, otherHolds, broken, breaks, breaksOwn}
@@ -36,22 +38,22 @@ use Rattle.auction.specs.Price.{withBid, winsWith, priceFor, price}
 use Rattle.downward.specs.Downward.{ownSlot, oneLower, sameKind, listHas, asksLower, downward}
 use Rattle.downward.specs.Call.{testRefusal, testedFor, testedOf}
 use Rattle.gain.specs.Gain.{slotOf, gainIf, gainAt, gainOf}
-use Rattle.gain.specs.Call.{laterRefusal, gainRefusal, gainedFor, gainedOf}
+use Rattle.gain.specs.Call.{laterRefusal, gainRefusal, gainFloorsRefusal, gainedFor, gainedOf, gainedFloorsOf}
 use Rattle.auction.specs.Allowed.{totalUpTo, total}
-use Rattle.best_page.specs.BestPage.{nobodyTwice, isAllowed, keep, eachChoice, tryAll, bestPage}
-use Rattle.best_search.specs.Call.{boundsRefusal, bestRefusal, bestBuffer, chosenFor}
-use Rattle.play.specs.Play.{playRefusal, slotEntry, playedBuffer}
+use Rattle.best_page.specs.BestPage.{nobodyTwice, reachesFloors, isAllowed, keep, eachChoice, tryAll, bestPage}
+use Rattle.best_search.specs.Call.{boundsRefusal, bestRefusal, bestFloorsRefusal, bestBuffer, chosenFor}
+use Rattle.play.specs.Play.{roomRefusal, playRefusal, playFloorsRefusal, slotEntry, playedBuffer}
 use Rattle.owner_part.specs.OwnerPart.{callRefusal, partRefusal, firstFrom, bytesBefore, constraintBytes, constraintsOf, partLength, boundsFor, boundsOf, beforeFor, beforeOf}
-use Rattle.test_worked_rounds.specs.Sheets.{A, B, C, D, E, F, F-true, F-version-3, F-eight-bytes, F-in-ticks, F-off-tick, F-tick-0, F-twelve-bytes, F-without-tick, G, H, H-longer, earlier-winner, earlier-winner-and-own, placed-and-own, overbid, overbid-barred, tie-in-ticks, lower-number-in-ticks, tick-above-bids, too-high-and-off-tick, H-in-order, owners-two-and-four, equal-neighbours, repeated-in-version-1, own-place-falls, falls-and-names-itself, falls-before-a-fault, falls-after-a-fault, nine-bidders, two-faults}
-use Rattle.test_worked_rounds.specs.Worked.{Worked, lent, givenByPlay, givenByBest, given, entries, rounds, Candidate, givenByStep, candidates, PartAsked, givenByPart, parts}
+use Rattle.test_worked_rounds.specs.Sheets.{A, B, C, D, E, F, F-true, F-version-3, F-eight-bytes, F-in-ticks, F-off-tick, F-tick-0, F-twelve-bytes, F-without-tick, G, H, H-longer, earlier-winner, earlier-winner-and-own, placed-and-own, overbid, overbid-barred, second-not-first, tie-in-ticks, lower-number-in-ticks, tick-above-bids, too-high-and-off-tick, H-in-order, owners-two-and-four, equal-neighbours, repeated-in-version-1, own-place-falls, falls-and-names-itself, falls-before-a-fault, falls-after-a-fault, nine-bidders, two-faults}
+use Rattle.test_worked_rounds.specs.Worked.{Worked, lent, givenByPlay, givenByBest, givenWithFloors, given, entries, rounds, Candidate, givenByStep, candidates, PartAsked, givenByPart, parts}
 
 pub rounds-hold : map given rounds ≡ map (λ (w : Worked). w .said) rounds
-unfolding word16At word32At bytes32 firstOver unlessRefused row padded joined anyBelow allBelow least tickField effectsStart effectField bidField ownerField ownSlotField otherField otherSlotField formRefusal countsRefusal effectRefusal bidRefusal tickRefusal legalBid inRange fieldsRefusal termsRefusal fieldsBelow constraintBelow aboveBefore orderRefusal constraintRefusal refusalOf kindOf constraintField roundOf ranksNoLower wins winner at put emptyPage placed ownHolds otherHolds broken constraintAt bidOf effectOf breaksEarlier firstFailed eligible winnerAt fillSlot pageUpTo greedyPage withBid winsWith priceFor price ownSlot oneLower sameKind listHas asksLower downward testRefusal testedFor testedOf slotOf gainIf gainAt gainOf laterRefusal gainRefusal gainedFor gainedOf breaks breaksOwn totalUpTo total nobodyTwice isAllowed keep eachChoice tryAll bestPage boundsRefusal bestRefusal bestBuffer chosenFor playRefusal slotEntry playedBuffer words quads countBytes bodyBytes sheetOf sheetInTicks A B C D E F F-true F-version-3 F-eight-bytes F-in-ticks F-off-tick F-tick-0 F-twelve-bytes F-without-tick G H H-longer earlier-winner overbid overbid-barred tie-in-ticks lower-number-in-ticks tick-above-bids too-high-and-off-tick H-in-order equal-neighbours repeated-in-version-1 own-place-falls falls-and-names-itself falls-before-a-fault falls-after-a-fault nine-bidders two-faults lent givenByPlay givenByBest given entries rounds
+unfolding word16At word32At bytes32 firstOver unlessRefused row padded joined anyBelow allBelow least tickField effectsStart effectField bidField ownerField ownSlotField otherField otherSlotField formRefusal countsRefusal effectRefusal bidRefusal tickRefusal legalBid inRange fieldsRefusal termsRefusal fieldsBelow constraintBelow aboveBefore orderRefusal constraintRefusal refusalOf kindOf constraintField roundOf ranksNoLower wins winner at put emptyPage placed ownHolds otherHolds broken constraintAt bidOf effectOf withFloors floorOf breaksEarlier firstFailed eligible winnerAt fillSlot pageUpTo greedyPage withBid winsWith priceFor price ownSlot oneLower sameKind listHas asksLower downward testRefusal testedFor testedOf slotOf gainIf gainAt gainOf laterRefusal gainRefusal gainFloorsRefusal gainedFor gainedOf gainedFloorsOf breaks breaksOwn totalUpTo total nobodyTwice reachesFloors isAllowed keep eachChoice tryAll bestPage boundsRefusal bestRefusal bestFloorsRefusal bestBuffer chosenFor roomRefusal playRefusal playFloorsRefusal someTooHigh floorsRefusal slotEntry playedBuffer words quads countBytes bodyBytes sheetOf sheetInTicks A B C D E F F-true F-version-3 F-eight-bytes F-in-ticks F-off-tick F-tick-0 F-twelve-bytes F-without-tick G H H-longer earlier-winner overbid overbid-barred tie-in-ticks lower-number-in-ticks tick-above-bids too-high-and-off-tick H-in-order equal-neighbours repeated-in-version-1 own-place-falls falls-and-names-itself falls-before-a-fault falls-after-a-fault nine-bidders two-faults second-not-first lent givenByPlay givenByBest givenWithFloors given entries rounds
 rounds-hold = refl
 
 -- The answers of the eligibility step, candidate by candidate.
 pub candidates-hold : map givenByStep candidates ≡ map (λ (c : Candidate). failedTest (c .said)) candidates
-unfolding word16At word32At bytes32 row padded anyBelow tickField effectsStart effectField bidField ownerField ownSlotField otherField otherSlotField kindOf constraintField roundOf ranksNoLower wins winner at put emptyPage placed ownHolds otherHolds broken breaksOwn constraintAt bidOf breaksEarlier firstFailed failedTest eligible winnerAt fillSlot pageUpTo words quads countBytes bodyBytes sheetOf A C D H earlier-winner earlier-winner-and-own placed-and-own givenByStep candidates firstOver allBelow
+unfolding word16At word32At bytes32 row padded anyBelow tickField effectsStart effectField bidField ownerField ownSlotField otherField otherSlotField kindOf constraintField roundOf ranksNoLower wins winner at put emptyPage placed ownHolds otherHolds broken breaksOwn constraintAt bidOf withFloors floorOf breaksEarlier firstFailed failedTest eligible winnerAt fillSlot pageUpTo words quads countBytes bodyBytes sheetOf A B C D H earlier-winner earlier-winner-and-own placed-and-own givenByStep candidates firstOver allBelow
 candidates-hold = refl
 
 -- The parts of single bidders.

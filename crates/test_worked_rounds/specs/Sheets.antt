@@ -78,6 +78,11 @@ unfoldable pub overbid-barred : List ℕ
 unfolding sheetOf
 overbid-barred = sheetOf (5 ∷ 3 ∷ []) (1 ∷ []) (on 1 1 0 0 ∷ [])
 
+-- as B with (2,1,0,0): 1 has place 1 at what 3 bids, and 2 has place 2
+unfoldable pub second-not-first : List ℕ
+unfolding sheetOf
+second-not-first = sheetOf (60 ∷ 40 ∷ 10 ∷ []) (100 ∷ 90 ∷ 81 ∷ []) (on 2 1 0 0 ∷ [])
+
 -- F in version 2 with tick 3 and bids 3 and 6: "charges 6"
 unfoldable pub F-in-ticks : List ℕ
 unfolding sheetInTicks

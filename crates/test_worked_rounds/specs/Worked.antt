@@ -1,25 +1,25 @@
 -- "Rounds worked by hand": what is asked of each round, and what documents 01 and 02 say; candidates for a place, with the answer of the
--- eligibility step (document 02, S-3); and bidders asked for, with their part of the sheet (S-5).
+-- eligibility step (document 02, S-3); and bidders asked for, with their part of the sheet (S-5). Some rounds are played with floors as well (S-7).
 use Prim.Native.Nat.{ℕ, _*_, _-_}
 use mathlib.Core.Bool.{Bool, true, false}
-use mathlib.Core.List.{List, [], _∷_}
+use mathlib.Core.List.{List, [], _∷_, map}
 use lib.IntN.{ℤ, pos, negsuc}
 use lib.ListN.{length, take, drop, replicate}
 use Rattle.basis.specs.First.{unlessRefused}
 use Rattle.sheet.specs.Sheet.{slotCount}
 use Rattle.sheet.specs.Refusal.{refusalOf}
-use Rattle.sheet.specs.Round.{roundOf}
+use Rattle.sheet.specs.Round.{roundOf, withFloors}
 use Rattle.auction.specs.declared.Eligibility.{Eligibility}
-use Rattle.auction.specs.declared.Eligibility.the-variants.{Eligible, Placed, EarlierWinners, Own}
+use Rattle.auction.specs.declared.Eligibility.the-variants.{Eligible, Placed, EarlierWinners, Own, BelowFloor}
 use Rattle.auction.specs.Eligible.{firstFailed}
 use Rattle.auction.specs.Greedy.{pageUpTo}
-use Rattle.play.specs.Play.{playRefusal, playedBuffer}
+use Rattle.play.specs.Play.{playRefusal, playFloorsRefusal, playedBuffer}
 use Rattle.downward.specs.declared.Tested.{Tested}
 use Rattle.downward.specs.Call.{testedOf}
 use Rattle.gain.specs.declared.Gained.{Gained}
-use Rattle.gain.specs.Call.{gainedOf}
+use Rattle.gain.specs.Call.{gainedOf, gainedFloorsOf}
 use Rattle.best_search.specs.declared.Chosen.{Chosen}
-use Rattle.best_search.specs.Call.{bestRefusal, bestBuffer, chosenFor}
+use Rattle.best_search.specs.Call.{bestRefusal, bestFloorsRefusal, bestBuffer, chosenFor}
 use Rattle.owner_part.specs.declared.Bounds.{Bounds}
 use Rattle.owner_part.specs.declared.Before.{Before}
 use Rattle.owner_part.specs.OwnerPart.{boundsOf, beforeOf}
@@ -47,6 +47,7 @@ use Rattle.test_worked_rounds.specs.Sheets.{
   placed-and-own,
   overbid,
   overbid-barred,
+  second-not-first,
   tie-in-ticks,
   lower-number-in-ticks,
   tick-above-bids,
@@ -72,20 +73,28 @@ pub record BestLeft : Type 0 where
   pub returned : Chosen
   pub buffer : List ℕ
 
--- what the five calls of document 01 return, and what they leave in the buffers lent to them
+-- what the three calls with floors return, and what they leave in the buffers lent to them
+pub record SaidFloors : Type 0 where
+  pub play : Left
+  pub gain : Gained
+  pub best : BestLeft
+
+-- what the five calls of document 01 return, and what they leave in the buffers lent to them; and the calls with floors, for each list of floors
 pub record Said : Type 0 where
   pub check : ℕ
   pub play : Left
   pub test : Tested
   pub gain : Gained
   pub best : BestLeft
+  pub floored : List SaidFloors
 
--- a sheet, the truth sheet, a bidder and its worth, and what is said of them
+-- a sheet, the truth sheet, a bidder and its worth, lists of floors, and what is said of them
 pub record Worked : Type 0 where
   pub sheet : List ℕ
   pub truth : List ℕ
   pub bidder : ℕ
   pub worth : ℕ
+  pub floors : List (List ℕ)
   pub said : Said
 
 -- a buffer of k bytes before a call, each 255, so that a byte that was not written shows
@@ -106,8 +115,29 @@ unfoldable pub givenByBest : List ℕ → BestLeft
 givenByBest s =
     let out = lent (slotCount s) in
     record {
-      returned = chosenFor (bestRefusal s out) s;
+      returned = chosenFor (bestRefusal s out) (roundOf s);
       buffer = unlessRefused (bestRefusal s out) (bestBuffer (roundOf s) out) out;
+    }
+
+-- what the calls with floors give, by the right-hand sides of `PlayedFloors`, `gain_floors` and `BestFloorsGiven`, in buffers of exactly 5 × m and m bytes
+unfoldable pub givenWithFloors : Worked → List ℕ → SaidFloors
+givenWithFloors w floors =
+    let s = w .sheet in
+    let r = withFloors (roundOf s) floors in
+    let out = lent (5 * slotCount s) in
+    let page = lent (slotCount s) in
+    record {
+      play =
+          record {
+            number = playFloorsRefusal floors s out;
+            buffer = unlessRefused (playFloorsRefusal floors s out) (playedBuffer r out) out;
+          };
+      gain = gainedFloorsOf floors s (w .truth) (w .bidder) (w .worth);
+      best =
+          record {
+            returned = chosenFor (bestFloorsRefusal floors s page) r;
+            buffer = unlessRefused (bestFloorsRefusal floors s page) (bestBuffer r page) page;
+          };
     }
 
 -- what the calls give, each by the right-hand side of its contract
@@ -119,6 +149,7 @@ given w =
       test = testedOf (w .sheet) (w .bidder);
       gain = gainedOf (w .sheet) (w .truth) (w .bidder) (w .worth);
       best = givenByBest (w .sheet);
+      floored = map (givenWithFloors w) (w .floors);
     }
 
 -- A page and its prices as bytes, 5 a slot. Each price here is below 256, so its low byte, which comes first, says all of it; the bytes are
@@ -162,8 +193,37 @@ calls sheet truth bidder worth check play test gain best =
       truth = truth;
       bidder = bidder;
       worth = worth;
-      said = record { check = check; play = play; test = test; gain = gain; best = best };
+      floors = [];
+      said = record { check = check; play = play; test = test; gain = gain; best = best; floored = [] };
     }
+
+-- the same with lists of floors, and what the three calls with floors say for each
+abbrev pub withLists : Worked → List (List ℕ) → List SaidFloors → Worked
+withLists w floors floored =
+    record {
+      sheet = w .sheet;
+      truth = w .truth;
+      bidder = w .bidder;
+      worth = w .worth;
+      floors = floors;
+      said =
+          record {
+            check = w .said .check;
+            play = w .said .play;
+            test = w .said .test;
+            gain = w .said .gain;
+            best = w .said .best;
+            floored = floored;
+          };
+    }
+
+-- page, prices, gain, best page and its total, with floors
+abbrev pub says : List ℕ → List ℕ → ℤ → List ℕ → ℕ → SaidFloors
+says page prices gain best total = record { play = plays page prices; gain = gains gain; best = finds best total }
+
+-- all three refused with the number k, on a sheet with m slots
+abbrev pub saysNot : (k m : ℕ) → SaidFloors
+saysNot k m = record { play = playsNot k m; gain = gainsNot k; best = findsNot k m }
 
 -- the same where no call is refused: page, prices, whether the list is downward monotonic, gain, best page and its total
 abbrev pub worked : List ℕ → List ℕ → ℕ → ℕ → List ℕ → List ℕ → Bool → ℤ → List ℕ → ℕ → Worked
@@ -178,44 +238,126 @@ worked sheet truth bidder worth page prices monotonic gain best total =
 -- of 12, by a sheet whose first faulty condition breaks a later rule than its second, and by the rules of version 2: tick 0 though the length is wrong
 -- too, the length, a bid above the limit though an earlier one is off the tick, the last bid off the tick, and conditions that do not rise: a repeat,
 -- one owner's out of order, one that also breaks 11, one before a condition that breaks 10, one after a condition that breaks 12, and in the truth sheet.
+-- With floors: A with a floor that 2 just reaches at place 2, and one that empties it; B with none but 0, with one that empties place 3, one that sets the
+-- price of place 2, falling and rising ones, one that empties place 1 alone, and with floors above every bid; G with a floor above a bid of 0; H with floors
+-- that leave its page and change its best page, or the other way round; a floor between two ticks; and `second-not-first`, where a floor makes the lower
+-- bidder's place cost more than the place above it. Refused lists: too short, too long, a floor one too high, both (30); before 14, 16 and 18, and after the
+-- sheet's own numbers.
 unfoldable pub rounds : List Worked
 rounds =
-    worked A A 1 30 (1 ∷ 2 ∷ []) (20 ∷ 10 ∷ []) true (pos 100) (1 ∷ 2 ∷ []) 480
-    ∷ worked B B 1 60 (1 ∷ 2 ∷ 3 ∷ []) (40 ∷ 10 ∷ 0 ∷ []) true (pos 2000) (1 ∷ 2 ∷ 3 ∷ []) 10410
+    withLists (worked A A 1 30 (1 ∷ 2 ∷ []) (20 ∷ 10 ∷ []) true (pos 100) (1 ∷ 2 ∷ []) 480)
+    ((0 ∷ 20 ∷ [])
+    ∷ (0 ∷ 21 ∷ [])
+    ∷ [])
+    (says (1 ∷ 2 ∷ []) (20 ∷ 20 ∷ []) (pos 100) (1 ∷ 2 ∷ []) 480
+    ∷ says (1 ∷ 0 ∷ []) (20 ∷ 0 ∷ []) (pos 100) (3 ∷ 1 ∷ []) 370
+    ∷ [])
+    ∷ withLists (worked B B 1 60 (1 ∷ 2 ∷ 3 ∷ []) (40 ∷ 10 ∷ 0 ∷ []) true (pos 2000) (1 ∷ 2 ∷ 3 ∷ []) 10410)
+    ((0 ∷ 0 ∷ 0 ∷ [])
+    ∷ (0 ∷ 0 ∷ 11 ∷ [])
+    ∷ (0 ∷ 25 ∷ 0 ∷ [])
+    ∷ (50 ∷ 30 ∷ 5 ∷ [])
+    ∷ (5 ∷ 30 ∷ 50 ∷ [])
+    ∷ (61 ∷ 0 ∷ 0 ∷ [])
+    ∷ (61 ∷ 61 ∷ 61 ∷ [])
+    ∷ [])
+    (says (1 ∷ 2 ∷ 3 ∷ []) (40 ∷ 10 ∷ 0 ∷ []) (pos 2000) (1 ∷ 2 ∷ 3 ∷ []) 10410
+    ∷ says (1 ∷ 2 ∷ 0 ∷ []) (40 ∷ 10 ∷ 0 ∷ []) (pos 2000) (1 ∷ 3 ∷ 2 ∷ []) 10140
+    ∷ says (1 ∷ 2 ∷ 3 ∷ []) (40 ∷ 25 ∷ 0 ∷ []) (pos 2000) (1 ∷ 2 ∷ 3 ∷ []) 10410
+    ∷ says (1 ∷ 2 ∷ 3 ∷ []) (50 ∷ 30 ∷ 5 ∷ []) (pos 1000) (1 ∷ 2 ∷ 3 ∷ []) 10410
+    ∷ says (1 ∷ 2 ∷ 0 ∷ []) (40 ∷ 30 ∷ 0 ∷ []) (pos 2000) (1 ∷ 2 ∷ 0 ∷ []) 9600
+    ∷ says (0 ∷ 1 ∷ 2 ∷ []) (0 ∷ 40 ∷ 10 ∷ []) (pos 1800) (0 ∷ 1 ∷ 2 ∷ []) 8640
+    ∷ says (0 ∷ 0 ∷ 0 ∷ []) (0 ∷ 0 ∷ 0 ∷ []) (pos 0) (0 ∷ 0 ∷ 0 ∷ []) 0
+    ∷ [])
     ∷ worked C B 1 60 (2 ∷ 1 ∷ 3 ∷ []) (10 ∷ 10 ∷ 0 ∷ []) false (pos 4500) (2 ∷ 1 ∷ 3 ∷ []) 10210
     ∷ worked D D 2 30 (1 ∷ 2 ∷ 4 ∷ []) (30 ∷ 20 ∷ 0 ∷ []) true (pos 900) (1 ∷ 2 ∷ 4 ∷ []) 7510
     ∷ worked E E 1 5 (1 ∷ []) (5 ∷ []) true (pos 0) (1 ∷ []) 5
-    ∷ worked F F 2 6 (2 ∷ []) (6 ∷ []) true (pos 0) (2 ∷ []) 6
+    ∷ withLists (worked F F 2 6 (2 ∷ []) (6 ∷ []) true (pos 0) (2 ∷ []) 6)
+    ((1_000_000_000 ∷ [])
+    ∷ ([])
+    ∷ (0 ∷ 0 ∷ [])
+    ∷ (1_000_000_001 ∷ [])
+    ∷ (1_000_000_001 ∷ 0 ∷ [])
+    ∷ [])
+    (says (0 ∷ []) (0 ∷ []) (pos 0) (0 ∷ []) 0
+    ∷ saysNot 30 1
+    ∷ saysNot 30 1
+    ∷ saysNot 31 1
+    ∷ saysNot 30 1
+    ∷ [])
     ∷ worked F F-true 2 6 (2 ∷ []) (6 ∷ []) true (negsuc 5) (2 ∷ []) 6
-    ∷ worked G G 1 0 (0 ∷ 1 ∷ []) (0 ∷ 0 ∷ []) false (pos 0) (0 ∷ 0 ∷ []) 0
-    ∷ worked H H 4 40 (4 ∷ 2 ∷ 0 ∷ []) (37 ∷ 31 ∷ 0 ∷ []) true (pos 30000) (3 ∷ 4 ∷ 1 ∷ []) 600750
+    ∷ withLists (worked G G 1 0 (0 ∷ 1 ∷ []) (0 ∷ 0 ∷ []) false (pos 0) (0 ∷ 0 ∷ []) 0)
+    ((0 ∷ 1 ∷ [])
+    ∷ [])
+    (says (0 ∷ 0 ∷ []) (0 ∷ 0 ∷ []) (pos 0) (0 ∷ 0 ∷ []) 0
+    ∷ [])
+    ∷ withLists (worked H H 4 40 (4 ∷ 2 ∷ 0 ∷ []) (37 ∷ 31 ∷ 0 ∷ []) true (pos 30000) (3 ∷ 4 ∷ 1 ∷ []) 600750)
+    ((0 ∷ 0 ∷ 31 ∷ [])
+    ∷ (0 ∷ 33 ∷ 0 ∷ [])
+    ∷ [])
+    (says (4 ∷ 2 ∷ 0 ∷ []) (37 ∷ 31 ∷ 0 ∷ []) (pos 30000) (4 ∷ 1 ∷ 2 ∷ []) 599800
+    ∷ says (4 ∷ 0 ∷ 2 ∷ []) (37 ∷ 0 ∷ 31 ∷ []) (pos 30000) (3 ∷ 4 ∷ 1 ∷ []) 600750
+    ∷ [])
     ∷ worked H-longer H-longer 2 32 (4 ∷ 2 ∷ 0 ∷ 0 ∷ []) (37 ∷ 31 ∷ 0 ∷ 0 ∷ []) true (pos 4500) (3 ∷ 4 ∷ 1 ∷ 0 ∷ []) 600750
     ∷ worked earlier-winner earlier-winner 1 2 (1 ∷ 0 ∷ []) (1 ∷ 0 ∷ []) true (pos 1) (2 ∷ 1 ∷ []) 3
     ∷ worked overbid overbid 1 2 (1 ∷ []) (3 ∷ []) true (negsuc 0) (1 ∷ []) 5
     ∷ worked overbid-barred overbid 1 2 (2 ∷ []) (0 ∷ []) true (pos 0) (2 ∷ []) 3
+    ∷ withLists (worked second-not-first second-not-first 2 40 (1 ∷ 2 ∷ 3 ∷ []) (10 ∷ 10 ∷ 0 ∷ []) false (pos 2700) (1 ∷ 2 ∷ 3 ∷ []) 10410)
+    ((0 ∷ 30 ∷ 0 ∷ []) ∷ [])
+    (says (1 ∷ 2 ∷ 3 ∷ []) (10 ∷ 30 ∷ 0 ∷ []) (pos 900) (1 ∷ 2 ∷ 3 ∷ []) 10410 ∷ [])
     ∷ worked F-in-ticks F-in-ticks 2 6 (2 ∷ []) (6 ∷ []) true (pos 0) (2 ∷ []) 6
     ∷ worked F-in-ticks F 2 7 (2 ∷ []) (6 ∷ []) true (pos 1) (2 ∷ []) 6
     ∷ worked tie-in-ticks tie-in-ticks 2 12 (1 ∷ 2 ∷ []) (10 ∷ 5 ∷ []) true (pos 14) (1 ∷ 2 ∷ []) 50
-    ∷ worked lower-number-in-ticks lower-number-in-ticks 1 20 (2 ∷ 1 ∷ []) (30 ∷ 10 ∷ []) true (pos 20) (2 ∷ 1 ∷ []) 130
+    ∷ withLists (worked lower-number-in-ticks lower-number-in-ticks 1 20 (2 ∷ 1 ∷ []) (30 ∷ 10 ∷ []) true (pos 20) (2 ∷ 1 ∷ []) 130)
+    ((0 ∷ 15 ∷ [])
+    ∷ [])
+    (says (2 ∷ 1 ∷ []) (30 ∷ 20 ∷ []) (pos 0) (2 ∷ 1 ∷ []) 130
+    ∷ [])
     ∷ worked tick-above-bids tick-above-bids 1 5 (2 ∷ 1 ∷ []) (0 ∷ 0 ∷ []) false (pos 5) (0 ∷ 0 ∷ []) 0
     ∷ worked H-in-order H 4 40 (4 ∷ 2 ∷ 0 ∷ []) (37 ∷ 31 ∷ 0 ∷ []) true (pos 30000) (3 ∷ 4 ∷ 1 ∷ []) 600750
     ∷ worked repeated-in-version-1 repeated-in-version-1 1 2 (1 ∷ 2 ∷ []) (1 ∷ 0 ∷ []) true (pos 2) (1 ∷ 2 ∷ []) 5
-    ∷ calls F F-version-3 2 6 0 (plays (2 ∷ []) (6 ∷ [])) (tells true) (gainsNot 14) (finds (2 ∷ []) 6)
+    ∷ withLists (calls F F-version-3 2 6 0 (plays (2 ∷ []) (6 ∷ [])) (tells true) (gainsNot 14) (finds (2 ∷ []) 6))
+    (([])
+    ∷ (0 ∷ [])
+    ∷ [])
+    (saysNot 30 1
+    ∷ record { play = plays (2 ∷ []) (6 ∷ []); gain = gainsNot 14; best = finds (2 ∷ []) 6 }
+    ∷ [])
     ∷ calls F-in-ticks F-off-tick 2 6 0 (plays (2 ∷ []) (6 ∷ [])) (tells true) (gainsNot 14) (finds (2 ∷ []) 6)
     ∷ calls F earlier-winner 2 6 0 (plays (2 ∷ []) (6 ∷ [])) (tells true) (gainsNot 15) (finds (2 ∷ []) 6)
     ∷ calls earlier-winner A 1 2 0 (plays (1 ∷ 0 ∷ []) (1 ∷ 0 ∷ [])) (tells true) (gainsNot 15) (finds (2 ∷ 1 ∷ []) 3)
-    ∷ calls F F 0 1_000_000_001 0 (plays (2 ∷ []) (6 ∷ [])) (tellsNot 16) (gainsNot 16) (finds (2 ∷ []) 6)
+    ∷ withLists (calls F F 0 1_000_000_001 0 (plays (2 ∷ []) (6 ∷ [])) (tellsNot 16) (gainsNot 16) (finds (2 ∷ []) 6))
+    ((1_000_000_001 ∷ [])
+    ∷ (0 ∷ [])
+    ∷ [])
+    (saysNot 31 1
+    ∷ record { play = plays (2 ∷ []) (6 ∷ []); gain = gainsNot 16; best = finds (2 ∷ []) 6 }
+    ∷ [])
     ∷ calls F F 3 6 0 (plays (2 ∷ []) (6 ∷ [])) (tellsNot 16) (gainsNot 16) (finds (2 ∷ []) 6)
     ∷ calls F F 2 1_000_000_001 0 (plays (2 ∷ []) (6 ∷ [])) (tells true) (gainsNot 17) (finds (2 ∷ []) 6)
-    ∷ calls nine-bidders nine-bidders 1 9 0 (plays (1 ∷ []) (8 ∷ [])) (tells true) (gains (pos 1)) (findsNot 18 1)
-    ∷ calls F-eight-bytes F 2 6 1 (playsNot 1 1) (tellsNot 1) (gainsNot 1) (findsNot 1 1)
+    ∷ withLists (calls nine-bidders nine-bidders 1 9 0 (plays (1 ∷ []) (8 ∷ [])) (tells true) (gains (pos 1)) (findsNot 18 1))
+    (([])
+    ∷ (0 ∷ [])
+    ∷ [])
+    (saysNot 30 1
+    ∷ record { play = plays (1 ∷ []) (8 ∷ []); gain = gains (pos 1); best = findsNot 18 1 }
+    ∷ [])
+    ∷ withLists (calls F-eight-bytes F 2 6 1 (playsNot 1 1) (tellsNot 1) (gainsNot 1) (findsNot 1 1))
+    (([])
+    ∷ [])
+    (saysNot 1 1
+    ∷ [])
     ∷ calls F-twelve-bytes F 2 6 1 (playsNot 1 1) (tellsNot 1) (gainsNot 1) (findsNot 1 1)
     ∷ calls two-faults F 1 3 12 (playsNot 12 2) (tellsNot 12) (gainsNot 12) (findsNot 12 2)
     ∷ calls F-tick-0 F 2 6 26 (playsNot 26 1) (tellsNot 26) (gainsNot 26) (findsNot 26 1)
     ∷ calls F-without-tick F 2 6 7 (playsNot 7 1) (tellsNot 7) (gainsNot 7) (findsNot 7 1)
     ∷ calls too-high-and-off-tick F 2 6 9 (playsNot 9 1) (tellsNot 9) (gainsNot 9) (findsNot 9 1)
     ∷ calls F-off-tick F 2 6 27 (playsNot 27 1) (tellsNot 27) (gainsNot 27) (findsNot 27 1)
-    ∷ calls equal-neighbours F 1 2 28 (playsNot 28 2) (tellsNot 28) (gainsNot 28) (findsNot 28 2)
+    ∷ withLists (calls equal-neighbours F 1 2 28 (playsNot 28 2) (tellsNot 28) (gainsNot 28) (findsNot 28 2))
+    ((1_000_000_001 ∷ [])
+    ∷ [])
+    (saysNot 28 2
+    ∷ [])
     ∷ calls own-place-falls F 1 2 28 (playsNot 28 2) (tellsNot 28) (gainsNot 28) (findsNot 28 2)
     ∷ calls falls-and-names-itself F 1 2 11 (playsNot 11 2) (tellsNot 11) (gainsNot 11) (findsNot 11 2)
     ∷ calls falls-before-a-fault F 1 2 28 (playsNot 28 2) (tellsNot 28) (gainsNot 28) (findsNot 28 2)
@@ -226,21 +368,29 @@ rounds =
 -- a sheet, a place, a candidate for it, and what the eligibility step answers (document 02, S-3) with the places before it filled
 pub record Candidate : Type 0 where
   pub sheet : List ℕ
+  pub floors : List ℕ
   pub slot : ℕ
   pub bidder : ℕ
   pub said : Eligibility
 
 -- the number of the first test that the candidate fails, by the right-hand side of the step's promise
 unfoldable pub givenByStep : Candidate → ℕ
-givenByStep c = firstFailed (roundOf (c .sheet)) (pageUpTo (roundOf (c .sheet)) (c .slot - 1)) (c .slot) (c .bidder)
+givenByStep c =
+    let r = withFloors (roundOf (c .sheet)) (c .floors) in
+    firstFailed r (pageUpTo r (c .slot - 1)) (c .slot) (c .bidder)
 
 abbrev pub asked : List ℕ → ℕ → ℕ → Eligibility → Candidate
-asked sheet slot bidder said = record { sheet = sheet; slot = slot; bidder = bidder; said = said }
+asked sheet slot bidder said = record { sheet = sheet; floors = []; slot = slot; bidder = bidder; said = said }
 
--- Each of the four answers: no test fails (A, 2 at place 2), placed (A, 1 at place 2), an earlier winner's condition alone, the candidate's own
+-- the same with floors
+abbrev pub askedWith : List ℕ → List ℕ → ℕ → ℕ → Eligibility → Candidate
+askedWith sheet floors slot bidder said = record { sheet = sheet; floors = floors; slot = slot; bidder = bidder; said = said }
+
+-- Each of the answers: no test fails (A, 2 at place 2), placed (A, 1 at place 2), an earlier winner's condition alone, the candidate's own
 -- (C: an own place; H: a pair). Then what the order decides. Of 3 at place 3 of D, which the earlier winner 2 bars and which bars 2 itself, it is the
 -- earlier winner's; so too where the candidate's own condition is an own place. Who has a place is "placed", though its own condition would be broken
--- too.
+-- too. With floors: 3 at place 3 of B is below the floor, 2 just reaches that of place 2; and who fails an earlier test is not told of the floor, though its bid
+-- is below it: placed, an earlier winner's, its own.
 unfoldable pub candidates : List Candidate
 candidates =
     asked A 2 2 Eligible
@@ -251,6 +401,11 @@ candidates =
     ∷ asked D 3 3 EarlierWinners
     ∷ asked earlier-winner-and-own 2 2 EarlierWinners
     ∷ asked placed-and-own 2 1 Placed
+    ∷ askedWith B (0 ∷ 0 ∷ 11 ∷ []) 3 3 BelowFloor
+    ∷ askedWith B (0 ∷ 40 ∷ 0 ∷ []) 2 2 Eligible
+    ∷ askedWith B (0 ∷ 61 ∷ 0 ∷ []) 2 1 Placed
+    ∷ askedWith earlier-winner (0 ∷ 2 ∷ []) 2 2 EarlierWinners
+    ∷ askedWith C (61 ∷ 0 ∷ 0 ∷ []) 1 1 Own
     ∷ []
 
 -- What the calls for one bidder's part say: where it is, what the call that only checks says, and the bytes of the sheet there.

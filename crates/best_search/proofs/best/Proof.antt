@@ -1,5 +1,5 @@
 -- `best_search::best` meets its contract, by the cases of the call; the best page of an accepted sheet is sought with floors of 0. Assumes nothing.
-use mathlib.Core.Path.{_≡_, sym, _∙_}
+use mathlib.Core.Path.{sym, _∙_}
 use borrow.Author.Needs.{needs}
 use Rattle.basis.proofs.RowLaws.{zeros}
 use Rattle.sheet.specs.Refusal.{Accepted}

@@ -53,7 +53,7 @@ refused-requires c κs = search needs
 returns : tie.Need-returns
 returns c =
     let s = start (c .before .before) in
-    bidders-many (round s) (s .args .sheet .now) (s .args .result .now) _ (c .refused .ensures) (c .before .if1 .taken)
+    bidders-many (round s) (s .args .sheet .now) (s .args .result .now) _ (c .refused .ensures) (omega (arith, c .before .if1 .taken))
 
 refused-requires-2 : tie.Need-refused-requires-2
 refused-requires-2 c κs = search needs

@@ -16,7 +16,7 @@ next-eligible-requires c κs =
     let p = c .before .before .before .before .before .before .before .pre in
     let few = p .1 .0 .0 in
     let listed = p .1 .1 .0 .size in
-    (p .0, ((omega arith, few, omega arith, p .1 .0 .1, p .1 .0 .2), p .1 .1 .0 .some))
+    (p .0, ((omega arith, few, omega arith, p .1 .0 .1, p .1 .0 .2), p .1 .1 .0))
 
 add-next-eligible : tie.Need-add-next-eligible
 add-next-eligible c = search needs
@@ -27,7 +27,7 @@ next-eligible-requires-2 c κs =
     let few = p .1 .0 .0 in
     let listed = p .1 .1 .0 .size in
     let below = c .if1 .taken in
-    (p .0, ((omega arith, few, omega arith, p .1 .0 .1, p .1 .0 .2), p .1 .1 .0 .some))
+    (p .0, ((omega arith, few, omega arith, p .1 .0 .1, p .1 .0 .2), p .1 .1 .0))
 
 placing-at-requires : tie.Need-placing-at-requires
 placing-at-requires c κs =
