@@ -139,8 +139,8 @@ extern "C" {
  *   pas_gain           15,000  about 18,200          40,960
  *   pas_best            7,040  about  7,200          20,480
  *   pas_owner_part        232           232           1,024
- *   pas_play_floors    14,904  about 18,100          28,672
- *   pas_gain_floors    14,952  about 18,100          40,960
+ *   pas_play_floors    14,968  about 18,100          28,672
+ *   pas_gain_floors    15,080  about 18,300          40,960
  *   pas_best_floors     7,008  about  7,200          20,480
  *
  * These are measured and not proved: nothing in the toolchain bounds a stack. examples/c/stack measures them, on the
