@@ -1,11 +1,12 @@
 /*
- * pas.h - position pages with bidders' conditions, the six calls of libpas.a
+ * pas.h - position pages with bidders' conditions, the nine calls of libpas.a
  *
  * A search page has a few paid places. Suppliers, the bidders, bid per click and list conditions (where they will not
  * stand, beside whom). The library fills the places from the top, charges each winner a second price, tests a bidder's
  * list, works out a bidder's gain, finds the best page of a small round and shows where in a sheet one bidder's
- * conditions stand. It is proved: each call meets its description below for every input. It allocates nothing, keeps
- * nothing between calls and calls nothing but memcpy and memset.
+ * conditions stand. Playing, gain and best page have a second form, with a floor under each place. It is proved: each
+ * call meets its description below for every input. It allocates nothing, keeps nothing between calls and calls nothing
+ * but memcpy and memset.
  *
  * Build:   ./build-library            (proves, and gives target/staticlib/libpas.a, for x86-64 Linux)
  * Link:    cc program.c -I include target/staticlib/libpas.a
@@ -67,12 +68,13 @@
  * - A pointer and its length are those of memory that is there. The length of a sheet is its own and not that of a
  *   larger buffer that it lies in (rule 7); a result may be longer than what is written.
  * - No pointer is null, also where the length is 0. The proofs speak of slices, and nothing in the toolchain says that
- *   null is one, so no answer is promised there. An empty std::vector may have one: pas_to_read and pas_to_write below
- *   give another pointer instead.
- * - Sheets, results and *answer are bytes and may lie at any address. *gain, *total, *start and *length must be aligned
- *   as int64_t, uint64_t and size_t are (8 bytes), which each variable of these types is.
- * - What a call writes overlaps neither what it reads nor another thing that it writes. The two sheets of pas_gain are
- *   only read and may overlap.
+ *   null is one, so no answer is promised there. An empty std::vector may have one: pas_to_read, pas_to_write and
+ *   pas_to_read_floors below give another pointer instead. Where the length is 0 any other pointer will do.
+ * - Sheets, results and *answer are bytes and may lie at any address. Floors must be aligned as uint32_t is (4 bytes);
+ *   *gain, *total, *start and *length as int64_t, uint64_t and size_t are (8 bytes). Each variable and each array of
+ *   these types is.
+ * - What a call writes overlaps neither what it reads nor another thing that it writes. Sheets and floors are only read
+ *   and may overlap.
  * - While a call runs nobody else writes what it reads, nor touches what it writes. Otherwise calls may run in several
  *   threads at once, on the same sheet too: the library has no variables of its own.
  * - There is enough stack, see PAS_STACK_PLAY and the others below.
@@ -92,9 +94,9 @@ extern "C" {
 /* ---- Version ---- */
 
 /* The version of the library and of this file. CHANGELOG.md says what each one brought, and what a new number means. */
-#define PAS_VERSION "2.0.0"
+#define PAS_VERSION "2.1.0"
 #define PAS_VERSION_MAJOR 2
-#define PAS_VERSION_MINOR 0
+#define PAS_VERSION_MINOR 1
 #define PAS_VERSION_PATCH 0
 
 /* ---- Sizes ---- */
@@ -106,6 +108,7 @@ extern "C" {
 #define PAS_MAX_BID 1000000000u
 #define PAS_MAX_TICK 1000000000u
 #define PAS_MAX_WORTH 1000000000u
+#define PAS_MAX_FLOOR 1000000000u
 
 /* most bidders and most places with which the best page is found */
 #define PAS_MAX_BEST_BIDDERS 8u
@@ -129,13 +132,16 @@ extern "C" {
 /*
  * Bytes of stack that suffice for a call, counted from where its caller calls it.
  *
- *   call            measured    first call    figure below
- *   pas_check            200           200           1,024
- *   pas_play          14,760  about 17,900          28,672
- *   pas_downward       2,328  about  5,400          24,576
- *   pas_gain          14,856  about 18,100          40,960
- *   pas_best           6,992  about  7,200          20,480
- *   pas_owner_part       232           232           1,024
+ *   call             measured    first call    figure below
+ *   pas_check             200           200           1,024
+ *   pas_play           14,936  about 18,100          28,672
+ *   pas_downward        2,328  about  5,400          24,576
+ *   pas_gain           15,000  about 18,200          40,960
+ *   pas_best            7,040  about  7,200          20,480
+ *   pas_owner_part        232           232           1,024
+ *   pas_play_floors    14,968  about 18,100          28,672
+ *   pas_gain_floors    15,080  about 18,300          40,960
+ *   pas_best_floors     7,008  about  7,200          20,480
  *
  * These are measured and not proved: nothing in the toolchain bounds a stack. examples/c/stack measures them, on the
  * largest sheets, on refused ones and on random ones, and fails where a call takes more than its figure. The table is
@@ -153,8 +159,11 @@ extern "C" {
 #define PAS_STACK_GAIN 40960u
 #define PAS_STACK_BEST 20480u
 #define PAS_STACK_OWNER_PART 1024u
+#define PAS_STACK_PLAY_FLOORS PAS_STACK_PLAY
+#define PAS_STACK_GAIN_FLOORS PAS_STACK_GAIN
+#define PAS_STACK_BEST_FLOORS PAS_STACK_BEST
 
-/* the largest of the six */
+/* the largest of the nine */
 #define PAS_MAX_STACK PAS_STACK_GAIN
 
 /* ---- Numbers of a refused call, in checking order ---- */
@@ -178,6 +187,9 @@ enum {
     PAS_HALF_AN_OTHER = 12,     /* Just one of other bidder and other's place is 0. */
     PAS_EMPTY_CONDITION = 13,   /* Own place, other bidder and other's place are all 0. */
     PAS_OUT_OF_ORDER = 28,      /* A condition of version 2 is not above the one before it. */
+
+    PAS_WRONG_FLOOR_COUNT = 30, /* The list of floors is not m long. */
+    PAS_WRONG_FLOOR = 31,       /* A floor is above 1,000,000,000. */
 
     PAS_TRUTH_REFUSED = 14,     /* The truth sheet breaks any of 1 to 13 and 26 to 28. */
     PAS_TRUTH_DIFFERS = 15,     /* The truth sheet has another n or m. */
@@ -210,6 +222,11 @@ static inline const uint8_t *pas_to_read(const uint8_t *pointer, size_t length) 
 
 static inline uint8_t *pas_to_write(uint8_t *pointer, size_t length) {
     static uint8_t nothing = 0;
+    return length == 0 ? &nothing : pointer;
+}
+
+static inline const uint32_t *pas_to_read_floors(const uint32_t *pointer, size_t length) {
+    static const uint32_t nothing = 0;
     return length == 0 ? &nothing : pointer;
 }
 
@@ -302,6 +319,58 @@ uint32_t pas_best(const uint8_t *sheet, size_t sheet_len, uint8_t *result, size_
  * Refused with 1 to 13 or 26 to 28, with 29 for a sheet of version 1 that is otherwise accepted, or 16.
  */
 uint32_t pas_owner_part(const uint8_t *sheet, size_t sheet_len, uint32_t bidder, size_t *start, size_t *length);
+
+/* ---- The calls with floors ---- */
+
+/*
+ * The second forms of playing, gain and best page also take floors: what a place costs at least. They are a list of m
+ * numbers of the machine's own, floors[0] for place 1, each from 0 to PAS_MAX_FLOOR. They may rise and fall from place
+ * to place and need not be multiples of the tick. They are lent to one call and are no part of the sheet.
+ *
+ * With a floor under each place
+ *
+ * - a bidder is eligible for a place only with a bid at or above its floor, and else as in pas_play;
+ * - a price is, as in pas_play, the smallest bid that the sheet would accept with which the winner, all else unchanged,
+ *   the floors too, still wins that place. So it is the largest of the floor, rounded up to a multiple of the tick, and
+ *   what the other eligible bidders ask: their bids, and a tick more where their number is lower. An empty place has
+ *   price 0, whatever its floor;
+ * - the best page is sought among the pages that break no condition and on which, besides, each filled place has a bid
+ *   at or above its floor. A place may stay empty, whatever its floor.
+ *
+ * A floor of 0 asks for nothing: with m floors of 0 a call gives what its first form gives, to the last byte.
+ *
+ * The floors are tested after the sheet, in pas_gain_floors after the played sheet: 30 where floors_len is not m, then
+ * 31. All other numbers come after that, in their order.
+ */
+
+/*
+ * As pas_play, with floors.
+ *
+ * Refused with 1 to 13, 26 to 28, 30, 31, or 19 where result_len is below 5 m.
+ */
+uint32_t pas_play_floors(const uint8_t *sheet, size_t sheet_len, const uint32_t *floors, size_t floors_len,
+                         uint8_t *result, size_t result_len);
+
+/*
+ * As pas_gain, with `played` played with floors.
+ *
+ * What is proved of pas_gain is proved of it too, with floors in any order, falling or rising, the same for both calls.
+ *
+ * Refused with 1 to 13 or 26 to 28 for `played`, 30, 31, 14 for `truth`, 15, 16, or 17.
+ */
+uint32_t pas_gain_floors(const uint8_t *played, size_t played_len, const uint32_t *floors, size_t floors_len,
+                         const uint8_t *truth, size_t truth_len, uint32_t bidder, uint32_t worth, int64_t *gain);
+
+/*
+ * As pas_best, with floors.
+ *
+ * Time: to the search a floor is what a condition (i, place, 0, 0) of each bidder i below it would be. The worst sheet
+ * for pas_best was searched for among sheets with such conditions too.
+ *
+ * Refused with 1 to 13, 26 to 28, 30, 31, 18, or 19 where result_len is below m.
+ */
+uint32_t pas_best_floors(const uint8_t *sheet, size_t sheet_len, const uint32_t *floors, size_t floors_len,
+                         uint8_t *result, size_t result_len, uint64_t *total);
 
 #ifdef __cplusplus
 }

@@ -9,32 +9,43 @@ use std::process::{Command, ExitCode};
 
 /// The word with which the program runs one engine on one row and prints nothing.
 pub const ONLY: &str = "only";
+const LIBRARY: &str = "Library";
+const RUST: &str = "Rust";
+const FIRST: &str = "First";
 const SHEETS: usize = 32;
 const FEW: u64 = 1;
 const MANY: u64 = 3;
 
-/// Runs one engine on one row, all sheets, so many times.
+/// Runs one engine on one row, all sheets, so many times. "First" is the library with the first form of the row's call.
 pub fn run_only(rows: &[Row], engine: &str, row: &str, passes: &str) {
-    let engine = if engine == "Library" { Engine::Library } else { Engine::Rust };
     let row = &rows[row.parse::<usize>().expect("a row's position")];
+    let (engine, call) = match engine {
+        LIBRARY => (Engine::Library, row.call),
+        FIRST => (Engine::Library, row.call.first_form().expect("a call with floors")),
+        _ => (Engine::Rust, row.call),
+    };
     let inputs = inputs(row, SHEETS);
     for _ in 0..passes.parse().expect("a number of passes") {
-        answer(engine, row.call, &inputs);
+        answer(engine, call, &inputs);
     }
 }
 
 /// The table of instruction counts.
 pub fn show(rows: &[Row]) -> ExitCode {
     let counters = [perf as Counter, valgrind];
-    let Some(counter) = counters.into_iter().find(|count| count(&["only", "Rust", "0", "1"]).is_some()) else {
+    let Some(counter) = counters.into_iter().find(|count| count(&[ONLY, RUST, "0", "1"]).is_some()) else {
         eprintln!("Neither perf nor valgrind counts instructions on this machine.");
         return ExitCode::FAILURE;
     };
-    println!("{} library instructions | Rust instructions | library / Rust |", crate::TITLES);
-    println!("{}---------------------:|------------------:|---------------:|", crate::RULES);
+    println!("{} library instructions | Rust instructions | library / Rust | without floors | with floors / without |", crate::TITLES);
+    println!("{}---------------------:|------------------:|---------------:|---------------:|----------------------:|", crate::RULES);
     for (at, row) in rows.iter().enumerate() {
-        let [library, rust] = ["Library", "Rust"].map(|engine| a_call(counter, engine, at));
-        println!("{} {library:>20} | {rust:>17} | {:>14.2} |", crate::title(row.part, row), library as f64 / rust as f64);
+        let [library, rust] = [LIBRARY, RUST].map(|engine| a_call(counter, engine, at));
+        let ratio = library as f64 / rust as f64;
+        let first = row.call.first_form().map(|_| a_call(counter, FIRST, at));
+        let without = first.map_or(String::new(), |first| first.to_string());
+        let more = first.map_or(String::new(), |first| format!("{:.3}", library as f64 / first as f64));
+        println!("{} {library:>20} | {rust:>17} | {ratio:>14.2} | {without:>14} | {more:>21} |", crate::title(row.part, row));
     }
     ExitCode::SUCCESS
 }

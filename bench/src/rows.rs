@@ -1,9 +1,10 @@
 //! The lines of the table.
 
 use crate::work::{Call, Row};
-use independent::random::{Manner, Size};
+use independent::random::{Floors, Manner, Size};
 
 const QUICK_CALLS: [Call; 4] = [Call::Check, Call::Play, Call::Downward, Call::Gain];
+const NONE: Floors = Floors::Zero;
 
 fn size(bidders: usize, slots: usize, constraints: usize) -> Size {
     Size { bidders, slots, constraints }
@@ -19,7 +20,20 @@ pub fn rows() -> Vec<Row> {
     rows.extend(sizes("version 2", TICK));
     rows.extend(best_sizes("version 2", TICK));
     rows.extend(owner_parts());
+    rows.extend(with_floors("floors 0", None, Floors::Zero));
+    rows.extend(with_floors("floors any", None, Floors::Any));
+    rows.extend(with_floors("floors above", None, Floors::Above));
+    rows.extend(with_floors("floors, v. 2", TICK, Floors::OffTick));
     rows
+}
+
+/// The second forms on the rounds that the first forms have above, and play with many bidders and few constraints.
+fn with_floors(part: &'static str, tick: Option<u32>, floors: Floors) -> Vec<Row> {
+    let few =
+        [0, 256].map(|constraints| Row { part, call: Call::Play, size: size(64, 8, constraints), manner: Manner::Pairs, tick, floors });
+    let first = sizes(part, tick).into_iter().chain(few).chain(best_sizes(part, tick));
+    let second = |call| [Call::PlayFloors, Call::GainFloors, Call::BestFloors].into_iter().find(|second| second.first_form() == Some(call));
+    first.filter_map(|row| Some(Row { call: second(row.call)?, floors, ..row })).collect()
 }
 
 /// The tick of the rows of version 2. Their constraints are in order and none repeats, so they are not the rounds of version 1.
@@ -28,32 +42,40 @@ const TICK: Option<u32> = Some(10);
 /// The quick calls on sheets of five sizes; the smallest is round H's.
 fn sizes(part: &'static str, tick: Option<u32>) -> Vec<Row> {
     let sizes = [size(4, 3, 9), size(8, 4, 16), size(16, 8, 128), size(32, 12, 512), size(64, 16, 1024)];
-    let of_call = |call| sizes.map(|size| Row { part, call, size, manner: Manner::Mixed, tick });
+    let of_call = |call| sizes.map(|size| Row { part, call, size, manner: Manner::Mixed, tick, floors: NONE });
     QUICK_CALLS.into_iter().flat_map(of_call).collect()
 }
 
 /// A bidder's part with the constraints growing, and the check of the same sheets: how much the part costs besides.
 fn owner_parts() -> Vec<Row> {
-    let row = |call, constraints| Row { part: "owner's part", call, size: size(64, 16, constraints), manner: Manner::Mixed, tick: TICK };
+    let row = |call, constraints| Row {
+        part: "owner's part",
+        call,
+        size: size(64, 16, constraints),
+        manner: Manner::Mixed,
+        tick: TICK,
+        floors: NONE,
+    };
     [16, 64, 256, 1024].into_iter().flat_map(|constraints| [Call::Check, Call::Part].map(|call| row(call, constraints))).collect()
 }
 
 /// Play and downward on the largest sheets, by kind of constraint.
 fn kinds() -> Vec<Row> {
     let manners = [Manner::Pairs, Manner::OwnSlots, Manner::Exclusions, Manner::Chain];
-    let of_call = |call| manners.map(|manner| Row { part: "kinds", call, size: size(64, 16, 1024), manner, tick: None });
+    let of_call = |call| manners.map(|manner| Row { part: "kinds", call, size: size(64, 16, 1024), manner, tick: None, floors: NONE });
     [Call::Play, Call::Downward].into_iter().flat_map(of_call).collect()
 }
 
 /// The best page by size, with pairs.
 fn best_sizes(part: &'static str, tick: Option<u32>) -> Vec<Row> {
     let sizes = [size(4, 4, 8), size(6, 6, 24), size(8, 8, 0), size(8, 8, 64), size(8, 8, 512), size(8, 8, 1024)];
-    sizes.map(|size| Row { part, call: Call::Best, size, manner: Manner::Pairs, tick }).to_vec()
+    sizes.map(|size| Row { part, call: Call::Best, size, manner: Manner::Pairs, tick, floors: NONE }).to_vec()
 }
 
 /// The best page by kind of constraint. 196 constraints are the whole chain of 8 bidders in 8 slots; an exclusion is 8 constraints.
 fn best_kinds() -> Vec<Row> {
-    let row = |constraints, manner| Row { part: "kinds", call: Call::Best, size: size(8, 8, constraints), manner, tick: None };
+    let row =
+        |constraints, manner| Row { part: "kinds", call: Call::Best, size: size(8, 8, constraints), manner, tick: None, floors: NONE };
     let mut rows = vec![row(64, Manner::Mixed), row(24, Manner::OwnSlots), row(64, Manner::Exclusions), row(196, Manner::Chain)];
     rows.extend([24, 64, 96].map(|constraints| row(constraints, Manner::Ties)));
     rows
@@ -61,7 +83,7 @@ fn best_kinds() -> Vec<Row> {
 
 /// Play, then the best page, with one of n, m and c growing and the others fixed.
 fn growth() -> Vec<Row> {
-    let grow = |part, call, sizes: [Size; 4]| sizes.map(|size| Row { part, call, size, manner: Manner::Pairs, tick: None });
+    let grow = |part, call, sizes: [Size; 4]| sizes.map(|size| Row { part, call, size, manner: Manner::Pairs, tick: None, floors: NONE });
     let mut rows = Vec::new();
     rows.extend(grow("grows with n", Call::Play, [8, 16, 32, 64].map(|n| size(n, 8, 256))));
     rows.extend(grow("grows with m", Call::Play, [2, 4, 8, 16].map(|m| size(32, m, 256))));

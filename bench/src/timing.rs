@@ -1,7 +1,7 @@
 //! Times by the clock. The engines take turns of a fraction of a millisecond, so that what disturbs the machine disturbs few turns and
 //! both engines alike.
 
-use crate::work::{answer, inputs, Engine, Input, Row};
+use crate::work::{answer, inputs, Call, Engine, Input, Row};
 use std::time::{Duration, Instant};
 
 const REPETITIONS: usize = 21;
@@ -38,6 +38,8 @@ pub struct Times {
     pub rust: Spread,
     /// The library measured a second time: what noise alone makes of equal work.
     pub again: Spread,
+    /// Of a second form, the library's first form on the same sheets.
+    pub first_form: Option<Spread>,
 }
 
 /// How many sheets a row is measured on: so many that no engine's branches are learnt by heart from one repetition to the next.
@@ -47,29 +49,32 @@ fn sheets(row: &Row) -> usize {
 }
 
 /// Measures one row. The sheets are split into groups of a turn each, and a repetition goes through all groups, first with the library,
-/// then with the Rust engine, then with the library again. A group's time is the median of its repetitions, and the row's time is the
-/// mean over its sheets.
+/// then with the Rust engine, then with the library again, and where the call takes floors with the library's call without. A group's time is
+/// the median of its repetitions, and the row's time is the mean over its sheets.
 pub fn measure(row: &Row) -> Times {
     let inputs = inputs(row, sheets(row));
     let in_a_turn = (TURN.as_nanos() as f64 / calibrate(row, &inputs)).max(1.0) as usize;
     let groups: Vec<&[Input]> = inputs.chunks(in_a_turn).collect();
-    let engines = [Engine::Library, Engine::Rust, Engine::Library];
-    let mut measured = engines.map(|_| vec![Vec::new(); groups.len()]);
+    let mut turns = vec![(Engine::Library, row.call), (Engine::Rust, row.call), (Engine::Library, row.call)];
+    turns.extend(row.call.first_form().map(|first| (Engine::Library, first)));
+    let mut measured = vec![vec![Vec::new(); groups.len()]; turns.len()];
     for _ in 0..REPETITIONS {
-        for (engine, of_groups) in engines.iter().zip(&mut measured) {
-            for (group, turns) in groups.iter().zip(of_groups) {
-                turns.push(turn(*engine, row, group));
+        for (&(engine, call), of_groups) in turns.iter().zip(&mut measured) {
+            for (group, times) in groups.iter().zip(of_groups) {
+                times.push(turn(engine, call, group));
             }
         }
     }
-    let [library, rust, again] = measured.map(|of_groups| mean(&groups, of_groups));
-    Times { library, rust, again }
+    let mut means = measured.into_iter().map(|of_groups| mean(&groups, of_groups));
+    let mut next = || means.next();
+    let (library, rust, again) = (next().expect("a turn"), next().expect("a turn"), next().expect("a turn"));
+    Times { library, rust, again, first_form: next() }
 }
 
 /// Nanoseconds a call in one turn.
-fn turn(engine: Engine, row: &Row, group: &[Input]) -> f64 {
+fn turn(engine: Engine, call: Call, group: &[Input]) -> f64 {
     let start = Instant::now();
-    answer(engine, row.call, group);
+    answer(engine, call, group);
     start.elapsed().as_nanos() as f64 / group.len() as f64
 }
 
@@ -86,7 +91,7 @@ fn mean(groups: &[&[Input]], turns: Vec<Vec<f64>>) -> Spread {
 /// About how long a call of the library takes, in nanoseconds; both engines are warm then.
 fn calibrate(row: &Row, inputs: &[Input]) -> f64 {
     answer(Engine::Rust, row.call, inputs);
-    (0..3).map(|_| turn(Engine::Library, row, inputs)).fold(f64::INFINITY, f64::min)
+    (0..3).map(|_| turn(Engine::Library, row.call, inputs)).fold(f64::INFINITY, f64::min)
 }
 
 /// The longest that one sheet of a row takes with the library and with the Rust engine, of many sheets, in nanoseconds. A sheet's time is
@@ -98,7 +103,7 @@ pub fn slowest(row: &Row) -> [f64; 2] {
     for _ in 0..GOES {
         for (engine, of_sheets) in engines.iter().zip(&mut quickest) {
             for (input, best) in inputs.iter().zip(of_sheets) {
-                *best = best.min(turn(*engine, row, std::slice::from_ref(input)));
+                *best = best.min(turn(*engine, row.call, std::slice::from_ref(input)));
             }
         }
     }

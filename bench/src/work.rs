@@ -1,12 +1,12 @@
 //! What is measured: a call on sheets of one size and one manner, by either engine.
 
-use independent::random::{in_ticks, round, Manner, Random, Size};
+use independent::random::{floors, in_ticks, round, Floors, Manner, Random, Size};
 use independent::slow::Round;
 use independent::{engine, slow};
 use pas::raw;
 use std::hint::black_box;
 
-/// The five calls of document 01, and the part of document 02.
+/// The five calls of document 01, and of document 02 the part and the second forms, with floors.
 #[derive(Clone, Copy, Debug, PartialEq)]
 pub enum Call {
     Check,
@@ -15,6 +15,36 @@ pub enum Call {
     Gain,
     Best,
     Part,
+    PlayFloors,
+    GainFloors,
+    BestFloors,
+}
+
+impl Call {
+    /// The call in words, for a table.
+    pub fn name(self) -> &'static str {
+        match self {
+            Call::Check => "check",
+            Call::Play => "play",
+            Call::Downward => "downward",
+            Call::Gain => "gain",
+            Call::Best => "best",
+            Call::Part => "part",
+            Call::PlayFloors => "play floors",
+            Call::GainFloors => "gain floors",
+            Call::BestFloors => "best floors",
+        }
+    }
+
+    /// Of a second form, the first.
+    pub fn first_form(self) -> Option<Call> {
+        match self {
+            Call::PlayFloors => Some(Call::Play),
+            Call::GainFloors => Some(Call::Gain),
+            Call::BestFloors => Some(Call::Best),
+            _ => None,
+        }
+    }
 }
 
 /// Who answers.
@@ -33,20 +63,24 @@ pub struct Row {
     pub manner: Manner,
     /// None for sheets of version 1.
     pub tick: Option<u32>,
+    /// What the floors are like, where the call takes some.
+    pub floors: Floors,
 }
 
-/// One call's input: a sheet and, for the calls that take them, a bidder, a worth and a truth sheet.
+/// One call's input: a sheet and, for the calls that take them, floors, a bidder, a worth and a truth sheet.
 pub struct Input {
     sheet: Vec<u8>,
+    floors: Vec<u32>,
     truth: Vec<u8>,
     bidder: u32,
     worth: u32,
 }
 
-/// The inputs of a row, from a fixed seed, so that all runs measure the same.
+/// The inputs of a row, from a fixed seed, so that all runs measure the same. Floors have a seed of their own: with them a row has the rounds that
+/// it has without.
 pub fn inputs(row: &Row, count: usize) -> Vec<Input> {
-    let mut random = Random::seeded(2026);
-    (0..count).map(|_| input(&mut random, row)).collect()
+    let (mut random, mut of_floors) = (Random::seeded(2026), Random::seeded(7));
+    (0..count).map(|_| input(&mut random, &mut of_floors, row)).collect()
 }
 
 /// A round of a row. Repeats, which version 2 does not have, are drawn anew.
@@ -60,15 +94,17 @@ fn drawn(random: &mut Random, row: &Row) -> Round {
     drawn
 }
 
-fn input(random: &mut Random, row: &Row) -> Input {
-    let mut sheet = || slow::sheet(&drawn(random, row));
-    let (sheet, truth) = (sheet(), sheet());
+fn input(random: &mut Random, of_floors: &mut Random, row: &Row) -> Input {
+    let (played, truth) = (drawn(random, row), drawn(random, row));
+    let floors = floors(of_floors, &played, row.floors);
+    let (sheet, truth) = (slow::sheet(&played), slow::sheet(&truth));
     let mut page = [0; 80];
-    assert_eq!(engine::play(&sheet, &mut page), 0, "measured sheets are good");
+    assert_eq!(engine::play_floors(&sheet, &floors, &mut page), 0, "measured sheets are good");
     // A bidder with a slot, so that a gain is worked out and not just 0.
     let winners: Vec<u8> = page.chunks_exact(5).map(|slot| slot[0]).filter(|&bidder| bidder > 0).collect();
-    let bidder = if winners.is_empty() { 1 } else { random.one_of(&winners) };
-    Input { sheet, truth, bidder: u32::from(bidder), worth: random.between(0, 1_000_000_000) as u32 }
+    let pick = random.number() as usize;
+    let bidder = if winners.is_empty() { 1 } else { winners[pick % winners.len()] };
+    Input { sheet, floors, truth, bidder: u32::from(bidder), worth: random.between(0, 1_000_000_000) as u32 }
 }
 
 /// Answers every input once.
@@ -93,6 +129,9 @@ fn answer_by_library(call: Call, input: &Input) {
         Call::Gain => raw::gain(sheet, &input.truth, input.bidder, input.worth, &mut gain),
         Call::Best => raw::best(sheet, &mut result, &mut total),
         Call::Part => raw::owner_part(sheet, input.bidder, &mut start, &mut length),
+        Call::PlayFloors => raw::play_floors(sheet, &input.floors, &mut result),
+        Call::GainFloors => raw::gain_floors(sheet, &input.floors, &input.truth, input.bidder, input.worth, &mut gain),
+        Call::BestFloors => raw::best_floors(sheet, &input.floors, &mut result, &mut total),
     };
     black_box((number, &result, answer, gain, total, start, length));
 }
@@ -109,6 +148,9 @@ fn answer_by_rust(call: Call, input: &Input) {
         Call::Gain => engine::gain(sheet, &input.truth, input.bidder, input.worth, &mut gain),
         Call::Best => engine::best(sheet, &mut result, &mut total),
         Call::Part => engine::owner_part(sheet, input.bidder, &mut start, &mut length),
+        Call::PlayFloors => engine::play_floors(sheet, &input.floors, &mut result),
+        Call::GainFloors => engine::gain_floors(sheet, &input.floors, &input.truth, input.bidder, input.worth, &mut gain),
+        Call::BestFloors => engine::best_floors(sheet, &input.floors, &mut result, &mut total),
     };
     black_box((number, &result, answer, gain, total, start, length));
 }

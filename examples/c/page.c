@@ -1,7 +1,8 @@
 /*
  * Round H of document 01 from C: builds its sheet, prints the page with its prices as the page program does, then a
  * bidder's gain and the best page; then the page of the same round with bids in ticks, a sheet of version 2, and two
- * bidders' conditions where they stand in that sheet.
+ * bidders' conditions where they stand in that sheet; then page, gain and best page of that sheet with a floor under
+ * each place.
  */
 #include <inttypes.h>
 #include <stdio.h>
@@ -55,17 +56,22 @@ static int refused(const char *call, uint32_t number) {
     return 1;
 }
 
-/* prints a line a place; whether the sheet is refused */
+/* prints a line a place */
+static void show_page(const uint8_t *result) {
+    for (int k = 0; k < PLACES; k++) {
+        const uint8_t *place = result + PAS_PLACE_LENGTH * (size_t)k;
+        printf("%d %d %" PRIu32 "\n", k + 1, place[0], word_at(place + 1));
+    }
+}
+
+/* prints the page; whether the sheet is refused */
 static int play(const uint8_t *sheet, size_t length) {
     uint8_t result[PAS_MAX_RESULT_LENGTH];
     uint32_t number = pas_play(sheet, length, result, sizeof result);
     if (number != PAS_OK) {
         return refused("pas_play", number);
     }
-    for (int k = 0; k < PLACES; k++) {
-        const uint8_t *place = result + PAS_PLACE_LENGTH * (size_t)k;
-        printf("%d %d %" PRIu32 "\n", k + 1, place[0], word_at(place + 1));
-    }
+    show_page(result);
     return 0;
 }
 
@@ -82,6 +88,32 @@ static int show_part(const uint8_t *sheet, size_t length, uint32_t bidder) {
         printf(" (%d,%d,%d,%d)", at[0], at[1], at[2], at[3]);
     }
     printf("%s\n", part ? "" : " none");
+    return 0;
+}
+
+/* prints page, gain of 4 and best page with floors; whether a call is refused */
+static int show_with_floors(const uint8_t *sheet, size_t length, const uint32_t *floors) {
+    uint8_t result[PAS_MAX_RESULT_LENGTH];
+    uint32_t number = pas_play_floors(sheet, length, floors, PLACES, result, sizeof result);
+    if (number != PAS_OK) {
+        return refused("pas_play_floors", number);
+    }
+    show_page(result);
+
+    int64_t gain = 0;
+    number = pas_gain_floors(sheet, length, floors, PLACES, sheet, length, 4, 45, &gain);
+    if (number != PAS_OK) {
+        return refused("pas_gain_floors", number);
+    }
+    printf("gain of 4 at worth 45: %" PRId64 "\n", gain);
+
+    uint8_t best[PLACES];
+    uint64_t total = 0;
+    number = pas_best_floors(sheet, length, floors, PLACES, best, sizeof best, &total);
+    if (number != PAS_OK) {
+        return refused("pas_best_floors", number);
+    }
+    printf("best page: %d %d %d, total %" PRIu64 "\n", best[0], best[1], best[2], total);
     return 0;
 }
 
@@ -119,5 +151,18 @@ int main(void) {
 
     printf("in ticks of 2:\n");
     length = build(sheet, 2);
-    return play(sheet, length) || show_part(sheet, length, 2) || show_part(sheet, length, 4);
+    if (play(sheet, length) || show_part(sheet, length, 2) || show_part(sheet, length, 4)) {
+        return 1;
+    }
+
+    /* the first is between two ticks, the second above each bid that could have the place, the third is none */
+    static const uint32_t floors[PLACES] = {39, 33, 0};
+    printf("with floors of 39, 33 and 0:\n");
+    if (show_with_floors(sheet, length, floors)) {
+        return 1;
+    }
+    uint8_t result[PAS_MAX_RESULT_LENGTH];
+    number = pas_play_floors(sheet, length, floors, PLACES - 1, result, sizeof result);
+    printf("with a floor too few: refused %" PRIu32 "\n", number);
+    return 0;
 }

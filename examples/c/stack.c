@@ -7,6 +7,7 @@
  * went. All that the call puts on the stack counts: its return address, its frames, those of memcpy and memset, and in
  * the first call those of the dynamic linker, which then looks the two up. The sheets are the largest ones, refused
  * ones and random ones from a fixed seed, of both versions, in version 2 with the conditions in order and out of it.
+ * Floors are 0, any, as high as they may be, too many and too high.
  *
  * This file calls neither memcpy nor memset, so that they are looked up in the first call that is measured (the script
  * `stack` sees to it).
@@ -179,6 +180,27 @@ static void make_numbered(struct sheet *sheet, uint32_t number) {
     }
 }
 
+/* ---- Floors ---- */
+
+struct floors {
+    uint32_t numbers[PAS_MAX_PLACES + 1];
+    size_t count;
+};
+
+/* the floors by number, for m places: of every eight lists one has a floor too many and one a floor that is too high */
+static void make_floors(struct floors *floors, uint32_t number, uint32_t m) {
+    static const uint32_t highest[] = {0, PAS_MAX_FLOOR / 2, PAS_MAX_FLOOR};
+    uint32_t most = highest[number / 8 % 3];
+    uint32_t least = number % 2 ? most : 0;
+    floors->count = (m > PAS_MAX_PLACES ? PAS_MAX_PLACES : m) + (number % 8 == 5);
+    for (size_t k = 0; k < floors->count; k++) {
+        floors->numbers[k] = between(least, most);
+    }
+    if (number % 8 == 6) {
+        floors->numbers[0] = PAS_MAX_FLOOR + 1;
+    }
+}
+
 /* ---- The stack ---- */
 
 /* the lowest byte of the thread's stack */
@@ -224,6 +246,7 @@ static inline __attribute__((always_inline)) size_t depth_below(const uint8_t *t
 
 /* the calls' own data lie outside the stack that is painted */
 static struct sheet sheet, truth;
+static struct floors floors;
 static uint8_t result[PAS_MAX_RESULT_LENGTH];
 static uint8_t answer;
 static int64_t gain;
@@ -246,6 +269,12 @@ MEASURED(downward, pas_downward(sheet.bytes, sheet.length, bidder, &answer))
 MEASURED(gain_of, pas_gain(sheet.bytes, sheet.length, truth.bytes, truth.length, bidder, worth, &gain))
 MEASURED(best, pas_best(sheet.bytes, sheet.length, result, sizeof result, &total))
 MEASURED(owner_part, pas_owner_part(sheet.bytes, sheet.length, bidder, &start, &length))
+MEASURED(play_floors,
+         pas_play_floors(sheet.bytes, sheet.length, floors.numbers, floors.count, result, sizeof result))
+MEASURED(gain_floors, pas_gain_floors(sheet.bytes, sheet.length, floors.numbers, floors.count, truth.bytes,
+                                      truth.length, bidder, worth, &gain))
+MEASURED(best_floors,
+         pas_best_floors(sheet.bytes, sheet.length, floors.numbers, floors.count, result, sizeof result, &total))
 
 static const struct call {
     const char *name;
@@ -258,6 +287,9 @@ static const struct call {
     {"pas_gain", gain_of, PAS_STACK_GAIN},
     {"pas_best", best, PAS_STACK_BEST},
     {"pas_owner_part", owner_part, PAS_STACK_OWNER_PART},
+    {"pas_play_floors", play_floors, PAS_STACK_PLAY_FLOORS},
+    {"pas_gain_floors", gain_floors, PAS_STACK_GAIN_FLOORS},
+    {"pas_best_floors", best_floors, PAS_STACK_BEST_FLOORS},
 };
 
 enum { CALLS = sizeof calls / sizeof calls[0] };
@@ -290,9 +322,11 @@ static void *measure(void *given) {
     worth = PAS_MAX_WORTH;
     make(&sheet, 0, PAS_MAX_BEST_BIDDERS, PAS_MAX_BEST_PLACES, PAS_MAX_CONDITIONS, PAS_MAX_BID, PAIRS);
     make(&truth, 0, PAS_MAX_BEST_BIDDERS, PAS_MAX_BEST_PLACES, PAS_MAX_CONDITIONS, PAS_MAX_BID, PAIRS);
+    make_floors(&floors, 0, PAS_MAX_BEST_PLACES);
     found.first = call->measured(0xa5);
     for (uint32_t round = 0; round < ROUNDS; round++) {
         make_numbered(&sheet, round);
+        make_floors(&floors, round, sheet.bytes[6]);
         /* the truth sheet has as many bidders and places, but for one time in 16 */
         uint32_t n = round % 16 ? sheet.bytes[5] : 1;
         make(&truth, ticks[round / 2 % TICKS], n, sheet.bytes[6], round % 2 ? PAS_MAX_CONDITIONS : 0, 1, MIXED);
@@ -334,7 +368,7 @@ static int measure_in_process(const struct call *call, struct found *into) {
 
 int main(void) {
     int within = 1;
-    printf("call            first call  later calls  header's figure  accepted  refused\n");
+    printf("call             first call  later calls  header's figure  accepted  refused\n");
     fflush(stdout);
     for (size_t i = 0; i < CALLS; i++) {
         struct found of;
@@ -342,7 +376,7 @@ int main(void) {
             fprintf(stderr, "%s is not measured\n", calls[i].name);
             return EXIT_FAILURE;
         }
-        printf("%-14s  %10zu  %11zu  %15zu  %8" PRIu32 "  %7" PRIu32 "\n", calls[i].name, of.first, of.later,
+        printf("%-15s  %10zu  %11zu  %15zu  %8" PRIu32 "  %7" PRIu32 "\n", calls[i].name, of.first, of.later,
                calls[i].promised, of.accepted, of.refused);
         fflush(stdout);
         if (of.first > calls[i].promised || of.later > calls[i].promised) {

@@ -1,6 +1,6 @@
 /*
- * Sheets and results in vectors, which may be empty: pas_to_read and pas_to_write take the place of the null pointer
- * that an empty vector has.
+ * Sheets, results and floors in vectors, which may be empty: pas_to_read, pas_to_write and pas_to_read_floors take the
+ * place of the null pointer that an empty vector has.
  */
 #include <cstdint>
 #include <iostream>
@@ -9,6 +9,7 @@
 #include "pas.h"
 
 using Bytes = std::vector<std::uint8_t>;
+using Floors = std::vector<std::uint32_t>;
 
 static std::uint32_t check(const Bytes &sheet) {
     return pas_check(pas_to_read(sheet.data(), sheet.size()), sheet.size());
@@ -17,6 +18,12 @@ static std::uint32_t check(const Bytes &sheet) {
 static std::uint32_t play(const Bytes &sheet, Bytes &result) {
     return pas_play(pas_to_read(sheet.data(), sheet.size()), sheet.size(), pas_to_write(result.data(), result.size()),
                     result.size());
+}
+
+static std::uint32_t play(const Bytes &sheet, const Floors &floors, Bytes &result) {
+    return pas_play_floors(pas_to_read(sheet.data(), sheet.size()), sheet.size(),
+                           pas_to_read_floors(floors.data(), floors.size()), floors.size(),
+                           pas_to_write(result.data(), result.size()), result.size());
 }
 
 int main() {
@@ -31,10 +38,18 @@ int main() {
     std::cout << "neither: " << play(sheet, result);
     std::cout << ", bidder " << int{result[0]} << " for " << int{result[1]} << '\n';
 
+    const Floors floors = {7};
+    const Floors no_floors;
+    std::cout << "no floors: " << play(sheet, no_floors, result) << '\n';
+    std::cout << "no floors and both empty: " << play(none, no_floors, none) << '\n';
+    std::cout << "a floor of 7: " << play(sheet, floors, result) << ", bidder " << int{result[0]} << '\n';
+
     /* the pointers that the calls get: never null, and the vector's own where it has bytes */
     const bool kept = pas_to_read(sheet.data(), sheet.size()) == sheet.data() &&
-                      pas_to_write(result.data(), result.size()) == result.data();
-    const bool never_null = pas_to_read(nullptr, 0) != nullptr && pas_to_write(nullptr, 0) != nullptr;
+                      pas_to_write(result.data(), result.size()) == result.data() &&
+                      pas_to_read_floors(floors.data(), floors.size()) == floors.data();
+    const bool never_null = pas_to_read(nullptr, 0) != nullptr && pas_to_write(nullptr, 0) != nullptr &&
+                            pas_to_read_floors(nullptr, 0) != nullptr;
     std::cout << "pointers: " << (kept ? "kept" : "lost") << ", " << (never_null ? "never null" : "null") << '\n';
     return 0;
 }

@@ -1,6 +1,6 @@
-//! The six calls over bytes that nobody has checked, with typed answers.
+//! The nine calls over bytes that nobody has checked, with typed answers.
 
-use crate::page::{bidder, BestPage, Page};
+use crate::page::{bidders, BestPage, Page};
 use crate::part::OwnerPart;
 use crate::raw;
 use crate::sheet::Bidder;
@@ -30,6 +30,21 @@ pub fn play_into(sheet: &[u8], result: &mut [u8]) -> Result<(), Refusal> {
     Refusal::none_or(raw::play(sheet, result))
 }
 
+/// Plays a sheet with a floor under each slot, from the top down: a bidder is eligible for a slot only with a bid at or above its floor, and a price
+/// is the smallest bid that the sheet would accept and with which the winner would still have won, with the same floors. So no price of a filled slot is
+/// below the floor, and where the floor is no multiple of the tick the next one is the least price. An empty slot has price 0. With floors of 0 it is
+/// [`play`]. Refused with 1 to 13 or 26 to 28, with 30 where there are not as many floors as slots, or with 31 for a floor above 1,000,000,000.
+pub fn play_floors(sheet: &[u8], floors: &[u32]) -> Result<Page, Refusal> {
+    let mut result = [0; 5 * MOST_SLOTS];
+    play_floors_into(sheet, floors, &mut result)?;
+    Ok(Page::from_result(&result[..5 * slots(sheet)]))
+}
+
+/// Plays a sheet with floors into a lent buffer, as [`play_into`] without them. Refused as [`play_floors`], or with 19 where the buffer is too short.
+pub fn play_floors_into(sheet: &[u8], floors: &[u32], result: &mut [u8]) -> Result<(), Refusal> {
+    Refusal::none_or(raw::play_floors(sheet, floors, result))
+}
+
 /// Whether the list of a bidder, the constraints that it owns, is downward monotonic: for each of them with an own slot that is not the
 /// last, the list has the same constraint with the next own slot too. An empty list is. Refused with 1 to 13, 26 to 28, or 16.
 pub fn is_downward(sheet: &[u8], bidder: Bidder) -> Result<bool, Refusal> {
@@ -47,13 +62,20 @@ pub fn gain(played: &[u8], truth: &[u8], bidder: Bidder, worth: u32) -> Result<i
     Ok(gain)
 }
 
+/// What a bidder gains, as [`gain`] has it, when the first sheet is played with a floor under each slot. Refused with 1 to 13 or 26 to 28 for the
+/// played sheet, with 30 where there are not as many floors as slots, with 31 for a floor above 1,000,000,000, or with 14 to 17.
+pub fn gain_floors(played: &[u8], floors: &[u32], truth: &[u8], bidder: Bidder, worth: u32) -> Result<i64, Refusal> {
+    let mut gain = 0;
+    Refusal::none_or(raw::gain_floors(played, floors, truth, u32::from(bidder.0), worth, &mut gain))?;
+    Ok(gain)
+}
+
 /// The best page of a sheet of at most 8 bidders and 8 slots: of the pages that break no constraint one with the largest total, and of
 /// those the first in dictionary order of the bidders' numbers by slot, 0 for an empty one. Refused with 1 to 13, 26 to 28, or 18.
 pub fn best_page(sheet: &[u8]) -> Result<BestPage, Refusal> {
     let mut result = [0; MOST_SLOTS];
     let total = best_into(sheet, &mut result)?;
-    let bidders = result[..slots(sheet)].iter().map(|&number| bidder(number)).collect();
-    Ok(BestPage { bidders, total })
+    Ok(BestPage { bidders: bidders(&result[..slots(sheet)]), total })
 }
 
 /// Writes the best page's bidder numbers to a lent buffer, a byte a slot (0 for empty), without allocation, and gives the total. Later
@@ -61,6 +83,22 @@ pub fn best_page(sheet: &[u8]) -> Result<BestPage, Refusal> {
 pub fn best_into(sheet: &[u8], result: &mut [u8]) -> Result<u64, Refusal> {
     let mut total = 0;
     Refusal::none_or(raw::best(sheet, result, &mut total))?;
+    Ok(total)
+}
+
+/// The best page of a sheet with a floor under each slot: as [`best_page`], among the pages that besides have in every filled slot a bid at or above its
+/// floor. Refused with 1 to 13 or 26 to 28, with 30 where there are not as many floors as slots, with 31 for a floor above 1,000,000,000, or with 18.
+pub fn best_page_floors(sheet: &[u8], floors: &[u32]) -> Result<BestPage, Refusal> {
+    let mut result = [0; MOST_SLOTS];
+    let total = best_floors_into(sheet, floors, &mut result)?;
+    Ok(BestPage { bidders: bidders(&result[..slots(sheet)]), total })
+}
+
+/// Writes the best page with floors to a lent buffer, as [`best_into`] without them, and gives the total. Refused as [`best_page_floors`], or with 19
+/// where the buffer is too short.
+pub fn best_floors_into(sheet: &[u8], floors: &[u32], result: &mut [u8]) -> Result<u64, Refusal> {
+    let mut total = 0;
+    Refusal::none_or(raw::best_floors(sheet, floors, result, &mut total))?;
     Ok(total)
 }
 

@@ -3,7 +3,8 @@
 //! A page has slots from the top down, each with an effect. Bidders bid per click and set constraints: slots where they will not stand,
 //! and bidders beside whom they will not stand. The library fills the page, charges each winner the smallest bid with which it would still
 //! have won its slot, tells whether a bidder's list is downward monotonic, works out what a bidder gains, finds the best page of a
-//! small round, and shows where in a sheet one bidder's constraints stand. Its answers are proved, refusals included; this crate adds types and no judgement of its own.
+//! small round, and shows where in a sheet one bidder's constraints stand. Page, gain and best page are there with a floor under each slot too. Its
+//! answers are proved, refusals included; this crate adds types and no judgement of its own.
 //!
 //! The C header `include/pas.h` is the manual: the sheet's layout, the limits, what each call means. It says "place" for a slot and
 //! "condition" for a constraint, and so do the sentences of a [`Refusal`]; `docs/EMBEDDING.md` of the repository has the table of words.
@@ -72,8 +73,31 @@
 //! # Ok::<(), Refusal>(())
 //! ```
 //!
+//! Where some slots cost more to show, a call is lent a floor for each slot. Here the floor of slot 1 is above every bid, so that it stays empty; that of
+//! slot 2 sets the price, since a bid of 36 is the smallest in ticks that reaches 34; that of slot 3 is 0 and asks nothing:
+//!
+//! ```
+//! use pas::{Bidder, Refusal, SheetBuilder};
+//!
+//! let sheet = SheetBuilder::new().tick(3).effects([4, 2, 1]).bids([42, 30, 18]).build()?;
+//! assert_eq!(sheet.play().prices(), [30, 18, 0]);
+//!
+//! let floors = [43, 34, 0];
+//! let page = sheet.play_floors(&floors)?;
+//! assert_eq!(page.bidders(), [None, Some(Bidder(1)), Some(Bidder(2))]);
+//! assert_eq!(page.prices(), [0, 36, 18]);
+//! assert_eq!(sheet.gain_floors(&floors, &sheet, Bidder(1), 42)?, 12);
+//!
+//! let best = sheet.best_page_floors(&floors)?;
+//! assert_eq!((best.bidders, best.total), (page.bidders(), 114));
+//! assert_eq!(sheet.play_floors(&[0; 3])?, sheet.play());
+//! assert_eq!(sheet.play_floors(&[0; 2]), Err(Refusal::WrongFloorCount));
+//! # Ok::<(), Refusal>(())
+//! ```
+//!
 //! Every call but the check is there twice: as a method of [`Sheet`], whose bytes the library has accepted, and as a function over bytes
-//! that nobody has checked. The check makes a [`Sheet`] of bytes (`Sheet::from_bytes`), and is a function too. `play_into` and `best_into` write to a buffer of the caller's and allocate nothing. [`raw`] has the calls with plain
+//! that nobody has checked. The check makes a [`Sheet`] of bytes (`Sheet::from_bytes`), and is a function too. `play_into`, `best_into` and
+//! their second forms with floors write to a buffer of the caller's and allocate nothing. [`raw`] has the calls with plain
 //! numbers, as in C. A [`Sheet`] can be read back: its tick, effects, bids and constraints, as the builder takes them.
 //!
 //! Calls may run in several threads at once. They take up to 40 KB of stack, which is measured and not proved (`PAS_STACK_PLAY` and the
@@ -92,7 +116,8 @@ pub mod raw;
 mod refusal;
 mod sheet;
 
-pub use calls::{best_into, best_page, check, gain, is_downward, owner_part, play, play_into};
+pub use calls::{best_floors_into, best_into, best_page, best_page_floors, play_floors, play_floors_into};
+pub use calls::{check, gain, gain_floors, is_downward, owner_part, play, play_into};
 pub use page::{BestPage, Page, Placement};
 pub use part::OwnerPart;
 pub use refusal::Refusal;

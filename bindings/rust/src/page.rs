@@ -53,6 +53,11 @@ pub struct BestPage {
 }
 
 /// The bidder of a byte in a result, where 0 is an empty slot.
-pub(crate) fn bidder(number: u8) -> Option<Bidder> {
+fn bidder(number: u8) -> Option<Bidder> {
     (number > 0).then_some(Bidder(number))
+}
+
+/// The bidders of the bytes that the best page's call writes, one a slot.
+pub(crate) fn bidders(written: &[u8]) -> Vec<Option<Bidder>> {
+    written.iter().map(|&number| bidder(number)).collect()
 }

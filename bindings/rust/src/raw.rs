@@ -1,11 +1,12 @@
-//! The six calls with plain numbers, as the C header has them, over slices.
+//! The nine calls with plain numbers, as the C header has them, over slices.
 //!
 //! Each returns 0, or the number of the first rule that the call breaks, by which [`Refusal`](crate::Refusal) names it; then everything
 //! lent stays as it was. This is the only module with `unsafe` in it.
 
 #![allow(unsafe_code)]
 
-/// The library's own functions. A pointer must not be null, an answer's must be aligned, and what is written must not overlap what is read.
+/// The library's own functions. A pointer must not be null, an answer's and that of floors must be aligned, and what is written must not overlap
+/// what is read.
 mod library {
     extern "C" {
         pub fn pas_check(sheet: *const u8, sheet_len: usize) -> u32;
@@ -22,6 +23,34 @@ mod library {
         ) -> u32;
         pub fn pas_best(sheet: *const u8, sheet_len: usize, result: *mut u8, result_len: usize, total: *mut u64) -> u32;
         pub fn pas_owner_part(sheet: *const u8, sheet_len: usize, bidder: u32, start: *mut usize, length: *mut usize) -> u32;
+        pub fn pas_play_floors(
+            sheet: *const u8,
+            sheet_len: usize,
+            floors: *const u32,
+            floors_len: usize,
+            result: *mut u8,
+            result_len: usize,
+        ) -> u32;
+        pub fn pas_gain_floors(
+            played: *const u8,
+            played_len: usize,
+            floors: *const u32,
+            floors_len: usize,
+            truth: *const u8,
+            truth_len: usize,
+            bidder: u32,
+            worth: u32,
+            gain: *mut i64,
+        ) -> u32;
+        pub fn pas_best_floors(
+            sheet: *const u8,
+            sheet_len: usize,
+            floors: *const u32,
+            floors_len: usize,
+            result: *mut u8,
+            result_len: usize,
+            total: *mut u64,
+        ) -> u32;
     }
 }
 
@@ -60,4 +89,38 @@ pub fn best(sheet: &[u8], result: &mut [u8], total: &mut u64) -> u32 {
 pub fn owner_part(sheet: &[u8], bidder: u32, start: &mut usize, length: &mut usize) -> u32 {
     // SAFETY: the slice, which is only read, is good for its length, and both numbers are aligned and lent to this call alone.
     unsafe { library::pas_owner_part(sheet.as_ptr(), sheet.len(), bidder, start, length) }
+}
+
+/// As [`play`], with a floor under each slot.
+pub fn play_floors(sheet: &[u8], floors: &[u32], result: &mut [u8]) -> u32 {
+    // SAFETY: the slices are good for their lengths, that of floors is aligned, and a `&mut` slice overlaps no other.
+    unsafe { library::pas_play_floors(sheet.as_ptr(), sheet.len(), floors.as_ptr(), floors.len(), result.as_mut_ptr(), result.len()) }
+}
+
+/// As [`gain`], with a floor under each slot of the played sheet.
+pub fn gain_floors(played: &[u8], floors: &[u32], truth: &[u8], bidder: u32, worth: u32, gain: &mut i64) -> u32 {
+    // SAFETY: the slices, which are only read, are good for their lengths, that of floors is aligned, and the gain is an aligned number that is
+    // lent to this call alone.
+    unsafe {
+        library::pas_gain_floors(
+            played.as_ptr(),
+            played.len(),
+            floors.as_ptr(),
+            floors.len(),
+            truth.as_ptr(),
+            truth.len(),
+            bidder,
+            worth,
+            gain,
+        )
+    }
+}
+
+/// As [`best`], with a floor under each slot.
+pub fn best_floors(sheet: &[u8], floors: &[u32], result: &mut [u8], total: &mut u64) -> u32 {
+    // SAFETY: the slices are good for their lengths, that of floors is aligned, and a `&mut` slice and a `&mut` number, which is aligned, overlap
+    // nothing else.
+    unsafe {
+        library::pas_best_floors(sheet.as_ptr(), sheet.len(), floors.as_ptr(), floors.len(), result.as_mut_ptr(), result.len(), total)
+    }
 }

@@ -3,8 +3,8 @@
 use std::error::Error;
 use std::fmt;
 
-/// The rule that a refused call breaks, the first in checking order: by number, but that 26 comes after 6, 27 after 9, 28 after 13 and 29
-/// before 16. A refused call alters nothing that was lent to it. A later version may have more of them.
+/// The rule that a refused call breaks, the first in checking order: by number, but that 26 comes after 6, 27 after 9, 28 after 13,
+/// then 30 and 31, and 29 before 16. A refused call alters nothing that was lent to it. A later version may have more of them.
 ///
 /// [`Display`](fmt::Display) gives the header's sentence, which says n for the number of bidders, m for that of slots ("places") and c
 /// for that of constraints ("conditions").
@@ -58,10 +58,14 @@ pub enum Refusal {
     OutOfOrder,
     /// 29: a bidder's part is asked of a sheet of version 1, whose constraints may come in any order.
     UnorderedVersion,
+    /// 30: there are not as many floors as slots.
+    WrongFloorCount,
+    /// 31: a floor is above 1,000,000,000.
+    WrongFloor,
 }
 
 /// Every refusal, in the order of the numbers.
-const ALL: [Refusal; 23] = [
+const ALL: [Refusal; 25] = [
     Refusal::SheetTooShort,
     Refusal::WrongMark,
     Refusal::WrongVersion,
@@ -85,10 +89,12 @@ const ALL: [Refusal; 23] = [
     Refusal::BidOffTick,
     Refusal::OutOfOrder,
     Refusal::UnorderedVersion,
+    Refusal::WrongFloorCount,
+    Refusal::WrongFloor,
 ];
 
 impl Refusal {
-    /// The number, 1 to 19 or 26 to 29, by which C has it.
+    /// The number, 1 to 19 or 26 to 31, by which C has it.
     pub fn number(self) -> u32 {
         self as u32
     }
@@ -124,6 +130,8 @@ impl Refusal {
             Refusal::BidOffTick => "A bid is no multiple of the tick.",
             Refusal::OutOfOrder => "A condition of version 2 is not above the one before it.",
             Refusal::UnorderedVersion => "A bidder's part is asked of a sheet of version 1.",
+            Refusal::WrongFloorCount => "The list of floors is not m long.",
+            Refusal::WrongFloor => "A floor is above 1,000,000,000.",
         }
     }
 

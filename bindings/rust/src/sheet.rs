@@ -166,6 +166,16 @@ impl Sheet {
         calls::play_into(&self.bytes, result)
     }
 
+    /// Plays the round with a floor under each slot; see [`play_floors`](crate::play_floors). Only the floors can be refused here.
+    pub fn play_floors(&self, floors: &[u32]) -> Result<Page, Refusal> {
+        calls::play_floors(&self.bytes, floors)
+    }
+
+    /// Plays the round with floors into a lent buffer of at least 5 bytes a slot; see [`play_floors_into`](crate::play_floors_into).
+    pub fn play_floors_into(&self, floors: &[u32], result: &mut [u8]) -> Result<(), Refusal> {
+        calls::play_floors_into(&self.bytes, floors, result)
+    }
+
     /// Whether the list of a bidder is downward monotonic; see [`is_downward`](crate::is_downward). Only the bidder can be refused here.
     pub fn is_downward(&self, bidder: Bidder) -> Result<bool, Refusal> {
         calls::is_downward(&self.bytes, bidder)
@@ -177,6 +187,11 @@ impl Sheet {
         calls::gain(&self.bytes, &truth.bytes, bidder, worth)
     }
 
+    /// What a bidder gains when this sheet is played with a floor under each slot; see [`gain_floors`](crate::gain_floors).
+    pub fn gain_floors(&self, floors: &[u32], truth: &Sheet, bidder: Bidder, worth: u32) -> Result<i64, Refusal> {
+        calls::gain_floors(&self.bytes, floors, &truth.bytes, bidder, worth)
+    }
+
     /// The best page of a round of at most 8 bidders and 8 slots; see [`best_page`](crate::best_page).
     pub fn best_page(&self) -> Result<BestPage, Refusal> {
         calls::best_page(&self.bytes)
@@ -185,6 +200,16 @@ impl Sheet {
     /// Writes the best page to a lent buffer of at least a byte a slot; see [`best_into`](crate::best_into).
     pub fn best_into(&self, result: &mut [u8]) -> Result<u64, Refusal> {
         calls::best_into(&self.bytes, result)
+    }
+
+    /// The best page with a floor under each slot; see [`best_page_floors`](crate::best_page_floors).
+    pub fn best_page_floors(&self, floors: &[u32]) -> Result<BestPage, Refusal> {
+        calls::best_page_floors(&self.bytes, floors)
+    }
+
+    /// Writes the best page with floors to a lent buffer of at least a byte a slot; see [`best_floors_into`](crate::best_floors_into).
+    pub fn best_floors_into(&self, floors: &[u32], result: &mut [u8]) -> Result<u64, Refusal> {
+        calls::best_floors_into(&self.bytes, floors, result)
     }
 }
 

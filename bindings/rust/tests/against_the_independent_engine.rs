@@ -1,7 +1,7 @@
 //! The library and the independent engine must agree on every byte: numbers, answers, buffers with what lies behind the result, on
 //! good sheets and on damaged ones. The seeds are fixed, so that a failure comes back.
 
-use independent::random::{disordered, in_ticks, round, tick, Manner, Random, Size};
+use independent::random::{disordered, floors, in_ticks, round, tick, Floors, Manner, Random, Size};
 use independent::{engine, slow};
 use pas::raw;
 use std::collections::BTreeSet;
@@ -65,7 +65,12 @@ fn write_a_word(random: &mut Random, sheet: &mut [u8]) {
 /// A sheet that is good more than every other time: its constraints are in disorder one time in eight, which version 1 allows, and it is
 /// damaged one time in three, once or twice.
 fn random_sheet(random: &mut Random, most: Size) -> Vec<u8> {
-    let mut round = random_round(random, most);
+    let round = random_round(random, most);
+    sheet_of(random, round)
+}
+
+/// A round's sheet, in disorder and damaged as often.
+fn sheet_of(random: &mut Random, mut round: slow::Round) -> Vec<u8> {
     if random.once_in(8) {
         round = disordered(random, round);
     }
@@ -77,6 +82,28 @@ fn random_sheet(random: &mut Random, most: Size) -> Vec<u8> {
         }
     }
     sheet
+}
+
+/// Floors of some kind for a round; one time in eight too few or too many, and one time in eight with one that is too high.
+fn random_floors(random: &mut Random, round: &slow::Round) -> Vec<u32> {
+    let kind = random.one_of(&Floors::ALL);
+    let mut floors = floors(random, round, kind);
+    if random.once_in(8) {
+        let count = random.one_of(&[0, floors.len() - 1, floors.len() + 1, 17, 64]);
+        floors.resize(count, 0);
+    }
+    if random.once_in(8) && !floors.is_empty() {
+        let at = random.between(0, floors.len() - 1);
+        floors[at] = random.one_of(&[1_000_000_001, 1 << 31, u32::MAX]);
+    }
+    floors
+}
+
+/// A sheet, good or damaged, and floors for the round that it was written from.
+fn random_sheet_and_floors(random: &mut Random, most: Size) -> (Vec<u8>, Vec<u32>) {
+    let round = random_round(random, most);
+    let floors = random_floors(random, &round);
+    (sheet_of(random, round), floors)
 }
 
 /// Bytes on both sides of a lent buffer that no call may touch.
@@ -272,6 +299,114 @@ fn both_find_every_owners_part() {
 }
 
 #[test]
+fn both_write_the_same_page_with_floors() {
+    let (mut random, mut seen, mut others) = (Random::seeded(8), Seen::default(), [0; 2]);
+    for _ in 0..40_000 {
+        let most = random.one_of(&[WHOLE, SMALL, SMALL]);
+        let (sheet, floors) = random_sheet_and_floors(&mut random, most);
+        let lent = lent_buffer(&mut random, 5 * usize::from(*sheet.get(6).unwrap_or(&1)));
+        let (mut ours, mut theirs, mut without) = (lent.clone(), lent.clone(), lent.clone());
+        let number = engine::play_floors(&sheet, &floors, within(&mut theirs));
+        assert_eq!(raw::play_floors(&sheet, &floors, within(&mut ours)), number, "{sheet:?}, {floors:?}");
+        assert_eq!(ours, theirs, "{sheet:?}, {floors:?}");
+        assert!(number == 0 || ours == lent, "a refused call altered the buffer");
+        if number == 0 {
+            engine::play(&sheet, within(&mut without));
+            others[usize::from(without != ours)] += 1;
+        }
+        seen.add(number);
+    }
+    seen.all_of_a_sheet_and([30, 31, 19]);
+    assert!(others.iter().all(|&times| times > 1000), "pages or prices with floors are often others, and often not: {others:?}");
+}
+
+#[test]
+fn both_find_the_same_gain_with_floors() {
+    let (mut random, mut seen, mut signs) = (Random::seeded(9), Seen::default(), [0; 3]);
+    for _ in 0..40_000 {
+        let most = random.one_of(&[WHOLE, SMALL, SMALL]);
+        let round = random_round(&mut random, most);
+        let floors = random_floors(&mut random, &round);
+        let truth = truth_of(&mut random, &round);
+        let mut played = slow::sheet(&round);
+        if random.once_in(6) {
+            damage(&mut random, &mut played);
+        }
+        let (bidder, worth) = (bidder_number(&mut random, &played), worth(&mut random));
+        let (mut ours, mut theirs) = (77, 77);
+        let number = engine::gain_floors(&played, &floors, &truth, bidder, worth, &mut theirs);
+        let our_number = raw::gain_floors(&played, &floors, &truth, bidder, worth, &mut ours);
+        assert_eq!((our_number, ours), (number, theirs), "{played:?}, {floors:?}, {truth:?}, {bidder}, {worth}");
+        match number {
+            0 => signs[(ours.signum() + 1) as usize] += 1,
+            _ => assert_eq!(ours, 77, "a refused call altered the gain"),
+        }
+        seen.add(number);
+    }
+    seen.all_of_a_sheet_and([30, 31].into_iter().chain(14..=17));
+    assert!(signs.iter().all(|&times| times > 500), "losses, none and gains come up: {signs:?}");
+}
+
+#[test]
+fn both_find_the_same_best_page_with_floors() {
+    let (mut random, mut seen, mut others) = (Random::seeded(10), Seen::default(), [0; 2]);
+    for _ in 0..40_000 {
+        let most =
+            random.one_of(&[SMALL, Size { bidders: 8, slots: 8, constraints: 60 }, Size { bidders: 8, slots: 8, constraints: 1024 }]);
+        let (sheet, floors) = random_sheet_and_floors(&mut random, most);
+        let lent = lent_buffer(&mut random, usize::from(*sheet.get(6).unwrap_or(&1)));
+        let (mut ours, mut theirs, mut without) = (lent.clone(), lent.clone(), lent.clone());
+        let (mut our_total, mut their_total) = (77, 77);
+        let number = engine::best_floors(&sheet, &floors, within(&mut theirs), &mut their_total);
+        assert_eq!(raw::best_floors(&sheet, &floors, within(&mut ours), &mut our_total), number, "{sheet:?}, {floors:?}");
+        assert_eq!((&ours, our_total), (&theirs, their_total), "{sheet:?}, {floors:?}");
+        assert!(number == 0 || (ours == lent && our_total == 77), "a refused call altered something lent");
+        if number == 0 {
+            engine::best(&sheet, within(&mut without), &mut their_total);
+            others[usize::from(without != ours)] += 1;
+        }
+        seen.add(number);
+    }
+    seen.all_of_a_sheet_and([30, 31, 18, 19]);
+    assert!(others.iter().all(|&times| times > 1000), "best pages with floors are often others, and often not: {others:?}");
+}
+
+#[test]
+fn with_floors_of_0_each_call_answers_as_its_first_form() {
+    let (mut random, mut seen) = (Random::seeded(11), [Seen::default(), Seen::default(), Seen::default()]);
+    for _ in 0..20_000 {
+        let most = random.one_of(&[WHOLE, SMALL, SMALL]);
+        let round = random_round(&mut random, most);
+        let truth = truth_of(&mut random, &round);
+        let sheet = sheet_of(&mut random, round);
+        let slots = usize::from(*sheet.get(6).unwrap_or(&1));
+        let zeros = vec![0; slots];
+
+        let lent = lent_buffer(&mut random, 5 * slots);
+        let (mut first, mut second) = (lent.clone(), lent);
+        let number = raw::play(&sheet, within(&mut first));
+        assert_eq!((raw::play_floors(&sheet, &zeros, within(&mut second)), &second), (number, &first), "{sheet:?}");
+        seen[0].add(number);
+
+        let (bidder, worth, mut first, mut second) = (bidder_number(&mut random, &sheet), worth(&mut random), 77, 77);
+        let number = raw::gain(&sheet, &truth, bidder, worth, &mut first);
+        let again = raw::gain_floors(&sheet, &zeros, &truth, bidder, worth, &mut second);
+        assert_eq!((again, second), (number, first), "{sheet:?}, {truth:?}, {bidder}, {worth}");
+        seen[1].add(number);
+
+        let lent = lent_buffer(&mut random, slots);
+        let (mut first, mut second, mut first_total, mut second_total) = (lent.clone(), lent, 77, 77);
+        let number = raw::best(&sheet, within(&mut first), &mut first_total);
+        let again = raw::best_floors(&sheet, &zeros, within(&mut second), &mut second_total);
+        assert_eq!((again, second, second_total), (number, first, first_total), "{sheet:?}");
+        seen[2].add(number);
+    }
+    seen[0].all_of_a_sheet_and([19]);
+    seen[1].all_of_a_sheet_and(14..=17);
+    seen[2].all_of_a_sheet_and([18, 19]);
+}
+
+#[test]
 fn the_library_keeps_to_the_document_tried_word_by_word() {
     let mut random = Random::seeded(6);
     for _ in 0..3_000 {
@@ -295,6 +430,32 @@ fn the_library_keeps_to_the_document_tried_word_by_word() {
             let part = sheet.owner_part(pas::Bidder(bidder)).map(|part| (part.start(), part.as_bytes().len()));
             let expected = tick.map(|_| slow::owner_part(&round, bidder)).ok_or(pas::Refusal::UnorderedVersion);
             assert_eq!(part, expected, "{round:?}");
+        }
+    }
+}
+
+#[test]
+fn with_floors_the_library_keeps_to_the_document_tried_word_by_word() {
+    let mut random = Random::seeded(12);
+    for _ in 0..6_000 {
+        let size = size_up_to(&mut random, Size { bidders: 5, slots: 4, constraints: 24 });
+        let (manner, kind) = (random.one_of(&MANNERS), random.one_of(&Floors::ALL));
+        let (tick, highest_bid) = tick_and_highest_bid(&mut random, &[9]);
+        let mut round = in_ticks(round(&mut random, size, manner, highest_bid, 4), tick);
+        round.floors = floors(&mut random, &round, kind);
+        let sheet = pas::Sheet::from_bytes(&slow::sheet(&round)).expect("a random round is a good sheet");
+        let number = |bidder: Option<pas::Bidder>| bidder.map_or(0, |bidder| bidder.0);
+        let page = sheet.play_floors(&round.floors).expect("a floor for each slot");
+        assert_eq!(page.bidders().into_iter().map(number).collect::<Vec<_>>(), slow::page(&round), "{round:?}");
+        let prices: Vec<u32> = (0..size.slots).map(|slot| slow::price(&round, slot)).collect();
+        assert_eq!(page.prices(), prices, "{round:?}");
+        let best = sheet.best_page_floors(&round.floors).expect("a small round");
+        let slow_best = slow::best_page(&round);
+        assert_eq!(best.total, slow::total(&round, &slow_best), "{round:?}");
+        assert_eq!(best.bidders.into_iter().map(number).collect::<Vec<_>>(), slow_best, "{round:?}");
+        for bidder in 1..=size.bidders as u8 {
+            let gain = sheet.gain_floors(&round.floors, &sheet, pas::Bidder(bidder), 9);
+            assert_eq!(gain, Ok(slow::gain(&round, &round, bidder, 9)), "{round:?}");
         }
     }
 }

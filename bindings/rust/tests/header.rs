@@ -66,9 +66,17 @@ fn the_headers_sizes_are_those_of_the_longest_sheets() {
 }
 
 #[test]
+fn the_headers_highest_floor_is_accepted_and_no_higher() {
+    let sheet = SheetBuilder::new().bids([1]).effects([1]).build().expect("a good sheet");
+    let highest = number("PAS_MAX_FLOOR") as u32;
+    assert!(sheet.play_floors(&[highest]).is_ok());
+    assert_eq!(sheet.play_floors(&[highest + 1]), Err(Refusal::WrongFloor));
+}
+
+#[test]
 fn each_refusal_has_the_number_the_name_and_the_sentence_of_the_header() {
     let entries: Vec<Entry> = HEADER.lines().filter_map(entry).collect();
-    let in_checking_order = (0..=6).chain([26]).chain(7..=9).chain([27]).chain(10..=13).chain([28, 14, 15, 29]).chain(16..=19);
+    let in_checking_order = (0..=6).chain([26]).chain(7..=9).chain([27]).chain(10..=13).chain([28, 30, 31, 14, 15, 29]).chain(16..=19);
     assert_eq!(entries.iter().map(|entry| entry.number).collect::<Vec<_>>(), in_checking_order.collect::<Vec<_>>());
     for Entry { name, number, sentence } in entries.into_iter().skip(1) {
         let refusal = Refusal::from_number(number).expect("a refusal has this number");

@@ -1,6 +1,7 @@
-//! Demand 3 of document 01 on random rounds: the honest list gains at least as much as a downward monotonic list sent instead.
+//! Demand 3 of document 01 on random rounds: the honest list gains at least as much as a downward monotonic list sent instead; with request S-7 of
+//! document 02 also where both sheets are played with the same floors.
 
-use independent::random::{in_ticks, round, tick, Manner, Random, Size};
+use independent::random::{floors, in_ticks, round, tick, Floors, Manner, Random, Size};
 use independent::slow;
 use pas::{Bidder, Sheet};
 
@@ -25,30 +26,61 @@ fn same_tick(random: &mut Random, tick: Option<u32>) -> Option<u32> {
     }
 }
 
+/// Two sheets that differ only in a bidder's list, which is downward monotonic in the second, and a worth that is not below its bid.
+struct Choice {
+    honest: Sheet,
+    told: Sheet,
+    bidder: Bidder,
+    worth: u32,
+}
+
+/// The choice of a bidder in a random round, and floors for the round.
+fn random_choice(random: &mut Random) -> (Choice, Vec<u32>) {
+    let size = Size { bidders: random.between(2, 7), slots: random.between(1, 6), constraints: random.between(0, 14) };
+    let tick = tick(random);
+    let step = tick.unwrap_or(1);
+    let highest_bid = (9 * step as usize).min(1_000_000_000);
+    let honest = in_ticks(round(random, size, Manner::Mixed, highest_bid, 9), tick);
+    let bidder = random.byte(1, size.bidders);
+    let mut told = round(random, size, Manner::Mixed, 9, 9);
+    told.constraints.retain(|of| of[0] == bidder);
+    told.constraints.extend(honest.constraints.iter().filter(|of| of[0] != bidder));
+    let mut told = slow::Round { constraints: told.constraints, ..honest.clone() };
+    made_downward(&mut told, bidder);
+    let told = in_ticks(told, same_tick(random, tick));
+    let bid = honest.bids[usize::from(bidder) - 1];
+    let worth = (bid + random.between(0, 2 * step as usize + 3) as u32).min(1_000_000_000);
+    let kind = random.one_of(&Floors::ALL);
+    let floors = floors(random, &honest, kind);
+    (Choice { honest: sheet(&honest), told: sheet(&told), bidder: Bidder(bidder), worth }, floors)
+}
+
 #[test]
 fn no_downward_list_gains_more_than_the_honest_one() {
     let (mut random, mut losses, mut of_two_versions) = (Random::seeded(7), 0, 0);
     for _ in 0..30_000 {
-        let size = Size { bidders: random.between(2, 7), slots: random.between(1, 6), constraints: random.between(0, 14) };
-        let tick = tick(&mut random);
-        let step = tick.unwrap_or(1);
-        let highest_bid = (9 * step as usize).min(1_000_000_000);
-        let honest = in_ticks(round(&mut random, size, Manner::Mixed, highest_bid, 9), tick);
-        let bidder = random.byte(1, size.bidders);
-        let mut told = round(&mut random, size, Manner::Mixed, 9, 9);
-        told.constraints.retain(|of| of[0] == bidder);
-        told.constraints.extend(honest.constraints.iter().filter(|of| of[0] != bidder));
-        let mut told = slow::Round { constraints: told.constraints, ..honest.clone() };
-        made_downward(&mut told, bidder);
-        let told = in_ticks(told, same_tick(&mut random, tick));
-        let (honest, told, bid) = (sheet(&honest), sheet(&told), honest.bids[usize::from(bidder) - 1]);
-        assert_eq!(told.is_downward(Bidder(bidder)), Ok(true));
-        let worth = (bid + random.between(0, 2 * step as usize + 3) as u32).min(1_000_000_000);
-        let gain = |played: &Sheet| played.gain(&honest, Bidder(bidder), worth).expect("sheets of one size");
+        let (Choice { honest, told, bidder, worth }, _) = random_choice(&mut random);
+        assert_eq!(told.is_downward(bidder), Ok(true));
+        let gain = |played: &Sheet| played.gain(&honest, bidder, worth).expect("sheets of one size");
         let (first, second) = (gain(&honest), gain(&told));
-        assert!(first >= second, "{honest:?} {told:?} {bidder} {worth}");
+        assert!(first >= second, "{honest:?} {told:?} {bidder:?} {worth}");
         losses += usize::from(first > second);
         of_two_versions += usize::from(first > second && honest.version() != told.version());
     }
     assert!(losses > 1000 && of_two_versions > 100, "often the other list costs something: {losses}, {of_two_versions}");
+}
+
+#[test]
+fn with_the_same_floors_no_downward_list_gains_more_than_the_honest_one() {
+    let (mut random, mut losses, mut by_floors) = (Random::seeded(8), 0, 0);
+    for _ in 0..60_000 {
+        let (Choice { honest, told, bidder, worth }, floors) = random_choice(&mut random);
+        assert_eq!(told.is_downward(bidder), Ok(true));
+        let gain = |played: &Sheet| played.gain_floors(&floors, &honest, bidder, worth).expect("sheets of one size");
+        let (first, second) = (gain(&honest), gain(&told));
+        assert!(first >= second, "{honest:?} {told:?} {floors:?} {bidder:?} {worth}");
+        losses += usize::from(first > second);
+        by_floors += usize::from(first > second && honest.gain(&honest, bidder, worth) != Ok(first));
+    }
+    assert!(losses > 1000 && by_floors > 500, "often the other list costs something, and floors count: {losses}, {by_floors}");
 }

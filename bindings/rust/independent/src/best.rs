@@ -31,8 +31,8 @@ pub struct Search {
 }
 
 impl Search {
-    /// The round of an accepted sheet.
-    pub fn of(parts: &Parts) -> Search {
+    /// The round of an accepted sheet, with a floor under each slot or, where the list is empty, under none.
+    pub fn of(parts: &Parts, floors: &[u32]) -> Search {
         let (bids, ranks) = ranked(parts);
         let mut effects = [0; MOST];
         for (to, effect) in effects.iter_mut().zip(words(parts.effects)) {
@@ -40,7 +40,7 @@ impl Search {
         }
         let clashes = Clashes::of(parts.constraints, &ranks);
         let row = ALL_SLOTS * ((1 << parts.bidders) - 1);
-        let open = row & (u64::MAX >> (64 - 8 * parts.slots)) & !clashes.always();
+        let open = row & (u64::MAX >> (64 - 8 * parts.slots)) & !clashes.always() & !below(&bids, floors);
         let closed = clashes.closed(parts.bidders, &ranks);
         Search { bidders: parts.bidders, slots: parts.slots, effects, bids, ranks, closed, open }
     }
@@ -133,6 +133,17 @@ fn ranked(parts: &Parts) -> ([u64; MOST], [u8; NUMBERS]) {
         ranks[number & (NUMBERS - 1)] = rank as u8;
     }
     (bids, ranks)
+}
+
+/// The bits of bidders in slots whose floor is above their bid.
+fn below(bids: &[u64; MOST], floors: &[u32]) -> u64 {
+    let mut below = 0;
+    for (slot, &floor) in floors.iter().enumerate() {
+        for (rank, &bid) in bids.iter().enumerate() {
+            below |= u64::from(bid < u64::from(floor)) << (8 * (slot & 7) + rank);
+        }
+    }
+    below
 }
 
 /// What each choice closes, by slot number and bidder number, as the constraints say it. Slot 0 of a bidder holds what it closes from

@@ -1,9 +1,9 @@
-//! The six calls over bytes that nobody has checked, for speed. Each returns 0, or the first number of documents 01 and 02 that applies,
+//! The nine calls over bytes that nobody has checked, for speed. Each returns 0, or the first number of documents 01 and 02 that applies,
 //! and then leaves everything lent as it was.
 
 use crate::best::{Search, MOST};
 use crate::fill::fill;
-use crate::read::{accept, constraint, word_at, words, Parts, LARGEST_BID, MOST_BIDDERS, MOST_SLOTS};
+use crate::read::{accept, accept_floors, constraint, word_at, words, Parts, LARGEST_BID, MOST_BIDDERS, MOST_SLOTS};
 
 /// Rules 1 to 13 and 26 to 28.
 pub fn check(sheet: &[u8]) -> u32 {
@@ -16,8 +16,22 @@ pub fn play(sheet: &[u8], result: &mut [u8]) -> u32 {
         Ok(parts) => parts,
         Err(number) => return number,
     };
+    write_page(&parts, &[], result)
+}
+
+/// The same with a floor under each slot: 30 and 31 after the sheet's numbers.
+pub fn play_floors(sheet: &[u8], floors: &[u32], result: &mut [u8]) -> u32 {
+    let parts = match accept_floors(sheet, floors) {
+        Ok(parts) => parts,
+        Err(number) => return number,
+    };
+    write_page(&parts, floors, result)
+}
+
+/// Plays an accepted sheet, where there is room for the page.
+fn write_page(parts: &Parts, floors: &[u32], result: &mut [u8]) -> u32 {
     let Some(written) = result.get_mut(..5 * parts.slots) else { return 19 };
-    let page = fill(&parts);
+    let page = fill(parts, floors);
     for ((to, bidder), price) in written.chunks_exact_mut(5).zip(page.bidders).zip(page.prices) {
         to[0] = bidder;
         to[1..].copy_from_slice(&price.to_le_bytes());
@@ -61,6 +75,20 @@ pub fn gain(played: &[u8], truth: &[u8], bidder: u32, worth: u32, gain: &mut i64
         Ok(parts) => parts,
         Err(number) => return number,
     };
+    write_gain(&parts, &[], truth, bidder, worth, gain)
+}
+
+/// The same with a floor under each slot of the played sheet: 30 and 31 before 14.
+pub fn gain_floors(played: &[u8], floors: &[u32], truth: &[u8], bidder: u32, worth: u32, gain: &mut i64) -> u32 {
+    let parts = match accept_floors(played, floors) {
+        Ok(parts) => parts,
+        Err(number) => return number,
+    };
+    write_gain(&parts, floors, truth, bidder, worth, gain)
+}
+
+/// Gives the gain from an accepted sheet, where the truth sheet and the numbers of the call are right.
+fn write_gain(parts: &Parts, floors: &[u32], truth: &[u8], bidder: u32, worth: u32, gain: &mut i64) -> u32 {
     let Ok(truth) = accept(truth) else { return 14 };
     if (truth.bidders, truth.slots) != (parts.bidders, parts.slots) {
         return 15;
@@ -71,12 +99,12 @@ pub fn gain(played: &[u8], truth: &[u8], bidder: u32, worth: u32, gain: &mut i64
     if worth > LARGEST_BID {
         return 17;
     }
-    *gain = gained(&parts, &truth, bidder, worth);
+    *gain = gained(parts, floors, &truth, bidder, worth);
     0
 }
 
-fn gained(played: &Parts, truth: &Parts, bidder: u32, worth: u32) -> i64 {
-    let page = fill(played);
+fn gained(played: &Parts, floors: &[u32], truth: &Parts, bidder: u32, worth: u32) -> i64 {
+    let page = fill(played, floors);
     let Some(at) = page.bidders.iter().position(|&winner| u32::from(winner) == bidder) else { return 0 };
     // Nobody stands in slot 0, so "no other" is found there.
     let mut standing = [0; 32];
@@ -100,11 +128,25 @@ pub fn best(sheet: &[u8], result: &mut [u8], total: &mut u64) -> u32 {
         Ok(parts) => parts,
         Err(number) => return number,
     };
+    write_best(&parts, &[], result, total)
+}
+
+/// The same with a floor under each slot: 30 and 31 before 18.
+pub fn best_floors(sheet: &[u8], floors: &[u32], result: &mut [u8], total: &mut u64) -> u32 {
+    let parts = match accept_floors(sheet, floors) {
+        Ok(parts) => parts,
+        Err(number) => return number,
+    };
+    write_best(&parts, floors, result, total)
+}
+
+/// Writes the best page of an accepted sheet, where it is small enough and there is room.
+fn write_best(parts: &Parts, floors: &[u32], result: &mut [u8], total: &mut u64) -> u32 {
     if parts.bidders > MOST || parts.slots > MOST {
         return 18;
     }
     let Some(written) = result.get_mut(..parts.slots) else { return 19 };
-    let (page, sum) = Search::of(&parts).best();
+    let (page, sum) = Search::of(parts, floors).best();
     written.copy_from_slice(&page[..parts.slots]);
     *total = sum;
     0

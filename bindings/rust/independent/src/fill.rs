@@ -48,6 +48,12 @@ impl Ranking {
     fn bit(&self, number: usize) -> u64 {
         self.bits[number & (NUMBERS - 1)]
     }
+
+    /// The ranks of bids below a floor: all from the first such on.
+    fn below(&self, bidders: usize, floor: u32) -> u64 {
+        let reaching = self.keys[..bidders].partition_point(|key| !((key >> 32) as u32) >= floor);
+        u64::MAX.checked_shl(reaching as u32).unwrap_or(0)
+    }
 }
 
 /// Two chains through the constraints. An entry is a constraint's position and 1; 0 ends a chain.
@@ -96,6 +102,13 @@ impl Barred<'_> {
         }
     }
 
+    /// A bid below a slot's floor keeps its bidder from the slot, whatever happens before.
+    fn by_floors(&mut self, ranking: &Ranking, bidders: usize, floors: &[u32]) {
+        for (at, &floor) in floors.iter().enumerate() {
+            self.masks[(at + 1) & 31] |= ranking.below(bidders, floor);
+        }
+    }
+
     /// The winner's own constraints, once it stands in a slot.
     fn by_winner(&mut self, ranking: &Ranking, winner: u8, slot: usize) {
         let mut entry = self.chains.first_of_owner[usize::from(winner) & (NUMBERS - 1)];
@@ -123,11 +136,12 @@ impl Barred<'_> {
     }
 }
 
-/// The greedy page and its prices.
-pub fn fill(parts: &Parts) -> Page {
+/// The greedy page and its prices, with a floor under each slot or, where the list is empty, under none.
+pub fn fill(parts: &Parts, floors: &[u32]) -> Page {
     let ranking = Ranking::of(parts);
     let mut barred = Barred { constraints: parts.constraints, chains: Chains::of(parts.constraints), masks: [0; 32] };
     barred.by_own_slot(&ranking);
+    barred.by_floors(&ranking, parts.bidders, floors);
     let mut page = Page { bidders: [0; MOST_SLOTS], prices: [0; MOST_SLOTS] };
     let mut free = u64::MAX >> (64 - parts.bidders);
     for slot in 1..=parts.slots {
@@ -138,7 +152,8 @@ pub fn fill(parts: &Parts) -> Page {
         let winner = ranking.number(eligible.trailing_zeros());
         free &= !ranking.bit(usize::from(winner));
         page.bidders[(slot - 1) & 15] = winner;
-        page.prices[(slot - 1) & 15] = asked(&ranking, parts.tick, winner, eligible & (eligible - 1));
+        let floor = floors.get(slot - 1).map_or(0, |floor| floor.next_multiple_of(parts.tick));
+        page.prices[(slot - 1) & 15] = asked(&ranking, parts.tick, winner, eligible & (eligible - 1)).max(floor);
         if slot < parts.slots {
             barred.by_winner(&ranking, winner, slot);
             barred.by_others(&ranking, winner, slot);

@@ -97,7 +97,65 @@ pub fn round(random: &mut Random, size: Size, manner: Manner, highest_bid: usize
         }
         _ => {}
     }
-    Round { tick: None, effects, bids, constraints: constraints(random, size, manner) }
+    Round { tick: None, effects, bids, constraints: constraints(random, size, manner), floors: Vec::new() }
+}
+
+/// What the floors of a round are like.
+#[derive(Clone, Copy, Debug, PartialEq)]
+pub enum Floors {
+    /// All 0.
+    Zero,
+    /// Anything from 0 to the highest bid, in any order.
+    Any,
+    /// The same, none below the one before it.
+    Rising,
+    /// The same, none above the one before it.
+    Falling,
+    /// Each a bid, or one below or above it.
+    NearBids,
+    /// No multiples of the tick, where it is not 1.
+    OffTick,
+    /// Above every bid, where that is below the largest.
+    Above,
+}
+
+impl Floors {
+    /// All kinds.
+    pub const ALL: [Floors; 7] =
+        [Floors::Zero, Floors::Any, Floors::Rising, Floors::Falling, Floors::NearBids, Floors::OffTick, Floors::Above];
+}
+
+/// Floors for a round, one for each slot.
+pub fn floors(random: &mut Random, round: &Round, floors: Floors) -> Vec<u32> {
+    let highest = round.bids.iter().fold(0, |highest, &bid| highest.max(bid));
+    let step = round.tick.unwrap_or(1);
+    let mut drawn: Vec<u32> = round.effects.iter().map(|_| random.between(0, highest as usize) as u32).collect();
+    match floors {
+        Floors::Zero => drawn.fill(0),
+        Floors::Any => {}
+        Floors::Rising => drawn.sort_unstable(),
+        Floors::Falling => drawn.sort_unstable_by(|one, other| other.cmp(one)),
+        Floors::NearBids => drawn.fill_with(|| near_a_bid(random, round)),
+        Floors::OffTick => drawn.iter_mut().for_each(|floor| *floor = off_tick(random, *floor, step)),
+        Floors::Above => drawn.fill((highest + 1).min(LARGEST_BID)),
+    }
+    drawn
+}
+
+/// A bid, or the number just below or above it that a floor may be.
+fn near_a_bid(random: &mut Random, round: &Round) -> u32 {
+    let raised = random.one_of(&round.bids) + random.between(0, 2) as u32;
+    raised.saturating_sub(1).min(LARGEST_BID)
+}
+
+/// A floor within a tick of another that is no multiple of the tick; where every number is one, that other itself.
+fn off_tick(random: &mut Random, floor: u32, tick: u32) -> u32 {
+    let multiple = floor - floor % tick;
+    match (tick - 1).min(LARGEST_BID - multiple) {
+        _ if tick == 1 => floor,
+        0 => multiple - 1,
+        room => multiple + random.between(1, room as usize) as u32,
+    }
 }
 
 /// A tick for a round: none in one time of three, which is version 1, else 1, small, any or the largest.

@@ -7,7 +7,7 @@ pub const MOST_SLOTS: usize = 16;
 /// "c, conditions, 0 to 1,024".
 pub const MOST_CONSTRAINTS: usize = 1024;
 const LARGEST_EFFECT: u32 = 1_000_000;
-/// The largest bid, the largest worth of a click and the largest tick.
+/// The largest bid, the largest worth of a click, the largest tick and the largest floor.
 pub const LARGEST_BID: u32 = 1_000_000_000;
 const HEADER_BYTES: usize = 9;
 const TICK_BYTES: usize = 4;
@@ -70,6 +70,18 @@ pub fn accept(sheet: &[u8]) -> Result<Parts<'_>, u32> {
     }
     if parts.ordered && !rise(parts.constraints) {
         return Err(28);
+    }
+    Ok(parts)
+}
+
+/// The same, and then 30 for a list of floors "that is not m long" and 31 for "a floor above 1,000,000,000".
+pub fn accept_floors<'a>(sheet: &'a [u8], floors: &[u32]) -> Result<Parts<'a>, u32> {
+    let parts = accept(sheet)?;
+    if floors.len() != parts.slots {
+        return Err(30);
+    }
+    if floors.iter().fold(0, |highest, &floor| highest.max(floor)) > LARGEST_BID {
+        return Err(31);
     }
     Ok(parts)
 }

@@ -1,4 +1,5 @@
-//! Document 01 word by word, with the ticks and the owner order of document 02, by trying everything: the measure for `engine`, which is quick and so needs one.
+//! Document 01 word by word, with the ticks, the owner order and the floors of document 02, by trying everything: the measure for `engine`, which is
+//! quick and so needs one.
 //!
 //! Rounds must be small: a price is found by replaying the round with bid 0, one tick, two ticks and so on, and the best page by going
 //! through every page.
@@ -8,7 +9,7 @@ use crate::read::LARGEST_BID;
 /// A condition as document 01 writes it: owner, own place, other bidder, other's place.
 pub type Constraint = [u8; 4];
 
-/// A round as it stands in an accepted sheet.
+/// A round as it stands in an accepted sheet, and the floors that a call lends beside the sheet.
 #[derive(Clone, Debug, PartialEq)]
 pub struct Round {
     /// What version 2 writes after the counts; none in version 1: "version 1 means tick 1".
@@ -19,6 +20,13 @@ pub struct Round {
     pub bids: Vec<u32>,
     /// In sheet order.
     pub constraints: Vec<Constraint>,
+    /// By slot, the first at 0; empty for a call that takes none.
+    pub floors: Vec<u32>,
+}
+
+/// "A bid at or above its floor", of a bidder for a slot, the first at 0.
+fn reaches_floor(round: &Round, slot: usize, bidder: u8) -> bool {
+    round.floors.is_empty() || round.bids[usize::from(bidder) - 1] >= round.floors[slot]
 }
 
 /// "In strictly rising order of owner, own place, other bidder, other's place": every constraint is above all that stand before it.
@@ -79,12 +87,14 @@ pub fn page(round: &Round) -> Page {
     page
 }
 
-/// "With the places already filled and it at k, neither its own conditions nor those of an earlier winner are broken."
+/// "With the places already filled and it at k, neither its own conditions nor those of an earlier winner are broken", and "only with a bid at or
+/// above its floor".
 fn is_eligible(round: &Round, page: &[u8], bidder: u8) -> bool {
     let mut with = page.to_vec();
     with.push(bidder);
     let concerned = |owner: u8| with.contains(&owner);
-    !page.contains(&bidder) && !round.constraints.iter().any(|&of| concerned(of[0]) && is_broken(of, &with))
+    let breaks = round.constraints.iter().any(|&of| concerned(of[0]) && is_broken(of, &with));
+    !page.contains(&bidder) && !breaks && reaches_floor(round, page.len(), bidder)
 }
 
 /// "The smallest bid that the sheet would accept and that still wins the place"; 0 for an empty place.
@@ -132,9 +142,10 @@ pub fn total(round: &Round, page: &[u8]) -> u64 {
 pub fn best_page(round: &Round) -> Page {
     let mut best: Option<Page> = None;
     every_page(round, &mut Page::new(), &mut |page| {
-        let allowed = !round.constraints.iter().any(|&of| is_broken(of, page));
+        let broken = round.constraints.iter().any(|&of| is_broken(of, page));
+        let obeys = page.iter().enumerate().all(|(slot, &bidder)| bidder == 0 || reaches_floor(round, slot, bidder));
         let better = best.as_ref().is_none_or(|best| total(round, page) > total(round, best));
-        if allowed && better {
+        if !broken && obeys && better {
             best = Some(page.to_vec());
         }
     });

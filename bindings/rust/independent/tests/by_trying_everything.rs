@@ -1,6 +1,6 @@
 //! The quick engine against the document tried word by word, on rounds small enough for that.
 
-use independent::random::{disordered, in_ticks, round, tick, Manner, Random, Size};
+use independent::random::{disordered, floors, in_ticks, round, tick, Floors, Manner, Random, Size};
 use independent::{engine, slow};
 
 const MANNERS: [Manner; 6] = [Manner::Mixed, Manner::Pairs, Manner::OwnSlots, Manner::Exclusions, Manner::Chain, Manner::Ties];
@@ -14,13 +14,27 @@ fn small_round(random: &mut Random) -> slow::Round {
     in_ticks(round(random, size, manner, highest_bid, highest_effect), tick)
 }
 
+/// The same, every other time with floors of some kind, for a call's second form.
+fn small_round_perhaps_with_floors(random: &mut Random) -> slow::Round {
+    let mut round = small_round(random);
+    if random.once_in(2) {
+        let kind = random.one_of(&Floors::ALL);
+        round.floors = floors(random, &round, kind);
+    }
+    round
+}
+
 #[test]
 fn pages_and_prices_are_those_of_replayed_rounds() {
     let mut random = Random::seeded(11);
-    for _ in 0..5_000 {
-        let round = small_round(&mut random);
-        let mut result = vec![0; 5 * round.effects.len()];
-        assert_eq!(engine::play(&slow::sheet(&round), &mut result), 0);
+    for _ in 0..10_000 {
+        let round = small_round_perhaps_with_floors(&mut random);
+        let (sheet, mut result) = (slow::sheet(&round), vec![0; 5 * round.effects.len()]);
+        let number = match round.floors[..] {
+            [] => engine::play(&sheet, &mut result),
+            _ => engine::play_floors(&sheet, &round.floors, &mut result),
+        };
+        assert_eq!(number, 0);
         let page = slow::page(&round);
         for (slot, written) in result.chunks_exact(5).enumerate() {
             let price = u32::from_le_bytes([written[1], written[2], written[3], written[4]]);
@@ -32,10 +46,14 @@ fn pages_and_prices_are_those_of_replayed_rounds() {
 #[test]
 fn best_pages_are_the_first_of_all_pages_with_the_largest_total() {
     let mut random = Random::seeded(12);
-    for _ in 0..3_000 {
-        let round = small_round(&mut random);
-        let (mut result, mut total) = (vec![0; round.effects.len()], 0);
-        assert_eq!(engine::best(&slow::sheet(&round), &mut result, &mut total), 0);
+    for _ in 0..6_000 {
+        let round = small_round_perhaps_with_floors(&mut random);
+        let (sheet, mut result, mut total) = (slow::sheet(&round), vec![0; round.effects.len()], 0);
+        let number = match round.floors[..] {
+            [] => engine::best(&sheet, &mut result, &mut total),
+            _ => engine::best_floors(&sheet, &round.floors, &mut result, &mut total),
+        };
+        assert_eq!(number, 0);
         let best = slow::best_page(&round);
         assert_eq!((result, total), (best.clone(), slow::total(&round, &best)), "{round:?}");
     }
@@ -58,13 +76,18 @@ fn lists_are_judged_by_the_definition() {
 #[test]
 fn gains_are_those_of_replayed_rounds() {
     let mut random = Random::seeded(14);
-    for _ in 0..5_000 {
-        let played = small_round(&mut random);
+    for _ in 0..10_000 {
+        let played = small_round_perhaps_with_floors(&mut random);
         let size = Size { bidders: played.bids.len(), slots: played.effects.len(), constraints: random.between(0, 20) };
         let truth = round(&mut random, size, Manner::Mixed, 9, 9);
         let (bidder, worth) = (random.byte(1, size.bidders), random.between(0, 20) as u32);
+        let (sheet, true_sheet, number) = (slow::sheet(&played), slow::sheet(&truth), u32::from(bidder));
         let mut gain = 0;
-        assert_eq!(engine::gain(&slow::sheet(&played), &slow::sheet(&truth), u32::from(bidder), worth, &mut gain), 0);
+        let refused = match played.floors[..] {
+            [] => engine::gain(&sheet, &true_sheet, number, worth, &mut gain),
+            _ => engine::gain_floors(&sheet, &played.floors, &true_sheet, number, worth, &mut gain),
+        };
+        assert_eq!(refused, 0);
         assert_eq!(gain, slow::gain(&played, &truth, bidder, worth), "{played:?}, {truth:?}, {bidder}");
     }
 }
