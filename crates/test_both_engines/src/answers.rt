@@ -1,14 +1,50 @@
 // Each call by both engines on the same bytes, and what must hold of the answers.
-ghost use Prim.Native.Nat.{_<_};
+ghost use Prim.Native.Nat.{_≤_};
 use crate::bytes;
 use crate::calls;
 use crate::counts;
+use crate::floored;
 use crate::pages;
+use test_chance::floor_lists;
 use test_chance::number;
 use test_chance::parts;
 
 // Room for 5 bytes for each of 16 slots, with random bytes before and after.
 const RESULT: usize = 128;
+
+// A form of a call: the second one, with floors, or the first, which is lent none; and the number that is due to a fault of the sheet or of
+// the floors, 0 for none.
+pub struct Form {
+    pub floored: bool,
+    pub rule: u32,
+}
+
+// Of two calls or counts, the first form's or the second's.
+pub fn by_form(form: Form, first: u32, second: u32) -> u32 {
+    if form.floored { second } else { first }
+}
+
+// A difference names the form too.
+fn hold(tally: &mut [u64], form: Form, same: bool, name: &[u8]) {
+    if form.floored && !same {
+        test_tally::text(b"with floors, ");
+    }
+    counts::hold(tally, same, name);
+}
+
+// The number that is due to a fault; where there is none, 0 or one of the call's own, 14 to 19.
+fn is_due(form: Form, number: u32) -> bool {
+    if form.rule != 0 {
+        return number == form.rule;
+    }
+    number == 0 || (14 <= number && number <= 19)
+}
+
+// Counts the number that a call returned, and holds it to the one due.
+fn note_number(tally: &mut [u64], form: Form, call: u32, number: u32, name: &[u8]) {
+    counts::add_call(tally, call, number);
+    hold(tally, form, is_due(form, number), name);
+}
 
 pub fn check(tally: &mut [u64], sheet: &[u8], rule: u32) {
     let library = pas::pas_check(sheet);
@@ -16,17 +52,6 @@ pub fn check(tally: &mut [u64], sheet: &[u8], rule: u32) {
     counts::add_call(tally, counts::CHECK, library);
     counts::hold(tally, library == other, b"check, number");
     counts::hold(tally, library == rule, b"check, the fault that was put in");
-}
-
-// The slots that a result may have, for sheets that break the rule on m too.
-fn slots_of(sheet: &[u8]) -> u32
-    ensures { λ r. ⌜ r < 17 ⌝ }
-{
-    let slots = parts::slots(sheet);
-    if slots < 16 {
-        return slots;
-    }
-    16
 }
 
 // What may have been written.
@@ -44,15 +69,31 @@ fn prepare(state: &mut u64, one: &mut [u8], two: &mut [u8], kept: &mut [u8]) {
     parts::copy(kept, two, RESULT);
 }
 
-fn note_page(tally: &mut [u64], sheet: &[u8], result: &[u8], start: u32) {
-    let slots = slots_of(sheet);
-    let empty = pages::has_empty_slot(result, start, slots);
+fn note_free_page(tally: &mut [u64], sheet: &[u8], result: &[u8], start: u32) {
+    let slots = floor_lists::count(sheet);
     let price = pages::has_price(result, start, slots);
     let raised = pages::has_raised_price(sheet, result, start, slots);
-    test_tally::add_if(tally, empty, counts::EMPTY_SLOTS);
     test_tally::add_if(tally, price, counts::PRICES);
     let stepped = 1 < parts::tick(sheet);
     test_tally::add_if(tally, raised && stepped, counts::STEPPED_PRICES);
+}
+
+fn note_page(
+    tally: &mut [u64],
+    sheet: &[u8],
+    floors: &[u32],
+    form: Form,
+    result: &[u8],
+    start: u32,
+) {
+    let empty = pages::has_empty_slot(result, start, floor_lists::count(sheet));
+    let count = by_form(form, counts::EMPTY_SLOTS, counts::FLOORED_EMPTY);
+    test_tally::add_if(tally, empty, count);
+    if form.floored {
+        floored::note_page(tally, sheet, floors, result, start);
+    } else {
+        note_free_page(tally, sheet, result, start);
+    }
 }
 
 // Where a result is lent, of how many bytes, and how many the call writes.
@@ -73,24 +114,57 @@ fn lend(state: &mut u64, bytes: u32) -> Lent {
 fn play_by_library(
     tally: &mut [u64],
     sheet: &[u8],
+    floors: &[u32],
+    form: Form,
     one: &mut [u8],
     kept: &[u8],
     lent: Lent,
 ) -> u32 {
     let start = lent.start;
     let bytes = lent.bytes;
-    let number = calls::play_by_library(sheet, one, start, lent.size);
-    counts::add_call(tally, counts::PLAY, number);
+    let number = calls::play_by_library(sheet, floors, form.floored, one, start, lent.size);
+    let call = by_form(form, counts::PLAY, counts::PLAY_FLOORS);
+    note_number(tally, form, call, number, b"play, the number due");
     let kept_rest = bytes::untouched(one, kept, start, written(number, bytes));
-    counts::hold(tally, kept_rest, b"play, bytes that are not the result's");
+    hold(
+        tally,
+        form,
+        kept_rest,
+        b"play, bytes that are not the result's",
+    );
     if number == 0 {
-        note_page(tally, sheet, one, start);
+        note_page(tally, sheet, floors, form, one, start);
     }
     number
 }
 
+// The first form gives what the second gives with floors of 0.
+fn play_with_zeros(
+    tally: &mut [u64],
+    sheet: &[u8],
+    form: Form,
+    one: &[u8],
+    kept: &[u8],
+    lent: Lent,
+    number: u32,
+) {
+    if form.floored {
+        return;
+    }
+    let mut space = [0u8; RESULT];
+    let two: &mut [u8] = &mut space;
+    let zeros = [0u32; floor_lists::ROOM];
+    parts::copy(kept, two, RESULT);
+    let list = floor_lists::part(&zeros, 0, floor_lists::count(sheet));
+    let other = calls::play_by_library(sheet, list, true, two, lent.start, lent.size);
+    counts::hold(tally, number == other, b"play with floors of 0, number");
+    let same = bytes::same(one, two, RESULT);
+    counts::hold(tally, same, b"play with floors of 0, page");
+    test_tally::add_if(tally, number == 0 && other == 0, counts::ZERO_PAGES);
+}
+
 // Whether both engines gave a page.
-pub fn play(state: &mut u64, tally: &mut [u64], sheet: &[u8]) -> bool {
+pub fn play(state: &mut u64, tally: &mut [u64], sheet: &[u8], floors: &[u32], form: Form) -> bool {
     let mut first = [0u8; RESULT];
     let mut second = [0u8; RESULT];
     let mut third = [0u8; RESULT];
@@ -98,13 +172,13 @@ pub fn play(state: &mut u64, tally: &mut [u64], sheet: &[u8]) -> bool {
     let two: &mut [u8] = &mut second;
     let kept: &mut [u8] = &mut third;
     prepare(state, one, two, kept);
-    let slots = slots_of(sheet);
-    let lent = lend(state, 5 * slots);
-    let number = play_by_library(tally, sheet, one, kept, lent);
-    let other = calls::play_by_other(sheet, two, lent.start, lent.size);
-    counts::hold(tally, number == other, b"play, number");
+    let lent = lend(state, 5 * floor_lists::count(sheet));
+    let number = play_by_library(tally, sheet, floors, form, one, kept, lent);
+    let other = calls::play_by_other(sheet, floors, form.floored, two, lent.start, lent.size);
+    hold(tally, form, number == other, b"play, number");
     let same = bytes::same(one, two, RESULT);
-    counts::hold(tally, same, b"play, page");
+    hold(tally, form, same, b"play, page");
+    play_with_zeros(tally, sheet, form, one, kept, lent, number);
     number == 0
 }
 
@@ -153,58 +227,185 @@ fn preset_gain(state: &mut u64) -> i64 {
     }
 }
 
-fn note_gain(tally: &mut [u64], number: u32, gain: i64, preset: i64) {
-    if number != 0 {
-        counts::hold(tally, gain == preset, b"gain, answer of a refused call");
+// The sign of a gain.
+fn note_sign(tally: &mut [u64], form: Form, gain: i64) {
+    let above = by_form(form, counts::GAINS_ABOVE, counts::FLOORED_GAINS_ABOVE);
+    let nought = by_form(form, counts::GAINS_NOUGHT, counts::FLOORED_GAINS_NOUGHT);
+    let below = by_form(form, counts::GAINS_BELOW, counts::FLOORED_GAINS_BELOW);
+    test_tally::add_if(tally, 0 < gain, above);
+    test_tally::add_if(tally, gain == 0, nought);
+    test_tally::add_if(tally, gain < 0, below);
+}
+
+fn note_gain(tally: &mut [u64], form: Form, number: u32, gain: i64, preset: i64) {
+    let call = by_form(form, counts::GAIN, counts::GAIN_FLOORS);
+    note_number(tally, form, call, number, b"gain, the number due");
+    if number == 0 {
+        note_sign(tally, form, gain);
+    } else {
+        let kept = gain == preset;
+        hold(tally, form, kept, b"gain, answer of a refused call");
+    }
+}
+
+// Whose gain is asked for, at which worth, and what its memory holds before.
+struct Asked {
+    bidder: u32,
+    worth: u32,
+    preset: i64,
+}
+
+// What a call for a gain gave.
+struct Gained {
+    number: u32,
+    gain: i64,
+}
+
+fn gain_by_library(
+    played: &[u8],
+    floors: &[u32],
+    floored: bool,
+    truth: &[u8],
+    asked: Asked,
+) -> Gained {
+    let mut gain = asked.preset;
+    let bidder = asked.bidder;
+    let number = calls::gain_by_library(
+        played,
+        floors,
+        floored,
+        truth,
+        bidder,
+        asked.worth,
+        &mut gain,
+    );
+    Gained {
+        number: number,
+        gain: gain,
+    }
+}
+
+fn gain_by_other(
+    played: &[u8],
+    floors: &[u32],
+    floored: bool,
+    truth: &[u8],
+    asked: Asked,
+) -> Gained {
+    let mut gain = asked.preset;
+    let bidder = asked.bidder;
+    let number = calls::gain_by_other(
+        played,
+        floors,
+        floored,
+        truth,
+        bidder,
+        asked.worth,
+        &mut gain,
+    );
+    Gained {
+        number: number,
+        gain: gain,
+    }
+}
+
+// The first form gives what the second gives with floors of 0.
+fn gain_with_zeros(
+    tally: &mut [u64],
+    played: &[u8],
+    form: Form,
+    truth: &[u8],
+    asked: Asked,
+    given: Gained,
+) {
+    if form.floored {
         return;
     }
-    if gain == 0 {
-        test_tally::add(tally, counts::GAINS_NOUGHT);
-    } else if gain < 0 {
-        test_tally::add(tally, counts::GAINS_BELOW);
-    } else {
-        test_tally::add(tally, counts::GAINS_ABOVE);
+    let zeros = [0u32; floor_lists::ROOM];
+    let list = floor_lists::part(&zeros, 0, floor_lists::count(played));
+    let other = gain_by_library(played, list, true, truth, asked);
+    let same = given.number == other.number;
+    counts::hold(tally, same, b"gain with floors of 0, number");
+    let equal = given.gain == other.gain;
+    counts::hold(tally, equal, b"gain with floors of 0, answer");
+    let answered = given.number == 0 && other.number == 0;
+    test_tally::add_if(tally, answered, counts::ZERO_GAINS);
+}
+
+fn ask_gain(state: &mut u64, sheet: &[u8]) -> Asked {
+    Asked {
+        bidder: calls::bidder(state, sheet),
+        worth: calls::worth(state),
+        preset: preset_gain(state),
     }
+}
+
+fn compare_gains(tally: &mut [u64], form: Form, one: Gained, two: Gained) {
+    hold(tally, form, one.number == two.number, b"gain, number");
+    hold(tally, form, one.gain == two.gain, b"gain, answer");
 }
 
 // Whether both engines gave a gain.
-pub fn gain(state: &mut u64, tally: &mut [u64], sheet: &[u8], truth: &[u8]) -> bool {
-    let bidder = calls::bidder(state, sheet);
-    let worth = calls::worth(state);
-    let preset = preset_gain(state);
-    let mut one = preset;
-    let mut two = preset;
-    let number = pas::pas_gain(sheet, truth, bidder, worth, &mut one);
-    counts::add_call(tally, counts::GAIN, number);
-    note_gain(tally, number, one, preset);
-    let other = test_plain::gain(sheet, truth, bidder, worth, &mut two);
-    counts::hold(tally, number == other, b"gain, number");
-    counts::hold(tally, one == two, b"gain, answer");
-    number == 0
+pub fn gain(
+    state: &mut u64,
+    tally: &mut [u64],
+    sheet: &[u8],
+    floors: &[u32],
+    form: Form,
+    truth: &[u8],
+) -> bool {
+    let asked = ask_gain(state, sheet);
+    let one = gain_by_library(sheet, floors, form.floored, truth, asked);
+    let two = gain_by_other(sheet, floors, form.floored, truth, asked);
+    note_gain(tally, form, one.number, one.gain, asked.preset);
+    compare_gains(tally, form, one, two);
+    gain_with_zeros(tally, sheet, form, truth, asked, one);
+    one.number == 0
 }
 
 // The total of the page that playing gives.
-fn greedy_total(sheet: &[u8]) -> u64 {
+fn greedy_total(sheet: &[u8], floors: &[u32], floored: bool) -> u64 {
     let mut space = [0u8; RESULT];
     let page: &mut [u8] = &mut space;
-    if pas::pas_play(sheet, page) != 0 {
+    if calls::play_by_library(sheet, floors, floored, page, 0, RESULT as u32) != 0 {
         return 0;
     }
     pages::total(sheet, page, 0, true)
 }
 
 // A best page is worth what the call says, and never less than the played page.
-fn note_best(tally: &mut [u64], sheet: &[u8], result: &[u8], start: u32, total: u64) {
+fn note_best(
+    tally: &mut [u64],
+    sheet: &[u8],
+    floors: &[u32],
+    form: Form,
+    result: &[u8],
+    start: u32,
+    total: u64,
+) {
     let own = pages::total(sheet, result, start, false);
-    let greedy = greedy_total(sheet);
-    counts::hold(tally, total == own, b"best, total of the page");
-    counts::hold(tally, greedy <= total, b"best, below the played page");
-    test_tally::add_if(tally, greedy < total, counts::ABOVE_GREEDY);
+    let greedy = greedy_total(sheet, floors, form.floored);
+    hold(tally, form, total == own, b"best, total of the page");
+    hold(tally, form, greedy <= total, b"best, below the played page");
+    let count = by_form(form, counts::ABOVE_GREEDY, counts::FLOORED_ABOVE_GREEDY);
+    test_tally::add_if(tally, greedy < total, count);
+    if form.floored {
+        floored::note_best(tally, sheet, floors, result, start, total);
+    }
+}
+
+// What a search for the best page gave beside the page, and what the total's memory held before.
+struct Found {
+    number: u32,
+    total: u64,
+    preset: u64,
 }
 
 fn best_by_library(
     tally: &mut [u64],
     sheet: &[u8],
+    floors: &[u32],
+    form: Form,
     one: &mut [u8],
     kept: &[u8],
     lent: Lent,
@@ -213,46 +414,95 @@ fn best_by_library(
     let start = lent.start;
     let bytes = lent.bytes;
     let mut total = preset;
-    let number = calls::best_by_library(sheet, one, start, lent.size, &mut total);
-    counts::add_call(tally, counts::BEST, number);
+    let number = calls::best_by_library(
+        sheet,
+        floors,
+        form.floored,
+        one,
+        start,
+        lent.size,
+        &mut total,
+    );
+    let call = by_form(form, counts::BEST, counts::BEST_FLOORS);
+    note_number(tally, form, call, number, b"best, the number due");
     let kept_rest = bytes::untouched(one, kept, start, written(number, bytes));
-    counts::hold(tally, kept_rest, b"best, bytes that are not the result's");
+    hold(
+        tally,
+        form,
+        kept_rest,
+        b"best, bytes that are not the result's",
+    );
     if number == 0 {
-        note_best(tally, sheet, one, start, total);
+        note_best(tally, sheet, floors, form, one, start, total);
     } else {
-        counts::hold(tally, total == preset, b"best, answer of a refused call");
+        let same = total == preset;
+        hold(tally, form, same, b"best, answer of a refused call");
     }
     Found {
         number: number,
         total: total,
+        preset: preset,
     }
-}
-
-// What a search for the best page gave beside the page.
-struct Found {
-    number: u32,
-    total: u64,
 }
 
 fn compare_best(
     tally: &mut [u64],
     sheet: &[u8],
+    floors: &[u32],
+    form: Form,
     one: &[u8],
     two: &mut [u8],
     lent: Lent,
-    preset: u64,
     found: Found,
 ) {
-    let mut total = preset;
-    let other = calls::best_by_other(sheet, two, lent.start, lent.size, &mut total);
-    counts::hold(tally, found.number == other, b"best, number");
-    counts::hold(tally, found.total == total, b"best, total");
+    let start = lent.start;
+    let mut total = found.preset;
+    let other = calls::best_by_other(
+        sheet,
+        floors,
+        form.floored,
+        two,
+        start,
+        lent.size,
+        &mut total,
+    );
+    hold(tally, form, found.number == other, b"best, number");
+    hold(tally, form, found.total == total, b"best, total");
     let same = bytes::same(one, two, RESULT);
-    counts::hold(tally, same, b"best, page");
+    hold(tally, form, same, b"best, page");
+}
+
+// The first form gives what the second gives with floors of 0.
+fn best_with_zeros(
+    tally: &mut [u64],
+    sheet: &[u8],
+    form: Form,
+    one: &[u8],
+    kept: &[u8],
+    lent: Lent,
+    found: Found,
+) {
+    if form.floored {
+        return;
+    }
+    let mut space = [0u8; RESULT];
+    let two: &mut [u8] = &mut space;
+    let zeros = [0u32; floor_lists::ROOM];
+    let mut total = found.preset;
+    parts::copy(kept, two, RESULT);
+    let list = floor_lists::part(&zeros, 0, floor_lists::count(sheet));
+    let other = calls::best_by_library(sheet, list, true, two, lent.start, lent.size, &mut total);
+    let number = found.number;
+    counts::hold(tally, number == other, b"best with floors of 0, number");
+    let equal = found.total == total;
+    counts::hold(tally, equal, b"best with floors of 0, total");
+    let same = bytes::same(one, two, RESULT);
+    counts::hold(tally, same, b"best with floors of 0, page");
+    test_tally::add_if(tally, number == 0 && other == 0, counts::ZERO_BEST);
 }
 
 // Whether both engines gave a page.
-pub fn best(state: &mut u64, tally: &mut [u64], sheet: &[u8]) -> bool {
+pub fn best(state: &mut u64, tally: &mut [u64], sheet: &[u8], floors: &[u32], form: Form) -> bool {
     let mut first = [0u8; RESULT];
     let mut second = [0u8; RESULT];
     let mut third = [0u8; RESULT];
@@ -261,8 +511,9 @@ pub fn best(state: &mut u64, tally: &mut [u64], sheet: &[u8]) -> bool {
     let kept: &mut [u8] = &mut third;
     prepare(state, one, two, kept);
     let preset = *state;
-    let lent = lend(state, slots_of(sheet));
-    let found = best_by_library(tally, sheet, one, kept, lent, preset);
-    compare_best(tally, sheet, one, two, lent, preset, found);
+    let lent = lend(state, floor_lists::count(sheet));
+    let found = best_by_library(tally, sheet, floors, form, one, kept, lent, preset);
+    compare_best(tally, sheet, floors, form, one, two, lent, found);
+    best_with_zeros(tally, sheet, form, one, kept, lent, found);
     found.number == 0
 }

@@ -1,6 +1,7 @@
 // Buffers with random bytes around what is lent, and how they are compared afterwards.
 ghost use mathlib.Core.Path.{_≡_};
 ghost use Rattle.test_both_engines.specs.Bytes.{sameBytes, inPart, untouchedBytes};
+use test_chance::floor_lists;
 use test_chance::number;
 use test_chance::parts;
 
@@ -32,6 +33,20 @@ pub fn same(first: &[u8], second: &[u8], count: usize) -> bool
     while 0 < left {
         left -= 1;
         if parts::byte(first, left) != parts::byte(second, left) {
+            return false;
+        }
+    }
+    true
+}
+
+// Whether so many floors are the same in both.
+pub fn same_floors(first: &[u32], second: &[u32], count: u32) -> bool
+    ensures { λ r. ⌜ r ≡ sameBytes (now (first .entry)) (now (second .entry)) count ⌝ }
+{
+    let mut left = count;
+    while 0 < left {
+        left -= 1;
+        if floor_lists::of(first, left) != floor_lists::of(second, left) {
             return false;
         }
     }

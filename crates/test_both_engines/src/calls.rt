@@ -1,4 +1,4 @@
-// The calls on a part of a larger buffer: the library's, and the second engine's.
+// The calls, with floors or without them, on a part of a larger buffer: the library's, and the second engine's.
 use test_chance::lists;
 use test_chance::number;
 use test_chance::parts;
@@ -6,26 +6,78 @@ use test_chance::parts;
 // No call returns it.
 const OUT_OF_ROOM: u32 = 1000;
 
-pub fn play_by_library(sheet: &[u8], result: &mut [u8], start: u32, size: u32) -> u32 {
+pub fn play_by_library(
+    sheet: &[u8],
+    floors: &[u32],
+    floored: bool,
+    result: &mut [u8],
+    start: u32,
+    size: u32,
+) -> u32 {
     let from = start as usize;
     let end = from + size as usize;
-    if end <= result.len() {
-        return pas::pas_play(sheet, &mut result[from..end]);
+    if result.len() < end {
+        return OUT_OF_ROOM;
     }
-    OUT_OF_ROOM
+    if floored {
+        return pas::pas_play_floors(sheet, floors, &mut result[from..end]);
+    }
+    pas::pas_play(sheet, &mut result[from..end])
 }
 
-pub fn play_by_other(sheet: &[u8], result: &mut [u8], start: u32, size: u32) -> u32 {
+pub fn play_by_other(
+    sheet: &[u8],
+    floors: &[u32],
+    floored: bool,
+    result: &mut [u8],
+    start: u32,
+    size: u32,
+) -> u32 {
     let from = start as usize;
     let end = from + size as usize;
-    if end <= result.len() {
-        return test_plain::play(sheet, &mut result[from..end]);
+    if result.len() < end {
+        return OUT_OF_ROOM;
     }
-    OUT_OF_ROOM
+    if floored {
+        return test_plain::play_floors(sheet, floors, &mut result[from..end]);
+    }
+    test_plain::play(sheet, &mut result[from..end])
+}
+
+pub fn gain_by_library(
+    played: &[u8],
+    floors: &[u32],
+    floored: bool,
+    truth: &[u8],
+    bidder: u32,
+    worth: u32,
+    gain: &mut i64,
+) -> u32 {
+    if floored {
+        return pas::pas_gain_floors(played, floors, truth, bidder, worth, gain);
+    }
+    pas::pas_gain(played, truth, bidder, worth, gain)
+}
+
+pub fn gain_by_other(
+    played: &[u8],
+    floors: &[u32],
+    floored: bool,
+    truth: &[u8],
+    bidder: u32,
+    worth: u32,
+    gain: &mut i64,
+) -> u32 {
+    if floored {
+        return test_plain::gain_floors(played, floors, truth, bidder, worth, gain);
+    }
+    test_plain::gain(played, truth, bidder, worth, gain)
 }
 
 pub fn best_by_library(
     sheet: &[u8],
+    floors: &[u32],
+    floored: bool,
     result: &mut [u8],
     start: u32,
     size: u32,
@@ -33,14 +85,19 @@ pub fn best_by_library(
 ) -> u32 {
     let from = start as usize;
     let end = from + size as usize;
-    if end <= result.len() {
-        return pas::pas_best(sheet, &mut result[from..end], total);
+    if result.len() < end {
+        return OUT_OF_ROOM;
     }
-    OUT_OF_ROOM
+    if floored {
+        return pas::pas_best_floors(sheet, floors, &mut result[from..end], total);
+    }
+    pas::pas_best(sheet, &mut result[from..end], total)
 }
 
 pub fn best_by_other(
     sheet: &[u8],
+    floors: &[u32],
+    floored: bool,
     result: &mut [u8],
     start: u32,
     size: u32,
@@ -48,10 +105,13 @@ pub fn best_by_other(
 ) -> u32 {
     let from = start as usize;
     let end = from + size as usize;
-    if end <= result.len() {
-        return test_plain::best(sheet, &mut result[from..end], total);
+    if result.len() < end {
+        return OUT_OF_ROOM;
     }
-    OUT_OF_ROOM
+    if floored {
+        return test_plain::best_floors(sheet, floors, &mut result[from..end], total);
+    }
+    test_plain::best(sheet, &mut result[from..end], total)
 }
 
 // The bytes to lend where so many are to be written: none, one too few, fewer, just as many or more.

@@ -1,8 +1,9 @@
-// The library's six calls held against the second engine's, each on the same bytes: the numbers that they return, their answers, and
+// The library's nine calls held against the second engine's, each on the same bytes: the numbers that they return, their answers, and
 // every byte of the buffers that were lent or stand beside what was lent. The program `test_trials` has the rounds.
 pub mod answers;
 pub mod bytes;
 mod calls;
 pub mod counts;
+mod floored;
 pub mod owners;
 mod pages;

@@ -13,11 +13,33 @@ fn price_at(start: u32, slot: u32) -> usize {
     start as usize + 5 * (slot as usize) + 1
 }
 
+// The bidder and the price at a slot of a played page.
+pub fn bidder(result: &[u8], start: u32, slot: u32) -> u32 {
+    parts::byte(result, bidder_at(start, slot, true))
+}
+
+pub fn price(result: &[u8], start: u32, slot: u32) -> u32 {
+    parts::word(result, price_at(start, slot))
+}
+
+// The bid of a bidder, 0 for nobody.
+pub fn bid(sheet: &[u8], bidder: u32) -> u32 {
+    if bidder == 0 {
+        return 0;
+    }
+    parts::word(sheet, parts::bid_at(sheet, bidder - 1))
+}
+
+// The bidder at a slot of a best page.
+pub fn best_bidder(result: &[u8], start: u32, slot: u32) -> u32 {
+    parts::byte(result, bidder_at(start, slot, false))
+}
+
 pub fn has_empty_slot(result: &[u8], start: u32, slots: u32) -> bool {
     let mut left = slots;
     while 0 < left {
         left -= 1;
-        if parts::byte(result, bidder_at(start, left, true)) == 0 {
+        if bidder(result, start, left) == 0 {
             return true;
         }
     }
@@ -28,7 +50,7 @@ pub fn has_price(result: &[u8], start: u32, slots: u32) -> bool {
     let mut left = slots;
     while 0 < left {
         left -= 1;
-        if 0 < parts::word(result, price_at(start, left)) {
+        if 0 < price(result, start, left) {
             return true;
         }
     }
@@ -50,9 +72,8 @@ fn is_bid_after(sheet: &[u8], bidder: u32, bid: u32) -> bool {
 // Whether the price can only be a rival's bid and a tick: it is above 0, and no bidder with a higher number than the winner's bids it. Such
 // a rival asks for no more than its own bid; where one bids the price, it is not counted.
 fn is_raised(sheet: &[u8], result: &[u8], start: u32, slot: u32) -> bool {
-    let bidder = parts::byte(result, bidder_at(start, slot, true));
-    let price = parts::word(result, price_at(start, slot));
-    0 < price && !is_bid_after(sheet, bidder, price)
+    let asked = price(result, start, slot);
+    0 < asked && !is_bid_after(sheet, bidder(result, start, slot), asked)
 }
 
 pub fn has_raised_price(sheet: &[u8], result: &[u8], start: u32, slots: u32) -> bool {
@@ -72,11 +93,10 @@ fn product(bid: u32, effect: u32) -> u64 {
 
 // "bid x effect" of a bidder at a slot, 0 for an empty slot.
 fn worth_at(sheet: &[u8], bidder: u32, slot: u32) -> u64 {
-    if bidder == 0 {
-        return 0;
-    }
-    let bid = parts::word(sheet, parts::bid_at(sheet, bidder - 1));
-    product(bid, parts::word(sheet, parts::effect_at(sheet, slot)))
+    product(
+        bid(sheet, bidder),
+        parts::word(sheet, parts::effect_at(sheet, slot)),
+    )
 }
 
 // "A page's total is the sum of bid x effect over filled places."

@@ -9,6 +9,9 @@ use test_edge_sheets::line;
 // Room for a result, more than 5 x 16 bytes.
 const RESULT_ROOM: usize = 128;
 
+// For a script that asks for more than that; no call returns it.
+const OUT_OF_ROOM: u32 = 1000;
+
 // The call that the line's first word names. A line of any other word makes none.
 pub fn answer(words: &[u8], sheet: &[u8], truth: &[u8]) {
     if script::begins(words, b"check") {
@@ -16,7 +19,7 @@ pub fn answer(words: &[u8], sheet: &[u8], truth: &[u8]) {
         return;
     }
     if script::begins(words, b"play") {
-        play(words, sheet);
+        play(words, sheet, &[], false);
         return;
     }
     if script::begins(words, b"downward") {
@@ -24,11 +27,11 @@ pub fn answer(words: &[u8], sheet: &[u8], truth: &[u8]) {
         return;
     }
     if script::begins(words, b"gain") {
-        gain(words, sheet, truth);
+        gain(words, sheet, &[], false, truth);
         return;
     }
     if script::begins(words, b"best") {
-        best(words, sheet);
+        best(words, sheet, &[], false);
         return;
     }
     if script::begins(words, b"part") {
@@ -37,6 +40,21 @@ pub fn answer(words: &[u8], sheet: &[u8], truth: &[u8]) {
     }
     if script::begins(words, b"before") {
         before(words, sheet);
+    }
+}
+
+// The same of the calls with floors.
+pub fn answer_with_floors(words: &[u8], sheet: &[u8], floors: &[u32], truth: &[u8]) {
+    if script::begins(words, b"with floors, play") {
+        play(words, sheet, floors, true);
+        return;
+    }
+    if script::begins(words, b"with floors, gain") {
+        gain(words, sheet, floors, true, truth);
+        return;
+    }
+    if script::begins(words, b"with floors, best") {
+        best(words, sheet, floors, true);
     }
 }
 
@@ -51,18 +69,22 @@ fn slot_count(sheet: &[u8]) -> usize
 }
 
 // The call with the first `length` bytes of a buffer lent.
-fn play_into(sheet: &[u8], buffer: &mut [u8], length: usize) -> u32 {
-    if length <= buffer.len() {
-        return pas::pas_play(sheet, &mut buffer[..length]);
+fn play_into(sheet: &[u8], floors: &[u32], floored: bool, buffer: &mut [u8], length: usize) -> u32 {
+    if buffer.len() < length {
+        return OUT_OF_ROOM;
     }
-    pas::pas_play(sheet, buffer)
+    if floored {
+        return pas::pas_play_floors(sheet, floors, &mut buffer[..length]);
+    }
+    pas::pas_play(sheet, &mut buffer[..length])
 }
 
 // "play LENGTH"
-fn play(words: &[u8], sheet: &[u8]) {
+fn play(words: &[u8], sheet: &[u8], floors: &[u32], floored: bool) {
     let mut space = [answers::UNTOUCHED; RESULT_ROOM];
     let buffer: &mut [u8] = &mut space;
-    let refusal = play_into(sheet, buffer, script::number(words, 1) as usize);
+    let length = script::number(words, 1) as usize;
+    let refusal = play_into(sheet, floors, floored, buffer, length);
     answers::number(refusal);
     if refusal != 0 {
         answers::untouched(b"; every byte", buffer, 0);
@@ -87,11 +109,15 @@ fn downward(words: &[u8], sheet: &[u8]) {
 }
 
 // "gain BIDDER WORTH"
-fn gain(words: &[u8], sheet: &[u8], truth: &[u8]) {
+fn gain(words: &[u8], sheet: &[u8], floors: &[u32], floored: bool, truth: &[u8]) {
     let mut gained = answers::UNTOUCHED_GAIN;
     let bidder = script::number(words, 1);
     let worth = script::number(words, 2);
-    let refusal = pas::pas_gain(sheet, truth, bidder, worth, &mut gained);
+    let refusal = if floored {
+        pas::pas_gain_floors(sheet, floors, truth, bidder, worth, &mut gained)
+    } else {
+        pas::pas_gain(sheet, truth, bidder, worth, &mut gained)
+    };
     answers::number(refusal);
     if refusal != 0 {
         answers::kept(b"; gain", gained == answers::UNTOUCHED_GAIN);
@@ -102,19 +128,30 @@ fn gain(words: &[u8], sheet: &[u8], truth: &[u8]) {
 }
 
 // The call with the first `length` bytes of a buffer lent.
-fn best_into(sheet: &[u8], buffer: &mut [u8], length: usize, total: &mut u64) -> u32 {
-    if length <= buffer.len() {
-        return pas::pas_best(sheet, &mut buffer[..length], total);
+fn best_into(
+    sheet: &[u8],
+    floors: &[u32],
+    floored: bool,
+    buffer: &mut [u8],
+    length: usize,
+    total: &mut u64,
+) -> u32 {
+    if buffer.len() < length {
+        return OUT_OF_ROOM;
     }
-    pas::pas_best(sheet, buffer, total)
+    if floored {
+        return pas::pas_best_floors(sheet, floors, &mut buffer[..length], total);
+    }
+    pas::pas_best(sheet, &mut buffer[..length], total)
 }
 
 // "best LENGTH"
-fn best(words: &[u8], sheet: &[u8]) {
+fn best(words: &[u8], sheet: &[u8], floors: &[u32], floored: bool) {
     let mut space = [answers::UNTOUCHED; RESULT_ROOM];
     let buffer: &mut [u8] = &mut space;
     let mut total = answers::UNTOUCHED_TOTAL;
-    let refusal = best_into(sheet, buffer, script::number(words, 1) as usize, &mut total);
+    let length = script::number(words, 1) as usize;
+    let refusal = best_into(sheet, floors, floored, buffer, length, &mut total);
     answers::number(refusal);
     if refusal != 0 {
         answers::untouched(b"; every byte", buffer, 0);

@@ -2,6 +2,7 @@
 ghost use Prim.Native.Nat.{_<_};
 
 pub mod faults;
+pub mod wrong_floors;
 
 use test_chance::lists;
 use test_chance::number;

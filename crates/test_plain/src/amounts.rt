@@ -77,9 +77,9 @@ fn signed(broken: bool, effect: u32, worth: u32, price: u32) -> i64 {
 }
 
 // The gain of a bidder: "If i has no place the gain is 0."
-pub fn gain(played: &[u8], truth: &[u8], bidder: u8, worth: u32) -> i64 {
+pub fn gain(played: &[u8], floors: &[u32], truth: &[u8], bidder: u8, worth: u32) -> i64 {
     let bids = round::bids(played);
-    let filled = round::fill(played, bids, fields::slot_count(played));
+    let filled = round::fill(played, floors, bids, fields::slot_count(played));
     let slot = page::slot_of(filled, bidder);
     if slot == 0 {
         return 0;
@@ -88,6 +88,6 @@ pub fn gain(played: &[u8], truth: &[u8], bidder: u8, worth: u32) -> i64 {
         page::breaks_own(filled, truth, bidder),
         fields::effect(played, slot),
         worth,
-        round::price(played, bids, bidder, slot),
+        round::price(played, floors, bids, bidder, slot),
     )
 }

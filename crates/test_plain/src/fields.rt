@@ -1,4 +1,4 @@
-// Reads one field of a sheet where it stands, by document 01's table and document 02's version 2 alone.
+// Reads one field of a sheet where it stands, by document 01's table and document 02's version 2 alone, and one of a list of floors.
 // Every reader is total: a byte that the sheet does not have reads as 0, so that no caller has to know the sheet's length.
 ghost use mathlib.Core.Path.{_≡_};
 ghost use Prim.Native.Nat.{_<_};
@@ -26,6 +26,8 @@ pub const MAX_TICK: u32 = 1000000000;
 pub const MAX_EFFECT: u32 = 1000000;
 // "bid of bidders 1 to n, 0 to 1,000,000,000"
 pub const MAX_BID: u32 = 1000000000;
+// "31 for a floor above 1,000,000,000"
+pub const MAX_FLOOR: u32 = 1000000000;
 
 // Where each byte of a constraint ("condition") stands: "owner, own place, other bidder, other's place, one byte each".
 pub const OWNER: usize = 0;
@@ -134,6 +136,15 @@ pub fn bid(sheet: &[u8], bidder: u8) -> u32 {
         sheet,
         header(sheet) + 4 * (wide(slot_count(sheet)) + wide(bidder) - 1),
     )
+}
+
+// The floor under a slot, counted from 1, of a list of them; 0 where the list has none for it.
+pub fn floor(floors: &[u32], slot: u8) -> u32 {
+    if slot == 0 {
+        return 0;
+    }
+    let at = wide(slot) - 1;
+    if at < floors.len() { floors[at] } else { 0 }
 }
 
 // How many bytes of the sheet stand before a constraint, counted from 0; for the count of them, all that its counts ask for.

@@ -1,9 +1,9 @@
-// A second engine for document 01 and for document 02's version 2, written another way on purpose, so that random rounds on which it
-// agrees with the proved engine say something of both. It shares no code with the library, keeps no table and no round in memory,
-// and reads the sheet's bytes where it needs them. It is proved safe and ending, and nothing more.
+// A second engine for document 01 and for document 02's version 2 and floors, written another way on purpose, so that random rounds on
+// which it agrees with the proved engine say something of both. It shares no code with the library, keeps no table and no round in
+// memory, and reads the sheet's bytes where it needs them. It is proved safe and ending, and nothing more.
 //
 // Each call returns 0 or the number of the first rule that the call breaks, and then nothing lent is written. A sheet's rules are 1 to
-// 13 and 26 to 28.
+// 13 and 26 to 28, and with a list of floors then 30 and 31.
 mod amounts;
 mod fields;
 mod list;
@@ -23,6 +23,15 @@ const BYTES_PER_SLOT: usize = 5;
 // A sheet's rules.
 pub fn check(sheet: &[u8]) -> u32 {
     rules::first_broken(sheet)
+}
+
+// "Turned away: after 28 and before 14": a sheet's rules, 30 and 31.
+fn check_with(sheet: &[u8], floors: &[u32]) -> u32 {
+    let refusal = check(sheet);
+    if refusal != 0 {
+        return refusal;
+    }
+    rules::floors_rule(sheet, floors)
 }
 
 fn set_byte(result: &mut [u8], at: usize, value: u32) {
@@ -45,15 +54,27 @@ fn write_slot(result: &mut [u8], slot: u8, bidder: u8, price: u32) {
 }
 
 // The page, with a price for each slot.
-fn write_page(result: &mut [u8], sheet: &[u8], bids: [u32; 64], filled: [u8; 16]) {
+fn write_page(result: &mut [u8], sheet: &[u8], floors: &[u32], bids: [u32; 64], filled: [u8; 16]) {
     let slots = fields::slot_count(sheet);
     let mut slot: u8 = 0;
     while slot < slots {
         slot += 1;
         let bidder = page::at(filled, slot);
-        let price = round::price(sheet, bids, bidder, slot);
+        let price = round::price(sheet, floors, bids, bidder, slot);
         write_slot(result, slot, bidder, price);
     }
+}
+
+// 19; or the page and its prices.
+fn play_right(sheet: &[u8], floors: &[u32], result: &mut [u8]) -> u32 {
+    let slots = fields::slot_count(sheet);
+    if result.len() < BYTES_PER_SLOT * fields::wide(slots) {
+        return 19;
+    }
+    let bids = round::bids(sheet);
+    let filled = round::fill(sheet, floors, bids, slots);
+    write_page(result, sheet, floors, bids, filled);
+    0
 }
 
 // A sheet's rules and 19; or the page and its prices.
@@ -62,13 +83,16 @@ pub fn play(sheet: &[u8], result: &mut [u8]) -> u32 {
     if refusal != 0 {
         return refusal;
     }
-    let slots = fields::slot_count(sheet);
-    if result.len() < BYTES_PER_SLOT * fields::wide(slots) {
-        return 19;
+    play_right(sheet, &[], result)
+}
+
+// The same with floors.
+pub fn play_floors(sheet: &[u8], floors: &[u32], result: &mut [u8]) -> u32 {
+    let refusal = check_with(sheet, floors);
+    if refusal != 0 {
+        return refusal;
     }
-    let bids = round::bids(sheet);
-    write_page(result, sheet, bids, round::fill(sheet, bids, slots));
-    0
+    play_right(sheet, floors, result)
 }
 
 // "The bidder named in the call is 0 or above n."
@@ -121,18 +145,46 @@ fn gain_rule(played: &[u8], truth: &[u8], bidder: u32, worth: u32) -> u32 {
     0
 }
 
+// 14 to 17; or the bidder's gain from the played sheet, by its constraints in the truth sheet.
+fn gain_right(
+    played: &[u8],
+    floors: &[u32],
+    truth: &[u8],
+    bidder: u32,
+    worth: u32,
+    gain: &mut i64,
+) -> u32 {
+    let refusal = gain_rule(played, truth, bidder, worth);
+    if refusal != 0 {
+        return refusal;
+    }
+    *gain = amounts::gain(played, floors, truth, narrow(bidder), worth);
+    0
+}
+
 // A sheet's rules and 14 to 17; or the bidder's gain from the played sheet, by its constraints in the truth sheet.
 pub fn gain(played: &[u8], truth: &[u8], bidder: u32, worth: u32, gain: &mut i64) -> u32 {
     let refusal = check(played);
     if refusal != 0 {
         return refusal;
     }
-    let later = gain_rule(played, truth, bidder, worth);
-    if later != 0 {
-        return later;
+    gain_right(played, &[], truth, bidder, worth, gain)
+}
+
+// The same with floors under the played sheet's slots.
+pub fn gain_floors(
+    played: &[u8],
+    floors: &[u32],
+    truth: &[u8],
+    bidder: u32,
+    worth: u32,
+    gain: &mut i64,
+) -> u32 {
+    let refusal = check_with(played, floors);
+    if refusal != 0 {
+        return refusal;
     }
-    *gain = amounts::gain(played, truth, narrow(bidder), worth);
-    0
+    gain_right(played, floors, truth, bidder, worth, gain)
 }
 
 fn write_bidders(result: &mut [u8], filled: [u8; 16], slots: u8) {
@@ -144,12 +196,8 @@ fn write_bidders(result: &mut [u8], filled: [u8; 16], slots: u8) {
     }
 }
 
-// A sheet's rules, 18 and 19.
+// Rules 18 and 19.
 fn best_rule(sheet: &[u8], room: usize) -> u32 {
-    let refusal = check(sheet);
-    if refusal != 0 {
-        return refusal;
-    }
     let slots = fields::slot_count(sheet);
     if MAX_SEARCHED < fields::bidder_count(sheet) || MAX_SEARCHED < slots {
         return 18;
@@ -160,17 +208,35 @@ fn best_rule(sheet: &[u8], room: usize) -> u32 {
     0
 }
 
-// A sheet's rules, 18 and 19; or the best page's bidder numbers, a byte a slot, and its total.
-pub fn best(sheet: &[u8], result: &mut [u8], total: &mut u64) -> u32 {
+// 18 and 19; or the best page's bidder numbers, a byte a slot, and its total.
+fn best_right(sheet: &[u8], floors: &[u32], result: &mut [u8], total: &mut u64) -> u32 {
     let refusal = best_rule(sheet, result.len());
     if refusal != 0 {
         return refusal;
     }
-    let choice = search::best(sheet);
+    let choice = search::best(sheet, floors);
     let filled = choice.page;
     write_bidders(result, filled, fields::slot_count(sheet));
     *total = choice.total;
     0
+}
+
+// A sheet's rules, 18 and 19; or the best page's bidder numbers, a byte a slot, and its total.
+pub fn best(sheet: &[u8], result: &mut [u8], total: &mut u64) -> u32 {
+    let refusal = check(sheet);
+    if refusal != 0 {
+        return refusal;
+    }
+    best_right(sheet, &[], result, total)
+}
+
+// The same with floors.
+pub fn best_floors(sheet: &[u8], floors: &[u32], result: &mut [u8], total: &mut u64) -> u32 {
+    let refusal = check_with(sheet, floors);
+    if refusal != 0 {
+        return refusal;
+    }
+    best_right(sheet, floors, result, total)
 }
 
 // A sheet's rules, "29 where either call gets a version 1 sheet that is otherwise accepted, before 16", and 16.

@@ -1,5 +1,5 @@
 // Fills a page slot by slot and finds prices by playing the round again at lower bids, as document 01 words it, and of these only
-// at legal bids, as document 02 has it.
+// at legal bids, as document 02 has it. A round without floors has an empty list of them.
 // Bids go by value, so that a replay can change one.
 ghost use Prim.Native.Nat.{_≤_, _<_};
 use crate::fields;
@@ -45,11 +45,27 @@ fn with_bid(bids: [u32; 64], bidder: u8, bid: u32) -> [u32; 64] {
 
 // "An unplaced bidder is eligible for place k if, with the places already filled and it at k, neither its own conditions nor
 // those of an earlier winner are broken." A constraint of anyone else does not bind, so that all may be asked.
-fn is_eligible(sheet: &[u8], filled: [u8; 16], slot: u8, bidder: u8) -> bool {
+fn may_stand(sheet: &[u8], filled: [u8; 16], slot: u8, bidder: u8) -> bool {
     if page::slot_of(filled, bidder) != 0 {
         return false;
     }
     !page::breaks_any(page::put(filled, slot, bidder), sheet)
+}
+
+// "A bidder is eligible for a place only with a bid at or above its floor". Nobody asks here which test fails first, so this one, the
+// quickest, comes first.
+fn is_eligible(
+    sheet: &[u8],
+    floors: &[u32],
+    bids: [u32; 64],
+    filled: [u8; 16],
+    slot: u8,
+    bidder: u8,
+) -> bool {
+    if bid_of(bids, bidder) < fields::floor(floors, slot) {
+        return false;
+    }
+    may_stand(sheet, filled, slot, bidder)
 }
 
 // Whether the leader, 0 for none, has to give way: the bidders come in order of number, so that an equal bid is not enough.
@@ -61,13 +77,13 @@ fn outbids(bids: [u32; 64], bidder: u8, leader: u8) -> bool {
 }
 
 // "The eligible bidder with the highest bid wins; equal bids go to the lower number."
-fn winner(sheet: &[u8], bids: [u32; 64], filled: [u8; 16], slot: u8) -> u8 {
+fn winner(sheet: &[u8], floors: &[u32], bids: [u32; 64], filled: [u8; 16], slot: u8) -> u8 {
     let bidders = fields::bidder_count(sheet);
     let mut leader: u8 = 0;
     let mut bidder: u8 = 0;
     while bidder < bidders {
         bidder += 1;
-        if outbids(bids, bidder, leader) && is_eligible(sheet, filled, slot, bidder) {
+        if outbids(bids, bidder, leader) && is_eligible(sheet, floors, bids, filled, slot, bidder) {
             leader = bidder;
         }
     }
@@ -75,20 +91,27 @@ fn winner(sheet: &[u8], bids: [u32; 64], filled: [u8; 16], slot: u8) -> u8 {
 }
 
 // The page of the first slots, as many as are asked for.
-pub fn fill(sheet: &[u8], bids: [u32; 64], slots: u8) -> [u8; 16] {
+pub fn fill(sheet: &[u8], floors: &[u32], bids: [u32; 64], slots: u8) -> [u8; 16] {
     let mut filled = page::empty();
     let mut slot: u8 = 0;
     while slot < slots {
         slot += 1;
-        let next = page::put(filled, slot, winner(sheet, bids, filled, slot));
+        let next = page::put(filled, slot, winner(sheet, floors, bids, filled, slot));
         filled = next;
     }
     filled
 }
 
 // Whether a bidder wins the slot when the round is played again with another bid of its own.
-fn still_wins(sheet: &[u8], bids: [u32; 64], bidder: u8, slot: u8, bid: u32) -> bool {
-    let replayed = fill(sheet, with_bid(bids, bidder, bid), slot);
+fn still_wins(
+    sheet: &[u8],
+    floors: &[u32],
+    bids: [u32; 64],
+    bidder: u8,
+    slot: u8,
+    bid: u32,
+) -> bool {
+    let replayed = fill(sheet, floors, with_bid(bids, bidder, bid), slot);
     page::at(replayed, slot) == bidder
 }
 
@@ -116,24 +139,24 @@ fn is_small(bid: u32, step: u32) -> bool {
     bid as u64 <= FEW_TICKS * (step as u64)
 }
 
-// "the smallest bid that the sheet would accept and that still wins the place". "An empty place has price 0."
-pub fn price(sheet: &[u8], bids: [u32; 64], winner: u8, slot: u8) -> u32 {
+// "the smallest bid that the sheet would accept and that still wins the place", "floor counted". "An empty place has price 0."
+pub fn price(sheet: &[u8], floors: &[u32], bids: [u32; 64], winner: u8, slot: u8) -> u32 {
     if winner == 0 {
         return 0;
     }
     if is_small(bid_of(bids, winner), step_of(sheet)) {
-        return least_of_all(sheet, bids, winner, slot);
+        return least_of_all(sheet, floors, bids, winner, slot);
     }
-    least_by_rivals(sheet, bids, winner, slot)
+    least_by_rivals(sheet, floors, bids, winner, slot)
 }
 
 // The price by every legal bid from 0 up to the winner's own.
-fn least_of_all(sheet: &[u8], bids: [u32; 64], winner: u8, slot: u8) -> u32 {
+fn least_of_all(sheet: &[u8], floors: &[u32], bids: [u32; 64], winner: u8, slot: u8) -> u32 {
     let own = bid_of(bids, winner);
     let step = step_of(sheet);
     let mut bid: u32 = 0;
     while bid < own {
-        if still_wins(sheet, bids, winner, slot, bid) {
+        if still_wins(sheet, floors, bids, winner, slot, bid) {
             return bid;
         }
         bid = next_bid(bid, step, own);
@@ -141,29 +164,61 @@ fn least_of_all(sheet: &[u8], bids: [u32; 64], winner: u8, slot: u8) -> u32 {
     own
 }
 
-// The price by 0, each rival's bid and the next legal one: what it takes to pass a rival is one of these.
-fn least_by_rivals(sheet: &[u8], bids: [u32; 64], winner: u8, slot: u8) -> u32 {
+// The last legal bid that is not above a floor.
+fn legal_below(floor: u32, step: u32) -> u32
+    requires { ⌜ 0 < step ⌝ }
+{
+    floor - floor % step
+}
+
+// The price by 0, each rival's bid, the last legal bid that is not above the floor, and the next legal one after each of these: what it
+// takes to pass a rival or to reach the floor is one of these.
+fn least_by_rivals(sheet: &[u8], floors: &[u32], bids: [u32; 64], winner: u8, slot: u8) -> u32 {
     let bidders = fields::bidder_count(sheet);
-    let step = step_of(sheet);
-    let mut least = tried(sheet, bids, winner, slot, 0, bid_of(bids, winner));
+    let low = legal_below(fields::floor(floors, slot), step_of(sheet));
+    let most = tried(sheet, floors, bids, winner, slot, 0, bid_of(bids, winner));
+    let mut least = tried_both(sheet, floors, bids, winner, slot, low, most);
     let mut rival: u8 = 0;
     while rival < bidders {
         rival += 1;
         let bid = bid_of(bids, rival);
-        least = tried(sheet, bids, winner, slot, bid, least);
-        if bid < least {
-            least = tried(sheet, bids, winner, slot, next_bid(bid, step, least), least);
-        }
+        least = tried_both(sheet, floors, bids, winner, slot, bid, least);
     }
     least
 }
 
+// The least winning bid after a bid and the next legal one were tried.
+fn tried_both(
+    sheet: &[u8],
+    floors: &[u32],
+    bids: [u32; 64],
+    winner: u8,
+    slot: u8,
+    bid: u32,
+    least: u32,
+) -> u32 {
+    let now = tried(sheet, floors, bids, winner, slot, bid, least);
+    if now <= bid {
+        return now;
+    }
+    let next = next_bid(bid, step_of(sheet), now);
+    tried(sheet, floors, bids, winner, slot, next, now)
+}
+
 // The least winning bid found so far, or the bid tried now where that is lower and wins.
-fn tried(sheet: &[u8], bids: [u32; 64], winner: u8, slot: u8, bid: u32, least: u32) -> u32 {
+fn tried(
+    sheet: &[u8],
+    floors: &[u32],
+    bids: [u32; 64],
+    winner: u8,
+    slot: u8,
+    bid: u32,
+    least: u32,
+) -> u32 {
     if least <= bid {
         return least;
     }
-    if still_wins(sheet, bids, winner, slot, bid) {
+    if still_wins(sheet, floors, bids, winner, slot, bid) {
         return bid;
     }
     least

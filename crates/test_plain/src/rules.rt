@@ -1,5 +1,5 @@
 // Document 01's rules 1 to 13 with document 02's 26 and 27 where it puts them, one after the other, each over the whole sheet; of the
-// constraints ("conditions") each in turn, with document 02's 28 after its 13.
+// constraints ("conditions") each in turn, with document 02's 28 after its 13. And document 02's rules for a list of floors.
 use crate::fields;
 
 // The number of the first rule that the sheet breaks, 0 for none.
@@ -17,6 +17,28 @@ pub fn first_broken(sheet: &[u8]) -> u32 {
         return amounts;
     }
     constraints_rule(sheet)
+}
+
+// "30 for a list that is not m long and 31 for a floor above 1,000,000,000": the first that a list breaks with a sheet of m places.
+pub fn floors_rule(sheet: &[u8], floors: &[u32]) -> u32 {
+    if floors.len() != fields::wide(fields::slot_count(sheet)) {
+        return 30;
+    }
+    if has_bad_floor(floors) {
+        return 31;
+    }
+    0
+}
+
+fn has_bad_floor(floors: &[u32]) -> bool {
+    let mut left = floors.len();
+    while 0 < left {
+        left -= 1;
+        if fields::MAX_FLOOR < floors[left] {
+            return true;
+        }
+    }
+    false
 }
 
 // Rules 1 to 3, and then 1 once more: it "also covers a version 2 sheet under 13 bytes, checked after 3".

@@ -1,7 +1,7 @@
 // The best page by trying every page that breaks nothing: no bound, no start from a good page.
 // The pages come in dictionary order, as a counter with a digit for each slot ("place"), slot 1 first. What stands on a page stays
-// as further slots are filled, so that a bidder twice or a broken constraint ("condition") is never mended: the counter then goes on
-// at the page's last bidder.
+// as further slots are filled, so that a bidder twice, one below its floor or a broken constraint ("condition") is never mended: the
+// counter then goes on at the page's last bidder.
 use crate::amounts;
 use crate::fields;
 use crate::page;
@@ -36,10 +36,21 @@ fn last_filled(filled: [u8; 16], slots: u8) -> u8 {
     0
 }
 
-// Whether no bidder has two places and no constraint is broken. Of the bidders the last one is asked alone: the page without it came
-// before, and was fine.
-fn is_fine(sheet: &[u8], filled: [u8; 16], last: u8) -> bool {
-    !is_repeat(filled, last) && !page::breaks_any(filled, sheet)
+// "The best page obeys floors as well.": whether the bidder at a slot bids less than its floor. An empty slot is free.
+fn is_below_floor(sheet: &[u8], floors: &[u32], filled: [u8; 16], slot: u8) -> bool {
+    let bidder = page::at(filled, slot);
+    if bidder == 0 {
+        return false;
+    }
+    fields::bid(sheet, bidder) < fields::floor(floors, slot)
+}
+
+// Whether no bidder has two places or less than its floor, and no constraint is broken. Of the bidders the last one is asked alone: the
+// page without it came before, and was fine.
+fn is_fine(sheet: &[u8], floors: &[u32], filled: [u8; 16], last: u8) -> bool {
+    !is_repeat(filled, last)
+        && !is_below_floor(sheet, floors, filled, last)
+        && !page::breaks_any(filled, sheet)
 }
 
 // The next page in dictionary order that differs at a slot up to the one given, after which all are empty; after the last page the
@@ -91,7 +102,7 @@ fn better(sheet: &[u8], choice: Choice, filled: [u8; 16], fine: bool) -> Choice 
 // "among pages breaking no condition, one with the largest total; among those, the one whose list of bidder numbers by place (0
 // for empty) comes first in dictionary order". The first page of all is the empty one, with total 0, and it comes again after the
 // last.
-pub fn best(sheet: &[u8]) -> Choice {
+pub fn best(sheet: &[u8], floors: &[u32]) -> Choice {
     let bidders = fields::bidder_count(sheet);
     let slots = fields::slot_count(sheet);
     let mut filled = page::empty();
@@ -102,7 +113,7 @@ pub fn best(sheet: &[u8]) -> Choice {
     };
     let mut left = count(bidders, slots);
     while 0 < left {
-        let fine = is_fine(sheet, filled, last);
+        let fine = is_fine(sheet, floors, filled, last);
         let chosen = better(sheet, choice, filled, fine);
         choice = chosen;
         let following = next(filled, bidders, if fine { slots } else { last });

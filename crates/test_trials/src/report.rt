@@ -43,12 +43,14 @@ fn shape_part(tally: &[u64], words: &[u8], first: u32, shape: u32) {
     test_tally::number(test_tally::of(tally, counts::by_shape(first, shape)));
 }
 
-// A shape: its rounds, and the pages that both engines played and found best.
+// A shape: its rounds, and the pages that both engines played and found best, without floors and with them.
 fn shape_line(tally: &[u64], words: &[u8], shape: u32) {
     test_tally::text(words);
     shape_part(tally, b": rounds ", counts::SHAPES, shape);
     shape_part(tally, b", pages ", counts::PLAYED, shape);
     shape_part(tally, b", best pages ", counts::SEARCHED, shape);
+    shape_part(tally, b", with floors ", counts::FLOORED_PLAYED, shape);
+    shape_part(tally, b" and ", counts::FLOORED_SEARCHED, shape);
     test_tally::text(b"\n");
 }
 
@@ -93,10 +95,39 @@ fn largest_sizes(tally: &[u64]) {
     );
     test_tally::count_line(tally, b"pages on these", counts::LARGEST_PAGES);
     test_tally::count_line(tally, b"gains on these", counts::LARGEST_GAINS);
+    test_tally::count_line(
+        tally,
+        b"pages with floors on these",
+        counts::LARGEST_FLOORED_PAGES,
+    );
+    test_tally::count_line(
+        tally,
+        b"gains with floors on these",
+        counts::LARGEST_FLOORED_GAINS,
+    );
+}
+
+// The same of the largest that the best page is sought on.
+fn eights(tally: &[u64]) {
     test_tally::count_line(tally, b"accepted sheets with n = 8, m = 8", counts::EIGHT);
     test_tally::count_line(tally, b"pages on these", counts::EIGHT_PAGES);
     test_tally::count_line(tally, b"gains on these", counts::EIGHT_GAINS);
     test_tally::count_line(tally, b"best pages on these", counts::EIGHT_BEST);
+    test_tally::count_line(
+        tally,
+        b"pages with floors on these",
+        counts::EIGHT_FLOORED_PAGES,
+    );
+    test_tally::count_line(
+        tally,
+        b"gains with floors on these",
+        counts::EIGHT_FLOORED_GAINS,
+    );
+    test_tally::count_line(
+        tally,
+        b"best pages with floors on these",
+        counts::EIGHT_FLOORED_BEST,
+    );
 }
 
 // What the headers say of versions and ticks.
@@ -115,6 +146,21 @@ fn versions(tally: &[u64]) {
     test_tally::count_line(tally, b"pages on these", counts::STEPPED_PAGES);
     test_tally::count_line(tally, b"gains on these", counts::STEPPED_GAINS);
     test_tally::count_line(tally, b"best pages on these", counts::STEPPED_BEST);
+    test_tally::count_line(
+        tally,
+        b"pages with floors on these",
+        counts::STEPPED_FLOORED_PAGES,
+    );
+    test_tally::count_line(
+        tally,
+        b"gains with floors on these",
+        counts::STEPPED_FLOORED_GAINS,
+    );
+    test_tally::count_line(
+        tally,
+        b"best pages with floors on these",
+        counts::STEPPED_FLOORED_BEST,
+    );
     test_tally::count_line(
         tally,
         b"pages with a price that is a rival's bid and a tick above 1",
@@ -139,6 +185,151 @@ fn answers(tally: &[u64]) {
         tally,
         b"best pages with a larger total than the played page",
         counts::ABOVE_GREEDY,
+    );
+}
+
+// Both forms of the calls, the second with as many floors of 0 as the sheet has places.
+fn zero_floors(tally: &[u64]) {
+    test_tally::count_line(
+        tally,
+        b"pages that are the same with floors of 0",
+        counts::ZERO_PAGES,
+    );
+    test_tally::count_line(
+        tally,
+        b"gains that are the same with floors of 0",
+        counts::ZERO_GAINS,
+    );
+    test_tally::count_line(
+        tally,
+        b"best pages that are the same with floors of 0",
+        counts::ZERO_BEST,
+    );
+}
+
+// The floors that accepted sheets are played with.
+fn right_floors(tally: &[u64]) {
+    test_tally::count_line(tally, b"lists of floors, all 0", counts::ZEROS);
+    test_tally::count_line(tally, b"lists of floors, rising", counts::RISING);
+    test_tally::count_line(tally, b"lists of floors, falling", counts::FALLING);
+    test_tally::count_line(
+        tally,
+        b"lists of floors, rising and falling",
+        counts::BOTH_WAYS,
+    );
+    test_tally::count_line(
+        tally,
+        b"lists of floors, all above every bid",
+        counts::ABOVE_BIDS,
+    );
+    test_tally::count_line(
+        tally,
+        b"lists of floors, none a multiple of the tick",
+        counts::OFF_TICK,
+    );
+    test_tally::count_line(
+        tally,
+        b"lists of floors, one above 0 equal to a bid",
+        counts::AT_BID,
+    );
+    test_tally::count_line(
+        tally,
+        b"lists of floors, one of 1000000000",
+        counts::AT_LIMIT,
+    );
+}
+
+// The floors that are turned away with accepted sheets, and those beside a refused sheet.
+fn wrong_floors(tally: &[u64]) {
+    test_tally::count_line(tally, b"lists of no floors", counts::NO_FLOORS);
+    test_tally::count_line(tally, b"lists of too few floors", counts::SHORT);
+    test_tally::count_line(tally, b"lists of too many floors", counts::LONG);
+    test_tally::count_line(
+        tally,
+        b"lists of m floors, one of 1000000001",
+        counts::JUST_TOO_HIGH,
+    );
+    test_tally::count_line(
+        tally,
+        b"lists of m floors, the first too high",
+        counts::FIRST_TOO_HIGH,
+    );
+    test_tally::count_line(
+        tally,
+        b"lists of m floors, the last too high",
+        counts::LAST_TOO_HIGH,
+    );
+    test_tally::count_line(
+        tally,
+        b"lists of too few or too many floors, one too high",
+        counts::BOTH_FAULTS,
+    );
+    test_tally::count_line(
+        tally,
+        b"lists to be turned away beside a refused sheet",
+        counts::SHEET_FIRST,
+    );
+}
+
+// What the floors do.
+fn floored_pages(tally: &[u64]) {
+    test_tally::count_line(
+        tally,
+        b"pages with floors and an empty place",
+        counts::FLOORED_EMPTY,
+    );
+    test_tally::count_line(
+        tally,
+        b"pages on which a floor empties a place",
+        counts::EMPTIED,
+    );
+    test_tally::count_line(
+        tally,
+        b"pages on which a floor sets a price",
+        counts::PRICED,
+    );
+    test_tally::count_line(
+        tally,
+        b"pages on which a floor between two ticks does",
+        counts::BETWEEN,
+    );
+    test_tally::count_line(
+        tally,
+        b"pages on which a winner bids just its floor",
+        counts::REACHED,
+    );
+    test_tally::count_line(
+        tally,
+        b"pages on which a floor makes a place cost more than the one above",
+        counts::DEARER,
+    );
+}
+
+fn floored_amounts(tally: &[u64]) {
+    test_tally::count_line(
+        tally,
+        b"gains with floors above 0",
+        counts::FLOORED_GAINS_ABOVE,
+    );
+    test_tally::count_line(
+        tally,
+        b"gains with floors of 0",
+        counts::FLOORED_GAINS_NOUGHT,
+    );
+    test_tally::count_line(
+        tally,
+        b"gains with floors below 0",
+        counts::FLOORED_GAINS_BELOW,
+    );
+    test_tally::count_line(
+        tally,
+        b"best pages with floors with a larger total than the played page",
+        counts::FLOORED_ABOVE_GREEDY,
+    );
+    test_tally::count_line(
+        tally,
+        b"best pages with floors with a smaller total than without",
+        counts::FLOORED_SMALLER,
     );
 }
 
@@ -184,6 +375,14 @@ fn orders(tally: &[u64]) {
     );
 }
 
+fn floors(tally: &[u64]) {
+    zero_floors(tally);
+    right_floors(tally);
+    wrong_floors(tally);
+    floored_pages(tally);
+    floored_amounts(tally);
+}
+
 pub fn all(tally: &[u64]) {
     call_lines(tally, b"check", counts::CHECK);
     call_lines(tally, b"play", counts::PLAY);
@@ -192,11 +391,16 @@ pub fn all(tally: &[u64]) {
     call_lines(tally, b"best", counts::BEST);
     call_lines(tally, b"owner part", counts::OWNER_PART);
     call_lines(tally, b"check of an owner part", counts::CHECK_PART);
+    call_lines(tally, b"play with floors", counts::PLAY_FLOORS);
+    call_lines(tally, b"gain with floors", counts::GAIN_FLOORS);
+    call_lines(tally, b"best with floors", counts::BEST_FLOORS);
     answers(tally);
     owner_parts(tally);
+    floors(tally);
     small_shapes(tally);
     larger_shapes(tally);
     largest_sizes(tally);
+    eights(tally);
     versions(tally);
     orders(tally);
     test_tally::count_line(tally, b"rounds", counts::ROUNDS);

@@ -1,8 +1,11 @@
-// One round: a sheet and a truth sheet, each lent as a part of a larger buffer, through every call of both engines.
+// One round: a sheet, a truth sheet and a list of floors, each lent as a part of a larger buffer, through every call of both engines.
+use crate::lent_floors;
 use test_both_engines::answers;
+use test_both_engines::answers::Form;
 use test_both_engines::bytes;
 use test_both_engines::counts;
 use test_both_engines::owners;
+use test_chance::floor_lists;
 use test_chance::lists;
 use test_chance::number;
 use test_chance::parts;
@@ -104,52 +107,110 @@ fn check(tally: &mut [u64], kind: Kind, sheet: &[u8]) {
     );
 }
 
-fn play(state: &mut u64, tally: &mut [u64], kind: Kind, sheet: &[u8]) {
-    let played = answers::play(state, tally, sheet);
-    test_tally::add_if(tally, played, counts::by_shape(counts::PLAYED, kind.shape));
+fn play(state: &mut u64, tally: &mut [u64], kind: Kind, sheet: &[u8], floors: &[u32], form: Form) {
+    let played = answers::play(state, tally, sheet, floors, form);
+    let shapes = answers::by_form(form, counts::PLAYED, counts::FLOORED_PLAYED);
+    test_tally::add_if(tally, played, counts::by_shape(shapes, kind.shape));
     note(
         tally,
         sheet,
         played,
-        counts::LARGEST_PAGES,
-        counts::EIGHT_PAGES,
-        counts::STEPPED_PAGES,
+        answers::by_form(form, counts::LARGEST_PAGES, counts::LARGEST_FLOORED_PAGES),
+        answers::by_form(form, counts::EIGHT_PAGES, counts::EIGHT_FLOORED_PAGES),
+        answers::by_form(form, counts::STEPPED_PAGES, counts::STEPPED_FLOORED_PAGES),
     );
 }
 
-fn gain(state: &mut u64, tally: &mut [u64], sheet: &[u8], truth: &[u8]) {
-    let answered = answers::gain(state, tally, sheet, truth);
+fn gain(
+    state: &mut u64,
+    tally: &mut [u64],
+    sheet: &[u8],
+    floors: &[u32],
+    form: Form,
+    truth: &[u8],
+) {
+    let answered = answers::gain(state, tally, sheet, floors, form, truth);
     let another = parts::tick(sheet) != parts::tick(truth);
-    test_tally::add_if(tally, answered && another, counts::OTHER_TICK_GAINS);
+    let first = answered && !form.floored;
+    test_tally::add_if(tally, first && another, counts::OTHER_TICK_GAINS);
     note(
         tally,
         sheet,
         answered,
-        counts::LARGEST_GAINS,
-        counts::EIGHT_GAINS,
-        counts::STEPPED_GAINS,
+        answers::by_form(form, counts::LARGEST_GAINS, counts::LARGEST_FLOORED_GAINS),
+        answers::by_form(form, counts::EIGHT_GAINS, counts::EIGHT_FLOORED_GAINS),
+        answers::by_form(form, counts::STEPPED_GAINS, counts::STEPPED_FLOORED_GAINS),
     );
 }
 
-fn best(state: &mut u64, tally: &mut [u64], kind: Kind, sheet: &[u8]) {
-    let searched = answers::best(state, tally, sheet);
-    test_tally::add_if(
-        tally,
-        searched,
-        counts::by_shape(counts::SEARCHED, kind.shape),
-    );
-    if searched {
-        test_tally::add_if(tally, is_eight(sheet), counts::EIGHT_BEST);
-        test_tally::add_if(tally, 1 < parts::tick(sheet), counts::STEPPED_BEST);
+fn best(state: &mut u64, tally: &mut [u64], kind: Kind, sheet: &[u8], floors: &[u32], form: Form) {
+    let searched = answers::best(state, tally, sheet, floors, form);
+    let shapes = answers::by_form(form, counts::SEARCHED, counts::FLOORED_SEARCHED);
+    test_tally::add_if(tally, searched, counts::by_shape(shapes, kind.shape));
+    let eight = answers::by_form(form, counts::EIGHT_BEST, counts::EIGHT_FLOORED_BEST);
+    let stepped = answers::by_form(form, counts::STEPPED_BEST, counts::STEPPED_FLOORED_BEST);
+    test_tally::add_if(tally, searched && is_eight(sheet), eight);
+    test_tally::add_if(tally, searched && 1 < parts::tick(sheet), stepped);
+}
+
+// The calls that have a form with floors.
+fn three_calls(
+    state: &mut u64,
+    tally: &mut [u64],
+    kind: Kind,
+    sheet: &[u8],
+    floors: &[u32],
+    form: Form,
+    truth: &[u8],
+) {
+    play(state, tally, kind, sheet, floors, form);
+    gain(state, tally, sheet, floors, form, truth);
+    best(state, tally, kind, sheet, floors, form);
+}
+
+// The number that is due: the sheet's or, where it has none, the list's.
+fn rule_with(kind: Kind, fault: u32) -> u32 {
+    let rule = faults::number(kind.fault);
+    if rule != 0 {
+        return rule;
     }
+    test_damage::wrong_floors::rule(fault)
+}
+
+// The calls with floors, which are lent as a part of a longer list.
+fn with_floors(state: &mut u64, tally: &mut [u64], kind: Kind, sheet: &[u8], truth: &[u8]) {
+    let mut first = [0u32; floor_lists::ROOM];
+    let mut second = [0u32; floor_lists::ROOM];
+    let space: &mut [u32] = &mut first;
+    let kept: &mut [u32] = &mut second;
+    let fault = lent_floors::any_fault(state);
+    let start = number::up_to(state, 5);
+    let length = lent_floors::lay(state, sheet, fault, start, space);
+    floor_lists::paste(space, kept, 0, floor_lists::ROOM as u32);
+    let list = floor_lists::part(space, start, length);
+    lent_floors::note(tally, sheet, list, length, fault, kind.fault != 0);
+    let form = Form {
+        floored: true,
+        rule: rule_with(kind, fault),
+    };
+    three_calls(state, tally, kind, sheet, list, form, truth);
+    let same = bytes::same_floors(space, kept, floor_lists::ROOM as u32);
+    counts::hold(tally, same, b"the floors");
+}
+
+fn without_floors(state: &mut u64, tally: &mut [u64], kind: Kind, sheet: &[u8], truth: &[u8]) {
+    let form = Form {
+        floored: false,
+        rule: faults::number(kind.fault),
+    };
+    three_calls(state, tally, kind, sheet, &[], form, truth);
 }
 
 fn all_calls(state: &mut u64, tally: &mut [u64], kind: Kind, sheet: &[u8], truth: &[u8]) {
     check(tally, kind, sheet);
-    play(state, tally, kind, sheet);
+    without_floors(state, tally, kind, sheet, truth);
+    with_floors(state, tally, kind, sheet, truth);
     answers::downward(state, tally, sheet);
-    gain(state, tally, sheet, truth);
-    best(state, tally, kind, sheet);
     owners::parts_of(tally, sheet, faults::number(kind.fault));
 }
 

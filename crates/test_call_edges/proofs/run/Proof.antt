@@ -1,22 +1,25 @@
 -- `test_call_edges::run` is safe and ends: each turn starts after the line before. Assumes nothing.
-use mathlib.Core.Path.{_≡_}
 use Prim.Native.Nat.{_≤_, _-_}
+use mathlib.Core.Path.{_≡_}
 use lib.ListN.{length}
 use borrow.Author.Needs.{needs}
 use Rattle.test_call_edges.proofs.run.Statement.{statement}
 use Rattle.test_call_edges.proofs.run.Tie as tie
 
 abbrev Inv-loop : tie.InvT-loop
-Inv-loop text sheet₀ truth₀ lengths₀ at₀ sheet truth lengths at = (length sheet ≡ length sheet₀) × (length truth ≡ length truth₀)
+Inv-loop text sheet₀ truth₀ floors₀ lengths₀ at₀ sheet truth floors lengths at = (length sheet ≡ length sheet₀) × (length truth ≡ length truth₀) × (length floors ≡ length floors₀)
 
 abbrev μ-loop : tie.MeasureT-loop
-μ-loop text sheet₀ truth₀ lengths₀ at₀ sheet truth lengths at = length text - at
+μ-loop text sheet₀ truth₀ floors₀ lengths₀ at₀ sheet truth floors lengths at = length text - at
 
 slice-aggregate-sheet : tie.Need-slice-aggregate-sheet Inv-loop μ-loop
 slice-aggregate-sheet c = search needs
 
 slice-aggregate-truth : tie.Need-slice-aggregate-truth Inv-loop μ-loop
 slice-aggregate-truth c = search needs
+
+slice-aggregate-floors : tie.Need-slice-aggregate-floors Inv-loop μ-loop
+slice-aggregate-floors c = search needs
 
 loop-holds : tie.Need-loop-holds Inv-loop μ-loop
 loop-holds c = search needs
@@ -56,6 +59,7 @@ run-spec =
     μ-loop
     slice-aggregate-sheet
     slice-aggregate-truth
+    slice-aggregate-floors
     loop-holds
     line-end-requires
     sub-step

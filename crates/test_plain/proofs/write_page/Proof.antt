@@ -8,10 +8,10 @@ use Rattle.test_plain.proofs.write_page.Statement.{statement}
 use Rattle.test_plain.proofs.write_page.Tie as tie
 
 abbrev Inv-loop : tie.InvT-loop
-Inv-loop result₀ sheet bids filled slots slot₀ result slot = (slot ≤ slots) × (length result ≡ length result₀)
+Inv-loop result₀ sheet floors bids filled slots slot₀ result slot = (slot ≤ slots) × (length result ≡ length result₀)
 
 abbrev μ-loop : tie.MeasureT-loop
-μ-loop result₀ sheet bids filled slots slot₀ result slot = slots - slot
+μ-loop result₀ sheet floors bids filled slots slot₀ result slot = slots - slot
 
 slot-count-requires : tie.Need-slot-count-requires Inv-loop μ-loop
 slot-count-requires c κs = search needs

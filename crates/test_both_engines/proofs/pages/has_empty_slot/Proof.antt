@@ -1,4 +1,4 @@
--- `test_both_engines::pages::has_empty_slot` is safe and ends: what is left falls at each turn. Assumes nothing.
+-- `test_both_engines::pages::has_empty_slot` is safe and ends: the slots are counted down. Assumes nothing.
 use Prim.Native.Nat.{_≤_}
 use borrow.Author.Needs.{needs}
 use Rattle.test_both_engines.proofs.pages.has_empty_slot.Statement.{statement}
@@ -16,11 +16,8 @@ loop-holds c = search needs
 sub-left : tie.Need-sub-left Inv-loop μ-loop
 sub-left c = search needs
 
-bidder-at-requires : tie.Need-bidder-at-requires Inv-loop μ-loop
-bidder-at-requires c κs = search needs
-
-byte-requires : tie.Need-byte-requires Inv-loop μ-loop
-byte-requires c κs = search needs
+bidder-requires : tie.Need-bidder-requires Inv-loop μ-loop
+bidder-requires c κs = search needs
 
 returns : tie.Need-returns Inv-loop μ-loop
 returns c = search needs
@@ -42,8 +39,7 @@ has-empty-slot-spec =
     μ-loop
     loop-holds
     sub-left
-    bidder-at-requires
-    byte-requires
+    bidder-requires
     returns
     loop-less
     loop-again

@@ -1,4 +1,4 @@
--- `test_both_engines::pages::has_price` is safe and ends: what is left falls at each turn. Assumes nothing.
+-- `test_both_engines::pages::has_price` is safe and ends: the slots are counted down. Assumes nothing.
 use Prim.Native.Nat.{_≤_}
 use borrow.Author.Needs.{needs}
 use Rattle.test_both_engines.proofs.pages.has_price.Statement.{statement}
@@ -16,11 +16,8 @@ loop-holds c = search needs
 sub-left : tie.Need-sub-left Inv-loop μ-loop
 sub-left c = search needs
 
-price-at-requires : tie.Need-price-at-requires Inv-loop μ-loop
-price-at-requires c κs = search needs
-
-word-requires : tie.Need-word-requires Inv-loop μ-loop
-word-requires c κs = search needs
+price-requires : tie.Need-price-requires Inv-loop μ-loop
+price-requires c κs = search needs
 
 returns : tie.Need-returns Inv-loop μ-loop
 returns c = search needs
@@ -42,8 +39,7 @@ has-price-spec =
     μ-loop
     loop-holds
     sub-left
-    price-at-requires
-    word-requires
+    price-requires
     returns
     loop-less
     loop-again

@@ -5,10 +5,10 @@ use Rattle.test_plain.proofs.round.fill.Statement.{statement}
 use Rattle.test_plain.proofs.round.fill.Tie as tie
 
 abbrev Inv-loop : tie.InvT-loop
-Inv-loop sheet bids slots filled₀ slot₀ filled slot = slot ≤ slots
+Inv-loop sheet floors bids slots filled₀ slot₀ filled slot = slot ≤ slots
 
 abbrev μ-loop : tie.MeasureT-loop
-μ-loop sheet bids slots filled₀ slot₀ filled slot = slots - slot
+μ-loop sheet floors bids slots filled₀ slot₀ filled slot = slots - slot
 
 empty-requires : tie.Need-empty-requires Inv-loop μ-loop
 empty-requires c κs = search needs

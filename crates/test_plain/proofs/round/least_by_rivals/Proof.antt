@@ -1,27 +1,35 @@
--- `test_plain::round::least_by_rivals` is safe and ends: the bidders are counted up to their number, and a bid below the least so
--- far has a next one. Assumes nothing.
+-- `test_plain::round::least_by_rivals` is safe and ends: the bidders are counted up to their number. Assumes nothing.
 use Prim.Native.Nat.{_≤_, _-_}
 use borrow.Author.Needs.{needs}
 use Rattle.test_plain.proofs.round.least_by_rivals.Statement.{statement}
 use Rattle.test_plain.proofs.round.least_by_rivals.Tie as tie
 
 abbrev Inv-loop : tie.InvT-loop
-Inv-loop sheet bids winner slot bidders step least₀ rival₀ least rival = rival ≤ bidders
+Inv-loop sheet floors bids winner slot bidders low most least₀ rival₀ least rival = rival ≤ bidders
 
 abbrev μ-loop : tie.MeasureT-loop
-μ-loop sheet bids winner slot bidders step least₀ rival₀ least rival = bidders - rival
+μ-loop sheet floors bids winner slot bidders low most least₀ rival₀ least rival = bidders - rival
 
 bidder-count-requires : tie.Need-bidder-count-requires Inv-loop μ-loop
 bidder-count-requires c κs = search needs
 
+floor-requires : tie.Need-floor-requires Inv-loop μ-loop
+floor-requires c κs = search needs
+
 step-of-requires : tie.Need-step-of-requires Inv-loop μ-loop
 step-of-requires c κs = search needs
+
+legal-below-requires : tie.Need-legal-below-requires Inv-loop μ-loop
+legal-below-requires c κs = search needs
 
 bid-of-requires : tie.Need-bid-of-requires Inv-loop μ-loop
 bid-of-requires c κs = search needs
 
 tried-requires : tie.Need-tried-requires Inv-loop μ-loop
 tried-requires c κs = search needs
+
+tried-both-requires : tie.Need-tried-both-requires Inv-loop μ-loop
+tried-both-requires c κs = search needs
 
 loop-holds : tie.Need-loop-holds Inv-loop μ-loop
 loop-holds c = search needs
@@ -32,26 +40,14 @@ add-rival c = search needs
 bid-of-requires-2 : tie.Need-bid-of-requires-2 Inv-loop μ-loop
 bid-of-requires-2 c κs = search needs
 
-tried-requires-2 : tie.Need-tried-requires-2 Inv-loop μ-loop
-tried-requires-2 c κs = search needs
-
-next-bid-requires : tie.Need-next-bid-requires Inv-loop μ-loop
-next-bid-requires c κs = search needs
-
-tried-requires-3 : tie.Need-tried-requires-3 Inv-loop μ-loop
-tried-requires-3 c κs = search needs
+tried-both-requires-2 : tie.Need-tried-both-requires-2 Inv-loop μ-loop
+tried-both-requires-2 c κs = search needs
 
 loop-less : tie.Need-loop-less Inv-loop μ-loop
 loop-less c = search needs
 
 loop-again : tie.Need-loop-again Inv-loop μ-loop
 loop-again c = search needs
-
-loop-less-2 : tie.Need-loop-less-2 Inv-loop μ-loop
-loop-less-2 c = search needs
-
-loop-again-2 : tie.Need-loop-again-2 Inv-loop μ-loop
-loop-again-2 c = search needs
 
 returns : tie.Need-returns Inv-loop μ-loop
 returns c = search needs
@@ -63,17 +59,16 @@ least-by-rivals-spec =
     Inv-loop
     μ-loop
     bidder-count-requires
+    floor-requires
     step-of-requires
+    legal-below-requires
     bid-of-requires
     tried-requires
+    tried-both-requires
     loop-holds
     add-rival
     bid-of-requires-2
-    tried-requires-2
-    next-bid-requires
-    tried-requires-3
+    tried-both-requires-2
     loop-less
     loop-again
-    loop-less-2
-    loop-again-2
     returns)

@@ -5,10 +5,10 @@ use Rattle.test_plain.proofs.round.least_of_all.Statement.{statement}
 use Rattle.test_plain.proofs.round.least_of_all.Tie as tie
 
 abbrev Inv-loop : tie.InvT-loop
-Inv-loop sheet bids winner slot own step bid₀ bid = bid ≤ own
+Inv-loop sheet floors bids winner slot own step bid₀ bid = bid ≤ own
 
 abbrev μ-loop : tie.MeasureT-loop
-μ-loop sheet bids winner slot own step bid₀ bid = own - bid
+μ-loop sheet floors bids winner slot own step bid₀ bid = own - bid
 
 bid-of-requires : tie.Need-bid-of-requires Inv-loop μ-loop
 bid-of-requires c κs = search needs

@@ -5,10 +5,10 @@ use Rattle.test_plain.proofs.round.winner.Statement.{statement}
 use Rattle.test_plain.proofs.round.winner.Tie as tie
 
 abbrev Inv-loop : tie.InvT-loop
-Inv-loop sheet bids filled slot bidders leader₀ bidder₀ leader bidder = bidder ≤ bidders
+Inv-loop sheet floors bids filled slot bidders leader₀ bidder₀ leader bidder = bidder ≤ bidders
 
 abbrev μ-loop : tie.MeasureT-loop
-μ-loop sheet bids filled slot bidders leader₀ bidder₀ leader bidder = bidders - bidder
+μ-loop sheet floors bids filled slot bidders leader₀ bidder₀ leader bidder = bidders - bidder
 
 bidder-count-requires : tie.Need-bidder-count-requires Inv-loop μ-loop
 bidder-count-requires c κs = search needs

@@ -5,10 +5,10 @@ use Rattle.test_plain.proofs.search.best.Statement.{statement}
 use Rattle.test_plain.proofs.search.best.Tie as tie
 
 abbrev Inv-loop : tie.InvT-loop
-Inv-loop sheet bidders slots filled₀ last₀ choice₀ left₀ filled last choice left = left ≤ left₀
+Inv-loop sheet floors bidders slots filled₀ last₀ choice₀ left₀ filled last choice left = left ≤ left₀
 
 abbrev μ-loop : tie.MeasureT-loop
-μ-loop sheet bidders slots filled₀ last₀ choice₀ left₀ filled last choice left = left
+μ-loop sheet floors bidders slots filled₀ last₀ choice₀ left₀ filled last choice left = left
 
 bidder-count-requires : tie.Need-bidder-count-requires Inv-loop μ-loop
 bidder-count-requires c κs = search needs
