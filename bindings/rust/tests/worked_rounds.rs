@@ -1,36 +1,9 @@
 //! The rounds that document 01 works by hand, its edges, and its wrong engines that look fine on most pages; the ticks of document 02.
 
-use pas::{Bidder, Kind, Refusal, Sheet, SheetBuilder, Slot};
+use pas::{Bidder, Kind, Refusal, Sheet, Slot};
 
-/// A constraint as document 01 writes it: owner, own place, other, other's place.
-type Written = [u8; 4];
-
-fn kind([_, own, other, slot]: Written) -> Kind {
-    match (own, other) {
-        (_, 0) => Kind::OwnSlot(Slot(own)),
-        (0, _) => Kind::OtherSlot { other: Bidder(other), slot: Slot(slot) },
-        _ => Kind::Pair { own: Slot(own), other: Bidder(other), slot: Slot(slot) },
-    }
-}
-
-fn round(bids: &[u32], effects: &[u32], constraints: &[Written]) -> SheetBuilder {
-    let empty = SheetBuilder::new().bids(bids.iter().copied()).effects(effects.iter().copied());
-    constraints.iter().fold(empty, |round, &written| round.constraint(Bidder(written[0]), kind(written)))
-}
-
-fn sheet(bids: &[u32], effects: &[u32], constraints: &[Written]) -> Sheet {
-    round(bids, effects, constraints).build().expect("a good sheet")
-}
-
-/// A sheet of version 2, without constraints.
-fn in_ticks(tick: u32, bids: &[u32], effects: &[u32]) -> Sheet {
-    round(bids, effects, &[]).tick(tick).build().expect("bids in ticks")
-}
-
-/// Bidders by slot, 0 for an empty one.
-fn numbers(bidders: &[Option<Bidder>]) -> Vec<u8> {
-    bidders.iter().map(|bidder| bidder.map_or(0, |bidder| bidder.0)).collect()
-}
+mod written;
+use written::*;
 
 #[track_caller]
 fn plays(sheet: &Sheet, bidders: &[u8], prices: &[u32]) {
