@@ -1,6 +1,6 @@
 //! Floors under the slots, request S-7 of document 02: worked rounds, what is turned away and in which order, and what a refused call leaves.
 
-use pas::{raw, Bidder, Refusal, Sheet};
+use pas::{raw, Bidder, Kind, Refusal, Sheet, Slot};
 
 mod written;
 use written::*;

@@ -1,6 +1,6 @@
 //! The rounds that document 01 works by hand, its edges, and its wrong engines that look fine on most pages; the ticks of document 02.
 
-use pas::{Bidder, Kind, Refusal, Sheet, Slot};
+use pas::{Bidder, Refusal, Sheet};
 
 mod written;
 use written::*;
