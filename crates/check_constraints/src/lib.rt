@@ -60,7 +60,7 @@ fn constraint_refusal(bidders: u8, slots: u8, owner: u8, own: u8, other: u8, oth
 
 // A constraint's four bytes, read as one number, turned round so that the owner's counts most: of two constraints the one above has the larger
 // number.
-fn order_number(constraint: u32) -> u32
+pub fn order_number(constraint: u32) -> u32
     ensures { λ r. ⌜ r ≡ fieldsNumber (constraint % 256) (constraint / 256 % 256) (constraint / 65536 % 256) (constraint / 16777216) ⌝ }
 {
     let owner = constraint % 256;

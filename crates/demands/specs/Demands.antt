@@ -1,4 +1,4 @@
--- The three demands, over the contracts of the nine calls that programs link (pas/src/lib.rt), and then what the requests of document 02 that have
+-- The three demands, over the contracts of the ten calls that programs link (pas/src/lib.rt), and then what the requests of document 02 that have
 -- landed add. Each call promises one record or equation, for every input; here is what follows for a reader, and the proofs are in proofs/Demands.antt. Lists of
 -- numbers are bytes; s is a sheet, out and out′ are a result buffer before and after a call, `number` is what a call returns.
 use Prim.Native.Nat.{ℕ, suc, _+_, _*_, _%_, _<_, _≤_}
@@ -37,7 +37,8 @@ use Rattle.best_search.specs.Call.{bestRefusal, bestFloorsRefusal, bestBuffer}
 use Rattle.honesty.specs.Honesty.{DifferOnlyInList}
 use Rattle.owner_part.specs.declared.Before.{Before}
 use Rattle.owner_part.specs.OwnerPart.{partRefusal, bytesBefore, constraintsOf, partLength, beforeOf, PartHanded}
-use Rattle.pas.specs.Calls.{yesNumber, DownwardGiven, GainGiven, GainFloorsGiven, BestPageGiven, BestFloorsPageGiven, PartGiven}
+use Rattle.canonical.specs.Canonical.{canonicalSheet, canonicalRefusal, canonicalBuffer, SameRound}
+use Rattle.pas.specs.Calls.{yesNumber, DownwardGiven, GainGiven, GainFloorsGiven, BestPageGiven, BestFloorsPageGiven, PartGiven, CanonicalGiven}
 
 -- DEMAND 1. "Every sheet or call that breaks a rule gets the first number that applies, and no lent byte changes; every other gets its full
 -- result."
@@ -78,6 +79,10 @@ pub record DemandOne : Type 0 where
       Owed number (bestFloorsRefusal floors s out) ((out′ ≡ out) × (after ≡ before))
       ((out′ ≡ bestBuffer (withFloors (roundOf s) floors) out)
       × (after ≡ total (withFloors (roundOf s) floors) (bestPage (withFloors (roundOf s) floors))))
+  -- pas_canonical, those of pas_check, 19
+  pub canonical : (s out out′ : List ℕ) (before number after : ℕ) → CanonicalGiven s out before number out′ after →
+      Owed number (canonicalRefusal s out) ((out′ ≡ out) × (after ≡ before))
+      ((out′ ≡ canonicalBuffer s out) × (after ≡ length (canonicalSheet s)))
 
 -- DEMAND 2. "The page is the greedy page. A price is the smallest bid with which its winner, all else unchanged, still wins that place. Up to 8
 -- bidders and 8 places, the best page breaks no condition and no other such page has a larger total." With request S-4 "a price becomes the smallest
@@ -314,3 +319,61 @@ pub record RequestSeven : Type 0 where
   pub play-then : (floors s out : List ℕ) → Floored floors s → playFloorsRefusal floors s out ≡ playRefusal s out
   pub gain-then : (floors s t : List ℕ) (i worth : ℕ) → Floored floors s → gainFloorsRefusal floors s t i worth ≡ gainRefusal s t i worth
   pub best-then : (floors s out : List ℕ) → Floored floors s → bestFloorsRefusal floors s out ≡ bestRefusal s out
+
+-- REQUEST S-6. "Archives keep the same round in many shapes. Add a writer that takes any accepted sheet and writes version 2, with the conditions in order
+-- and repeats dropped. It returns the length written, and later bytes stay. Two accepted sheets give equal bytes exactly when n, m, tick, effects, bids
+-- and the sets of conditions are equal. Writing again from the written sheet changes nothing, and both sheets play to the same page and prices. Refusal 19
+-- covers its buffer."
+
+-- Two sheets get the same answers: each call returns and leaves with the one what it does with the other, as the played sheet and as the truth sheet.
+pub record SameAnswers (s t : List ℕ) : Type 0 where
+  pub play : (out out′ : List ℕ) (number : ℕ) → Exactly (Played s out number out′) (Played t out number out′)
+  pub downward : (i before number after : ℕ) → Exactly (DownwardGiven s i before number after) (DownwardGiven t i before number after)
+  pub gain : (truth : List ℕ) (i worth : ℕ) (before : ℤ) (number : ℕ) (after : ℤ) →
+      Exactly (GainGiven s truth i worth before number after) (GainGiven t truth i worth before number after)
+  pub truth : (played : List ℕ) (i worth : ℕ) (before : ℤ) (number : ℕ) (after : ℤ) →
+      Exactly (GainGiven played s i worth before number after) (GainGiven played t i worth before number after)
+  pub best : (out out′ : List ℕ) (before number after : ℕ) → Exactly (BestPageGiven s out before number out′ after) (BestPageGiven t out before number out′ after)
+  -- and with any floors
+  pub play-floors : (floors out out′ : List ℕ) (number : ℕ) → Exactly (PlayedFloors floors s out number out′) (PlayedFloors floors t out number out′)
+  pub gain-floors : (floors truth : List ℕ) (i worth : ℕ) (before : ℤ) (number : ℕ) (after : ℤ) →
+      Exactly (GainFloorsGiven floors s truth i worth before number after) (GainFloorsGiven floors t truth i worth before number after)
+  pub truth-floors : (floors played : List ℕ) (i worth : ℕ) (before : ℤ) (number : ℕ) (after : ℤ) →
+      Exactly (GainFloorsGiven floors played s i worth before number after) (GainFloorsGiven floors played t i worth before number after)
+  pub best-floors : (floors out out′ : List ℕ) (before number after : ℕ) →
+      Exactly (BestFloorsPageGiven floors s out before number out′ after) (BestFloorsPageGiven floors t out before number out′ after)
+
+-- What pas_canonical has written of a sheet s, where it is not refused: the first bytes of the buffer, as many as it says.
+pub record WrittenRight (s out out′ : List ℕ) (size : ℕ) : Type 0 where
+  -- it is an accepted sheet, as long as said, of version 2, its conditions in order and no two the same
+  pub accepted : Accepted (take size out′)
+  pub as-long : length (take size out′) ≡ size
+  pub version-two : version (take size out′) ≡ 2
+  pub in-order : (j k : ℕ) → j < k → k < constraintCount (take size out′) → constraintBelow (take size out′) j k ≡ true
+  -- n, m, tick, effects, bids and the set of conditions are those of s, and so is every answer
+  pub same-round : SameRound s (take size out′)
+  pub same-answers : SameAnswers s (take size out′)
+  -- "later bytes stay"
+  pub later : drop size out′ ≡ drop size out
+  -- "writing again from the written sheet changes nothing": into any buffer with room for it
+  pub again : (into into′ : List ℕ) (before number after : ℕ) → size ≤ length into → CanonicalGiven (take size out′) into before number into′ after →
+      (number ≡ 0) × (after ≡ size) × (take after into′ ≡ take size out′)
+
+pub record RequestSix : Type 0 where
+  -- what is written
+  pub written : (s out out′ : List ℕ) (before after : ℕ) → CanonicalGiven s out before 0 out′ after → WrittenRight s out out′ after
+  -- equal bytes exactly when n, m, tick, effects, bids and the sets of conditions are equal
+  pub one-sheet : (s t out out′ into into′ : List ℕ) (before after before-t after-t : ℕ) →
+      CanonicalGiven s out before 0 out′ after → CanonicalGiven t into before-t 0 into′ after-t →
+      Exactly (take after out′ ≡ take after-t into′) (SameRound s t)
+  -- all accepted sheets of one round get the same answers
+  pub same-answers : (s t : List ℕ) → Accepted s → Accepted t → SameRound s t → SameAnswers s t
+  -- an accepted sheet of version 2, made of bytes, is what is written of it
+  pub own-form : (s out out′ : List ℕ) (before after : ℕ) → version s ≡ 2 → ((k : ℕ) → getD s k 0 < 256) →
+      CanonicalGiven s out before 0 out′ after → take after out′ ≡ s
+  -- the call's numbers: the sheet's first, then 19 for a buffer shorter than the bytes to be written, and none for any other; these are at most 4 more than
+  -- the sheet's
+  pub sheet-first : (s out : List ℕ) → (refusalOf s ≡ 0 → ⊥) → canonicalRefusal s out ≡ refusalOf s
+  pub nineteen : (s out : List ℕ) → Accepted s → length out < length (canonicalSheet s) → canonicalRefusal s out ≡ 19
+  pub answered : (s out : List ℕ) → Accepted s → length (canonicalSheet s) ≤ length out → canonicalRefusal s out ≡ 0
+  pub at-most-longer : (s : List ℕ) → Accepted s → length (canonicalSheet s) ≤ length s + 4

@@ -5,6 +5,7 @@ use mathlib.Core.Bool.{Bool, cond}
 use mathlib.Core.List.{List}
 use mathlib.Core.Path.{_≡_}
 use lib.IntN.{ℤ}
+use lib.ListN.{length}
 use Rattle.basis.specs.First.{unlessRefused}
 use Rattle.sheet.specs.Round.{roundOf, withFloors}
 use Rattle.downward.specs.Downward.{downward}
@@ -15,6 +16,7 @@ use Rattle.auction.specs.Allowed.{total}
 use Rattle.best_page.specs.BestPage.{bestPage}
 use Rattle.best_search.specs.Call.{bestRefusal, bestFloorsRefusal, bestBuffer}
 use Rattle.owner_part.specs.OwnerPart.{partRefusal, bytesBefore, partLength}
+use Rattle.canonical.specs.Canonical.{canonicalSheet, canonicalRefusal, canonicalBuffer}
 
 -- 1 yes, 0 no
 unfoldable pub yesNumber : Bool → ℕ
@@ -52,3 +54,9 @@ pub record PartGiven (s : List ℕ) (i start size returned start′ size′ : �
   pub number : returned ≡ partRefusal s i
   pub starts : start′ ≡ unlessRefused (partRefusal s i) (bytesBefore s i) start
   pub sized : size′ ≡ unlessRefused (partRefusal s i) (partLength s i) size
+
+-- the one sheet for the round in the buffer, and its length
+pub record CanonicalGiven (s out : List ℕ) (before returned : ℕ) (out′ : List ℕ) (after : ℕ) : Type 0 where
+  pub number : returned ≡ canonicalRefusal s out
+  pub buffer : out′ ≡ unlessRefused (canonicalRefusal s out) (canonicalBuffer s out) out
+  pub written : after ≡ unlessRefused (canonicalRefusal s out) (length (canonicalSheet s)) before

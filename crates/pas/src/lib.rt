@@ -1,11 +1,11 @@
-// The nine calls by the C convention, for programs that link the static library (include/pas.h is their manual).
+// The ten calls by the C convention, for programs that link the static library (include/pas.h is their manual).
 //
 // Each returns 0 or the number of the first rule that the call breaks. On a refusal nothing lent changes, the answer's own memory
 // included.
 ghost use mathlib.Core.Path.{_≡_};
 ghost use Rattle.sheet.specs.Refusal.{refusalOf};
 ghost use Rattle.play.specs.Play.{Played, PlayedFloors};
-ghost use Rattle.pas.specs.Calls.{DownwardGiven, GainGiven, GainFloorsGiven, BestPageGiven, BestFloorsPageGiven, PartGiven, yesNumber};
+ghost use Rattle.pas.specs.Calls.{DownwardGiven, GainGiven, GainFloorsGiven, BestPageGiven, BestFloorsPageGiven, PartGiven, CanonicalGiven, yesNumber};
 
 // 1 to 13 or 26 to 28, or 0 for an accepted sheet.
 #[no_mangle]
@@ -150,5 +150,20 @@ pub extern "C" fn pas_best_floors(
         return refusal;
     }
     *total = chosen.total;
+    0
+}
+
+// The check's numbers or 19; or 0, with the one sheet for the round at the front of the buffer, version 2 with the constraints in order and each once,
+// every later byte as it was, and the length of that sheet.
+#[no_mangle]
+pub extern "C" fn pas_canonical(sheet: &[u8], result: &mut [u8], written: &mut usize) -> u32
+    ensures { λ r. ⌜ CanonicalGiven (now (sheet .entry)) (now (result .entry)) (now (written .entry)) r (now (result .exit)) (now (written .exit)) ⌝ }
+{
+    let given = canonical::write(sheet, result);
+    let refusal = given.refusal;
+    if refusal != 0 {
+        return refusal;
+    }
+    *written = given.length;
     0
 }
