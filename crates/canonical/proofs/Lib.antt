@@ -1,1 +1,3 @@
 -- The laws behind the functions of this crate.
+pub mod EncodedLaws
+pub mod WrittenLaws
