@@ -1,2 +1,5 @@
 -- The laws behind the functions of this crate.
+pub mod EncodedLaws
+pub mod OrderedLaws
+pub mod WrittenLaws
 pub mod PartLaws
