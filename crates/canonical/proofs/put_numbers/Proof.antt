@@ -38,8 +38,8 @@ add-put-word32 c = omega arith
 mul-order-number : tie.Need-mul-order-number Inv-loop μ-loop
 mul-order-number c = omega arith
 
-element-copy-out-order-number : tie.Need-element-copy-out-order-number Inv-loop μ-loop
-element-copy-out-order-number c = omega arith
+shared-slice-read-order-number : tie.Need-shared-slice-read-order-number Inv-loop μ-loop
+shared-slice-read-order-number c = omega arith
 
 order-number-requires : tie.Need-order-number-requires Inv-loop μ-loop
 order-number-requires c κs = omega arith
@@ -57,11 +57,11 @@ loop-again : tie.Need-loop-again Inv-loop μ-loop
 loop-again c =
     let stored = c .before .before in
     let turn = stored .before .before .before .before .before .loop in
-    let start = stored .before .before .before .before .before .before .before .args in
+    let start = stored .before .before .before .before .before .before .before .before .args in
     let numbers = start .numbers .now in
     let out = start .result .now in
     let k = turn .k in
-    let low : getD numbers k 0 < 2 ^ 32 = omega arith in
+    let low : getD numbers k 0 < 2 ^ 32 = omega (arith, stored .before .before .shared-slice-known2 .given k) in
     record {
       some = omega arith;
       size = stored .put-word32 .kept .0 ∙ turn .inv .size;
@@ -80,7 +80,7 @@ same-length c = c .before .loop .inv .size
 returns : tie.Need-returns Inv-loop μ-loop
 returns c =
     let v = c .before .loop .inv in
-    let start = c .before .before .before .args in
+    let start = c .before .before .before .before .args in
     v .run ∙ ap (λ (n : ℕ). sets (start .result .now) (start .at) (numbersBytes (start .numbers .now) n)) (le-antisymm (v .some) (c .loop-test .left))
 
 pub put-numbers-spec : {M : Type 1} → statement M
@@ -93,7 +93,7 @@ put-numbers-spec =
     mul-put-word32
     add-put-word32
     mul-order-number
-    element-copy-out-order-number
+    shared-slice-read-order-number
     order-number-requires
     put-word32-requires
     add-k
