@@ -36,7 +36,7 @@ use Rattle.canonical.specs.EngineParts.{conditionField, numberOf, none, 
 use Rattle.canonical.proofs.EncodedLaws.{quadBytes, quads-row}
 
 -- a sheet lists just the conditions that stand in it
-listed-where : (s : List ℕ) (a b c d : ℕ) → listed s a b c d ≡ true → (i : ℕ) × (i < constraintCount s) × (conditionField s i ≡ on a b c d)
+pub listed-where : (s : List ℕ) (a b c d : ℕ) → listed s a b c d ≡ true → (i : ℕ) × (i < constraintCount s) × (conditionField s i ≡ on a b c d)
 unfolding listed conditionField
 listed-where s a b c d e =
     let w = any-where _ (constraintCount s) e in
@@ -50,7 +50,7 @@ listed-where s a b c d e =
           ∙ ap₂ (λ (x y : ℕ). on a b x y) (eqb-true (otherField s i) c (third .0)) (eqb-true (otherSlotField s i) d (third .1)),
     )
 
-listed-at : (s : List ℕ) (i : ℕ) → i < constraintCount s → listed s (ownerField s i) (ownSlotField s i) (otherField s i) (otherSlotField s i) ≡ true
+pub listed-at : (s : List ℕ) (i : ℕ) → i < constraintCount s → listed s (ownerField s i) (ownSlotField s i) (otherField s i) (otherSlotField s i) ≡ true
 unfolding listed
 listed-at s i l =
     any-at _ (constraintCount s) i l

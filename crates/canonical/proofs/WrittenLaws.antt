@@ -3,8 +3,8 @@
 -- has the same counts, tick, effects, bids and conditions, so it is accepted and says the same round; and of two sheets that say the same round the
 -- same is written, since no more than the round goes into it. Assumes nothing.
 use Prim.Native.Nat.{ℕ, zero, suc, _+_, _*_, _/_, _%_, _<_, _≤_}
-use borrow.Author.Tests.{eqb-true, eq-eqb}
-use mathlib.Core.Bool.{Bool, true, _&&_}
+use borrow.Author.Tests.{eqb-true}
+use mathlib.Core.Bool.{true}
 use mathlib.Core.Logic.{inr}
 use mathlib.Core.List.{List, [], _∷_, _++_, append-assoc}
 use mathlib.Core.Path.{_≡_, refl, sym, _∙_, ap, ap₂, subst}
@@ -17,7 +17,7 @@ use Rattle.basis.specs.Bytes.{byteAt, word16At, word32At, bytes32}
 use Rattle.basis.specs.Rows.{row, joined}
 use Rattle.basis.proofs.BytesLaws.{word-bytes}
 use Rattle.basis.proofs.RowLaws.{length-row, getD-row, joined-same}
-use Rattle.basis.proofs.TestLaws.{and-holds, and-parts, any-at, any-where, same-tests}
+use Rattle.basis.proofs.TestLaws.{and-parts, same-tests}
 use Rattle.sheet.specs.Sheet.{
   version,
   bidderCount,
@@ -44,7 +44,7 @@ use Rattle.sheet.proofs.AcceptedLaws.{accepted-sheet, sheet-accepted}
 use Rattle.sheet.proofs.RoundLaws.{written-fields}
 use Rattle.canonical.specs.Canonical.{listed, conditionsInOrder, canonicalSheet, SameRound}
 use Rattle.canonical.specs.EngineParts.{headerOf, conditionField, numberOf, none, numbersBytes, InSheetOrder}
-use Rattle.canonical.proofs.OrderedLaws.{few-conditions, condition-from, condition-kept, conditions-rise, conditions-same, conditions-two}
+use Rattle.canonical.proofs.OrderedLaws.{listed-where, listed-at, few-conditions, condition-from, condition-kept, conditions-rise, conditions-same, conditions-two}
 use Rattle.canonical.proofs.EncodedLaws.{
   words-row,
   quadBytes,
@@ -321,43 +321,19 @@ field-written s ok k l =
     ∙ ap₂ (λ (other others : ℕ). on (ownerField s k) (writtenOwn (constraintField s k .kind)) other others) (sym (fields .1 .0)) (sym (fields .1 .1))
 
 -- so a sheet that has all constraints of another lists each condition that the other lists
-module _ (s : List ℕ) (owner own other others : ℕ) where
-  abbrev listedAt : ℕ → Bool
-  listedAt k = eqb (ownerField s k) owner && (eqb (ownSlotField s k) own && (eqb (otherField s k) other && eqb (otherSlotField s k) others))
-
-  listed-where : listed s owner own other others ≡ true → (k : ℕ) × (k < constraintCount s) × (conditionField s k ≡ on owner own other others)
-  unfolding listed conditionField
-  listed-where e =
-      let w = any-where listedAt (constraintCount s) e in
-      let k = w .0 in
-      let a = and-parts (eqb (ownerField s k) owner) _ (w .2) in
-      let b = and-parts (eqb (ownSlotField s k) own) _ (a .1) in
-      let c = and-parts (eqb (otherField s k) other) _ (b .1) in (
-        k,
-        w .1,
-        ap₂ (λ (x y : ℕ). on x y (otherField s k) (otherSlotField s k)) (eqb-true (ownerField s k) owner (a .0)) (eqb-true (ownSlotField s k) own (b .0))
-            ∙ ap₂ (on owner own) (eqb-true (otherField s k) other (c .0)) (eqb-true (otherSlotField s k) others (c .1)),
-      )
-
-  listed-at : (k : ℕ) → k < constraintCount s → conditionField s k ≡ on owner own other others → listed s owner own other others ≡ true
-  unfolding listed conditionField
-  listed-at k l e =
-      any-at listedAt (constraintCount s) k l
-      (and-holds (eq-eqb (ownerField s k) owner (ap (λ (q : Condition). q .owner) e))
-      (and-holds (eq-eqb (ownSlotField s k) own (ap (λ (q : Condition). q .own) e))
-      (and-holds (eq-eqb (otherField s k) other (ap (λ (q : Condition). q .other) e))
-      (eq-eqb (otherSlotField s k) others (ap (λ (q : Condition). q .others) e)))))
-
 listed-there : (s t : List ℕ) → Accepted s → Accepted t → ((q : Constraint) → SheetHas s q → SheetHas t q) → (owner own other others : ℕ) →
     listed s owner own other others ≡ true → listed t owner own other others ≡ true
+unfolding conditionField
 listed-there s t ok ok′ there owner own other others e =
     let w = listed-where s owner own other others e in
     let h = there (constraintField s (w .0)) (w .0, w .1, refl) in
-    listed-at t owner own other others (h .0) (h .1)
+    ap (λ (q : Condition). listed t (q .owner) (q .own) (q .other) (q .others))
+    (sym
     (field-written t ok′ (h .0) (h .1)
     ∙ ap readBack (h .2)
     ∙ sym (field-written s ok (w .0) (w .1))
-    ∙ w .2)
+    ∙ w .2))
+    ∙ listed-at t (h .0) (h .1)
 
 -- saying the same round goes both ways, and on
 pub round-sym : (s t : List ℕ) → SameRound s t → SameRound t s
