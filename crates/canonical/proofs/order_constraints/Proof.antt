@@ -47,7 +47,7 @@ sort-requires c κs =
     let read = c .before .before .before .before .read-numbers .ensures in
     let known = accepted-sheet _ (start .pre .1) .counts in
     let many = c .before .before .before .before .before .before .word16 .ensures .0 in
-    ((read .0, start .pre .0, omega arith, omega arith, omega arith), read-low (start .args .sheet .now) _ _ (start .pre .1) many (read .1), ?)
+    ((read .0, start .pre .0, omega arith, omega arith, omega arith), read-low (start .args .sheet .now) _ _ (start .pre .1) many (read .1))
 
 drop-repeats-requires : tie.Need-drop-repeats-requires
 drop-repeats-requires c κs =
@@ -56,7 +56,7 @@ drop-repeats-requires c κs =
     let sorted = c .before .before .sort .ensures in
     let known = accepted-sheet _ (start .pre .1) .counts in
     let many = c .before .before .before .before .before .before .before .before .before .word16 .ensures .0 in
-    ((sorted .0 .sized, sorted .1, omega arith, sorted .0 .no-fall, sorted-some (start .args .sheet .now) _ _ (start .pre .1) many (read .1) _ (sorted .0)), ?)
+    (sorted .0 .sized, sorted .1, omega arith, sorted .0 .no-fall, sorted-some (start .args .sheet .now) _ _ (start .pre .1) many (read .1) _ (sorted .0))
 
 returns : tie.Need-returns
 returns c =
