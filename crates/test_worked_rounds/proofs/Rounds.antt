@@ -1,6 +1,6 @@
 -- The right-hand sides of the calls' contracts give, for every worked round, what documents 01 and 02 say of it: the antt kernel computes them from
 -- the sheets' bytes, the best pages by trying every page. Some rounds are played with floors as well. So too the answers of the eligibility step, and the
--- parts of single bidders.
+-- parts of single bidders and the sheets that are written anew.
 -- Assumes nothing.
 use mathlib.Core.List.{map}
 use mathlib.Core.Path.{_≡_, refl}
@@ -44,8 +44,9 @@ use Rattle.best_page.specs.BestPage.{nobodyTwice, reachesFloors, isAllowed, kee
 use Rattle.best_search.specs.Call.{boundsRefusal, bestRefusal, bestFloorsRefusal, bestBuffer, chosenFor}
 use Rattle.play.specs.Play.{roomRefusal, playRefusal, playFloorsRefusal, slotEntry, playedBuffer}
 use Rattle.owner_part.specs.OwnerPart.{callRefusal, partRefusal, firstFrom, bytesBefore, constraintBytes, constraintsOf, partLength, boundsFor, boundsOf, beforeFor, beforeOf}
-use Rattle.test_worked_rounds.specs.Sheets.{A, B, C, D, E, F, F-true, F-version-3, F-eight-bytes, F-in-ticks, F-off-tick, F-tick-0, F-twelve-bytes, F-without-tick, G, H, H-longer, earlier-winner, earlier-winner-and-own, placed-and-own, overbid, overbid-barred, second-not-first, tie-in-ticks, lower-number-in-ticks, tick-above-bids, too-high-and-off-tick, H-in-order, owners-two-and-four, equal-neighbours, repeated-in-version-1, own-place-falls, falls-and-names-itself, falls-before-a-fault, falls-after-a-fault, nine-bidders, two-faults}
-use Rattle.test_worked_rounds.specs.Worked.{Worked, lent, givenByPlay, givenByBest, givenWithFloors, given, entries, rounds, Candidate, givenByStep, candidates, PartAsked, givenByPart, parts}
+use Rattle.canonical.specs.Canonical.{listed, conditionsInOrder, canonicalSheet, canonicalRefusal, canonicalBuffer}
+use Rattle.test_worked_rounds.specs.Sheets.{A, B, C, D, E, F, F-true, F-version-3, F-eight-bytes, F-in-ticks, F-off-tick, F-tick-0, F-twelve-bytes, F-without-tick, G, H, H-longer, earlier-winner, earlier-winner-and-own, placed-and-own, overbid, overbid-barred, second-not-first, tie-in-ticks, lower-number-in-ticks, tick-above-bids, too-high-and-off-tick, H-in-order, owners-two-and-four, equal-neighbours, repeated-in-version-1, own-place-falls, falls-and-names-itself, falls-before-a-fault, falls-after-a-fault, nine-bidders, two-faults, H-shuffled, owners-four-and-two, repeat-dropped, F-written}
+use Rattle.test_worked_rounds.specs.Worked.{Worked, lent, givenByPlay, givenByBest, givenWithFloors, given, entries, rounds, Candidate, givenByStep, candidates, PartAsked, givenByPart, parts, WriteAsked, givenByWriter, writings}
 
 pub rounds-hold : map given rounds ≡ map (λ (w : Worked). w .said) rounds
 unfolding word16At word32At bytes32 firstOver unlessRefused row padded joined anyBelow allBelow least tickField effectsStart effectField bidField ownerField ownSlotField otherField otherSlotField formRefusal countsRefusal effectRefusal bidRefusal tickRefusal legalBid inRange fieldsRefusal termsRefusal fieldsBelow constraintBelow aboveBefore orderRefusal constraintRefusal refusalOf kindOf constraintField roundOf ranksNoLower wins winner at put emptyPage placed ownHolds otherHolds broken constraintAt bidOf effectOf withFloors floorOf breaksEarlier firstFailed eligible winnerAt fillSlot pageUpTo greedyPage withBid winsWith priceFor price ownSlot oneLower sameKind listHas asksLower downward testRefusal testedFor testedOf slotOf gainIf gainAt gainOf laterRefusal gainRefusal gainFloorsRefusal gainedFor gainedOf gainedFloorsOf breaks breaksOwn totalUpTo total nobodyTwice reachesFloors isAllowed keep eachChoice tryAll bestPage boundsRefusal bestRefusal bestFloorsRefusal bestBuffer chosenFor roomRefusal playRefusal playFloorsRefusal someTooHigh floorsRefusal slotEntry playedBuffer words quads countBytes bodyBytes sheetOf sheetInTicks A B C D E F F-true F-version-3 F-eight-bytes F-in-ticks F-off-tick F-tick-0 F-twelve-bytes F-without-tick G H H-longer earlier-winner overbid overbid-barred tie-in-ticks lower-number-in-ticks tick-above-bids too-high-and-off-tick H-in-order equal-neighbours repeated-in-version-1 own-place-falls falls-and-names-itself falls-before-a-fault falls-after-a-fault nine-bidders two-faults second-not-first lent givenByPlay givenByBest givenWithFloors given entries rounds
@@ -60,3 +61,8 @@ candidates-hold = refl
 pub parts-hold : map givenByPart parts ≡ map (λ (p : PartAsked). p .said) parts
 unfolding word16At word32At bytes32 firstOver least tickField effectsStart effectField bidField ownerField ownSlotField otherField otherSlotField formRefusal countsRefusal effectRefusal bidRefusal tickRefusal inRange fieldsRefusal termsRefusal fieldsBelow constraintBelow aboveBefore orderRefusal constraintRefusal refusalOf callRefusal partRefusal firstFrom bytesBefore joined constraintBytes constraintsOf partLength boundsFor boundsOf beforeFor beforeOf words quads countBytes bodyBytes sheetOf sheetInTicks F-in-ticks F-version-3 H H-in-order owners-two-and-four own-place-falls givenByPart parts
 parts-hold = refl
+
+-- The sheets that are written anew.
+pub writings-hold : map givenByWriter writings ≡ map (λ (w : WriteAsked). w .said) writings
+unfolding word16At word32At bytes32 firstOver unlessRefused row joined anyBelow tickField effectsStart effectField bidField ownerField ownSlotField otherField otherSlotField formRefusal countsRefusal effectRefusal bidRefusal tickRefusal inRange fieldsRefusal termsRefusal fieldsBelow constraintBelow aboveBefore orderRefusal constraintRefusal refusalOf words quads countBytes bodyBytes sheetOf sheetInTicks listed conditionsInOrder canonicalSheet canonicalRefusal canonicalBuffer F F-version-3 F-in-ticks H H-in-order owners-two-and-four repeated-in-version-1 own-place-falls H-shuffled owners-four-and-two repeat-dropped F-written givenByWriter writings
+writings-hold = refl

@@ -183,3 +183,22 @@ nine-bidders = sheetOf (9 ∷ 8 ∷ 7 ∷ 6 ∷ 5 ∷ 4 ∷ 3 ∷ 2 ∷ 1 ∷ []
 unfoldable pub two-faults : List ℕ
 unfolding sheetOf
 two-faults = sheetOf (3 ∷ 2 ∷ 1 ∷ []) (2 ∷ 1 ∷ []) (on 1 0 2 0 ∷ on 0 1 0 0 ∷ [])
+
+-- H's round in another shape: version 1, its conditions in disorder, two of them twice
+unfoldable pub H-shuffled : List ℕ
+unfolding sheetOf
+H-shuffled = sheetOf (30 ∷ 32 ∷ 36 ∷ 40 ∷ []) (10000 ∷ 4500 ∷ 2025 ∷ []) (on 3 3 4 2 ∷ on 1 3 2 2 ∷ on 2 2 3 1 ∷ on 1 2 2 1 ∷ on 3 3 4 1 ∷ on 2 2 3 1 ∷ on 2 3 3 2 ∷ on 1 3 2 1 ∷ on 3 2 4 1 ∷ on 2 3 3 1 ∷ on 1 3 2 2 ∷ [])
+
+-- the round of `owners-two-and-four` in version 1, from the last condition to the first
+unfoldable pub owners-four-and-two : List ℕ
+unfolding sheetOf
+owners-four-and-two = sheetOf (4 ∷ 3 ∷ 2 ∷ 1 ∷ []) (2 ∷ 1 ∷ []) (on 4 2 0 0 ∷ on 2 1 0 0 ∷ on 2 0 3 1 ∷ on 2 0 1 2 ∷ on 2 0 1 1 ∷ [])
+
+-- the round of `repeated-in-version-1` in version 2
+unfoldable pub repeat-dropped : List ℕ
+unfolding sheetInTicks
+repeat-dropped = sheetInTicks 1 (2 ∷ 1 ∷ []) (2 ∷ 1 ∷ []) (on 1 2 0 0 ∷ [])
+
+-- F in version 2, byte for byte
+unfoldable pub F-written : List ℕ
+F-written = 0x50 ∷ 0x41 ∷ 0x53 ∷ 2 ∷ 0 ∷ 2 ∷ 1 ∷ 0 ∷ 0 ∷ 1 ∷ 0 ∷ 0 ∷ 0 ∷ 1 ∷ 0 ∷ 0 ∷ 0 ∷ 5 ∷ 0 ∷ 0 ∷ 0 ∷ 6 ∷ 0 ∷ 0 ∷ 0 ∷ []

@@ -1,8 +1,8 @@
 -- "Rounds worked by hand": what is asked of each round, and what documents 01 and 02 say; candidates for a place, with the answer of the
--- eligibility step (document 02, S-3); and bidders asked for, with their part of the sheet (S-5). Some rounds are played with floors as well (S-7).
+-- eligibility step (document 02, S-3); and bidders asked for, with their part of the sheet (S-5); and sheets that are written anew (S-6). Some rounds are played with floors as well (S-7).
 use Prim.Native.Nat.{ℕ, _*_, _-_}
 use mathlib.Core.Bool.{Bool, true, false}
-use mathlib.Core.List.{List, [], _∷_, map}
+use mathlib.Core.List.{List, [], _∷_, _++_, map}
 use lib.IntN.{ℤ, pos, negsuc}
 use lib.ListN.{length, take, drop, replicate}
 use Rattle.basis.specs.First.{unlessRefused}
@@ -23,6 +23,7 @@ use Rattle.best_search.specs.Call.{bestRefusal, bestFloorsRefusal, bestBuffer, 
 use Rattle.owner_part.specs.declared.Bounds.{Bounds}
 use Rattle.owner_part.specs.declared.Before.{Before}
 use Rattle.owner_part.specs.OwnerPart.{boundsOf, beforeOf}
+use Rattle.canonical.specs.Canonical.{canonicalSheet, canonicalRefusal, canonicalBuffer}
 use Rattle.test_worked_rounds.specs.Sheets.{
   A,
   B,
@@ -61,6 +62,10 @@ use Rattle.test_worked_rounds.specs.Sheets.{
   falls-after-a-fault,
   nine-bidders,
   two-faults,
+  H-shuffled,
+  owners-four-and-two,
+  repeat-dropped,
+  F-written,
 }
 
 -- a number, and the bytes of the result buffer after the call
@@ -469,4 +474,66 @@ parts =
     ∷ standsNot H-in-order 5 16
     ∷ standsNot own-place-falls 0 28
     ∷ standsNot F-version-3 0 3
+    ∷ []
+
+-- What is said of a sheet that is written anew: the number and the length that the call returns, and the buffer after it.
+pub record WriteSaid : Type 0 where
+  pub number : ℕ
+  pub size : ℕ
+  pub buffer : List ℕ
+
+pub record WriteAsked : Type 0 where
+  pub sheet : List ℕ
+  pub buffer : List ℕ
+  pub said : WriteSaid
+
+-- by the right-hand sides of the contract
+unfoldable pub givenByWriter : WriteAsked → WriteSaid
+givenByWriter w =
+    let number = canonicalRefusal (w .sheet) (w .buffer) in
+    record {
+      number = number;
+      size = unlessRefused number (length (canonicalSheet (w .sheet))) 0;
+      buffer = unlessRefused number (canonicalBuffer (w .sheet) (w .buffer)) (w .buffer);
+    }
+
+-- a sheet that is written as these bytes, into a buffer with two bytes more
+abbrev pub writes : List ℕ → List ℕ → WriteAsked
+writes sheet bytes =
+    record {
+      sheet = sheet;
+      buffer = replicate (length bytes) 9 ++ (7 ∷ 8 ∷ []);
+      said = record { number = 0; size = length bytes; buffer = bytes ++ (7 ∷ 8 ∷ []) };
+    }
+
+-- and one that is refused with the number k, with a buffer of so many bytes
+abbrev pub writesNot : List ℕ → ℕ → ℕ → WriteAsked
+writesNot sheet room k =
+    record {
+      sheet = sheet;
+      buffer = replicate room 9;
+      said = record { number = k; size = 0; buffer = replicate room 9 };
+    }
+
+-- F, byte for byte; H, H with its conditions in disorder and repeated, and H in version 2: one sheet; conditions from the last to the first, each field
+-- deciding once; a condition twice; tick 3 stays 3. Then rounds that are nearly the same, each with a sheet of its own: C has one condition more than B, and
+-- F in ticks another tick and a bid. Then refused ones: a byte less than F's 25, and none; 19 is for what is to be written, which is 4 bytes less than the
+-- sheet has and 4 more where a condition is twice; the sheet's number comes first.
+unfoldable pub writings : List WriteAsked
+writings =
+    writes F F-written
+    ∷ writes H H-in-order
+    ∷ writes H-shuffled H-in-order
+    ∷ writes H-in-order H-in-order
+    ∷ writes owners-four-and-two owners-two-and-four
+    ∷ writes owners-two-and-four owners-two-and-four
+    ∷ writes repeated-in-version-1 repeat-dropped
+    ∷ writes repeat-dropped repeat-dropped
+    ∷ writes F-in-ticks F-in-ticks
+    ∷ writesNot F 24 19
+    ∷ writesNot F 0 19
+    ∷ writesNot repeated-in-version-1 32 19
+    ∷ writesNot F-in-ticks 24 19
+    ∷ writesNot own-place-falls 0 28
+    ∷ writesNot F-version-3 25 3
     ∷ []
