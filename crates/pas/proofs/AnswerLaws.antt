@@ -3,6 +3,7 @@ use Prim.Native.Nat.{ℕ, zero, suc}
 use mathlib.Core.List.{List}
 use mathlib.Core.Path.{_≡_, refl, sym, _∙_, ap}
 use lib.IntN.{ℤ}
+use lib.ListN.{length}
 use Rattle.basis.specs.First.{unlessRefused}
 use Rattle.basis.proofs.FirstLaws.{refused-leaves, answered-gives}
 use Rattle.sheet.specs.declared.Round.{Round}
@@ -20,7 +21,9 @@ use Rattle.best_search.specs.declared.Chosen.{Chosen}
 use Rattle.owner_part.specs.OwnerPart.{partRefusal, bytesBefore, partLength, boundsFor, boundsOf}
 use Rattle.owner_part.specs.declared.Bounds.{Bounds}
 use Rattle.owner_part.proofs.CallLaws.{given-bounds}
-use Rattle.pas.specs.Calls.{yesNumber, DownwardGiven, GainGiven, GainFloorsGiven, BestPageGiven, BestFloorsPageGiven, PartGiven}
+use Rattle.canonical.specs.Canonical.{canonicalSheet, canonicalRefusal, CanonicalWritten}
+use Rattle.canonical.specs.declared.Written.{Written}
+use Rattle.pas.specs.Calls.{yesNumber, DownwardGiven, GainGiven, GainFloorsGiven, BestPageGiven, BestFloorsPageGiven, PartGiven, CanonicalGiven}
 
 -- an answered call's memory holds what is written there
 answered : {A : Type 0} (k n : ℕ) (answer before written : A) → n ≡ k → n ≡ 0 → (k ≡ 0 → written ≡ answer) → written ≡ unlessRefused k answer before
@@ -183,4 +186,23 @@ module _ (s : List ℕ) (i start size : ℕ) (b : Bounds) (e : b ≡ boundsOf s 
         number = sym z ∙ part-number;
         starts = answered (partRefusal s i) (b .refusal) (bytesBefore s i) start (b .start) part-number z (λ k. ap (λ (x : Bounds). x .start) (e ∙ given-bounds s i k));
         sized = answered (partRefusal s i) (b .refusal) (partLength s i) size (b .length) part-number z (λ k. ap (λ (x : Bounds). x .length) (e ∙ given-bounds s i k));
+      }
+
+module _ (s out : List ℕ) (before : ℕ) (w : Written) (out′ : List ℕ) (given : CanonicalWritten s out w out′) where
+  pub canonical-refused : (w .refusal ≡ 0 → ⊥) → CanonicalGiven s out before (w .refusal) out′ before
+  canonical-refused h =
+      record {
+        number = given .number;
+        buffer = given .buffer;
+        written = refused-leaves (canonicalRefusal s out) (w .refusal) (length (canonicalSheet s)) before (given .number) h;
+      }
+
+  pub canonical-answered : w .refusal ≡ 0 → CanonicalGiven s out before 0 out′ (w .length)
+  canonical-answered z =
+      record {
+        number = sym z ∙ given .number;
+        buffer = given .buffer;
+        written =
+            answered (canonicalRefusal s out) (w .refusal) (length (canonicalSheet s)) before (w .length) (given .number) z
+            (λ k. given .size ∙ sym (answered-gives (canonicalRefusal s out) (length (canonicalSheet s)) 0 k));
       }
