@@ -5,4 +5,5 @@ pub mod HonestLaws
 pub mod AnswerLaws
 pub mod TickLaws
 pub mod OwnerOrderLaws
+pub mod SameRoundLaws
 pub mod Demands

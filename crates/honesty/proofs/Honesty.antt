@@ -10,11 +10,10 @@ use Rattle.sheet.specs.Sheet.{bidderCount, slotCount}
 use Rattle.sheet.specs.Refusal.{refusalOf, Accepted}
 use Rattle.sheet.specs.declared.Round.{Round}
 use Rattle.sheet.specs.Round.{roundOf, withFloors, constraintAt}
-use Rattle.sheet.specs.Proper.{ProperRound, ProperFloors}
-use Rattle.sheet.proofs.RoundLaws.{round-bidders, round-slots, round-tick, round-bid, round-proper, sheet-round, round-sheet, bids-of, effects-of}
-use Rattle.sheet.proofs.FloorLaws.{floors-proper, floors-bid, floors-effect, floors-slots, floors-bidders, floors-tick, floors-has, has-floors, floors-of}
+use Rattle.sheet.proofs.RoundLaws.{round-bidders, round-slots, round-tick, round-bid, sheet-round, round-sheet, bids-of, effects-of}
+use Rattle.sheet.proofs.FloorLaws.{floors-bid, floors-effect, floors-slots, floors-bidders, floors-tick, floors-has, has-floors, floors-of}
 use Rattle.floors.specs.Floors.{floorsRefusal}
-use Rattle.floors.proofs.FloorLaws.{passed-proper}
+use Rattle.floors.proofs.FloorLaws.{passed-round}
 use Rattle.auction.specs.Broken.{breaksOwn}
 use Rattle.auction.specs.Greedy.{greedyPage}
 use Rattle.auction.specs.Except.{Except}
@@ -64,10 +63,6 @@ module _ (f : List ℕ) where
       gainedFloorsOf f s t i v ≡ record { refusal = 0; gain = gainOf (withFloors (roundOf s) f) (roundOf t) i v }
   gained-is s t i v ok none later = sym (for-gained (laterRefusal s t i v) (withFloors (roundOf s) f) t i v later ∙ floored-gains f s t i v ok none)
 
-  proper : (s : List ℕ) → Accepted s → floorsRefusal (slotCount s) f ≡ 0 → ProperRound (withFloors (roundOf s) f)
-  proper s ok none =
-      floors-proper (roundOf s) f (round-proper s ok) (subst (λ (m : ℕ). ProperFloors m f) (sym (round-slots s)) (passed-proper (slotCount s) f none))
-
   -- sheets that differ only in i's list have rounds that differ only there
   rounds-except : (i : ℕ) (s t : List ℕ) → Accepted s → Accepted t → DifferOnlyInList i s t → Except i (withFloors (roundOf s) f) (withFloors (roundOf t) f)
   rounds-except i s t ok ok′ d =
@@ -96,7 +91,7 @@ honesty f s o i v ok ok′ floored d passed low worth =
     let r′ = withFloors (roundOf o) f in
     let bids = bids-of s o (d .same-n) (d .same-bids) in
     let pays : gainOf r′ r i v ≤ℤ gainOf r r i v
-    = honest-pays r r′ i v (proper f s ok floored) (proper f o ok′ floored′) (rounds-except f i s o ok ok′ d)
+    = honest-pays r r′ i v (passed-round s f ok floored) (passed-round o f ok′ floored′) (rounds-except f i s o ok ok′ d)
     (floors-bid (roundOf s) f i ∙ bids i ∙ sym (floors-bid (roundOf o) f i))
     (λ k. floors-effect (roundOf s) f k ∙ effects-of s o (d .same-m) (d .same-effects) k ∙ sym (floors-effect (roundOf o) f k))
     (downward-floors (roundOf o) f i ∙ tested .1 .1) (tested .0)
