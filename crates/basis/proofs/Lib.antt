@@ -6,3 +6,4 @@ pub mod NumberLaws
 pub mod RowLaws
 pub mod TestLaws
 pub mod BytesLaws
+pub mod RisingLaws

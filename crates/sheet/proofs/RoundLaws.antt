@@ -57,7 +57,7 @@ proper-kind n m owner (suc own) (suc other) others x y a = (
 )
 
 -- a constraint of the round is written with its fields of the sheet
-written-fields : (n m owner own other others : ℕ) → ConstraintAccepted n m owner own other others →
+pub written-fields : (n m owner own other others : ℕ) → ConstraintAccepted n m owner own other others →
     (writtenOwn (kindOf own other others) ≡ own) × ((writtenOther (kindOf own other others) ≡ other) × (writtenOthers (kindOf own other others) ≡ others))
 unfolding kindOf writtenOwn writtenOther writtenOthers
 written-fields n m owner own zero others a = (refl, (refl, sym (a .together refl)))
