@@ -6,4 +6,5 @@ pub mod AnswerLaws
 pub mod TickLaws
 pub mod OwnerOrderLaws
 pub mod SameRoundLaws
+pub mod CanonicalLaws
 pub mod Demands
