@@ -1,8 +1,8 @@
 -- The bytes of an encoded sheet: its numbers and its conditions stand one after another, four bytes each. So where each field stands is known, and what
 -- is read there is what was encoded. Assumes nothing.
-use Prim.Native.Nat.{ℕ, zero, suc, _+_, _*_, _/_, _%_, _^_, _<_, _≤_}
+use Prim.Native.Nat.{ℕ, zero, suc, _+_, _*_, _^_, _<_}
 use mathlib.Core.List.{List, [], _∷_, _++_, append-assoc, append-nil}
-use mathlib.Core.Path.{_≡_, refl, sym, _∙_, ap, ap₂, subst}
+use mathlib.Core.Path.{_≡_, refl, sym, _∙_, ap, ap₂}
 use native.Mathlib.Nat.{add-zero, mod-add-div}
 use native.Mathlib.Omega.{arith}
 use lib.ListN.{length, getD, length-append}
@@ -17,7 +17,6 @@ use Rattle.sheet.specs.Sheet.{
   slotCount,
   constraintCount,
   tickField,
-  effectsStart,
   constraintsStart,
   effectField,
   bidField,

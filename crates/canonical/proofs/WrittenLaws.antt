@@ -5,7 +5,7 @@
 use Prim.Native.Nat.{ℕ, zero, suc, _+_, _*_, _/_, _%_, _<_, _≤_}
 use borrow.Author.Tests.{eqb-true, eq-eqb}
 use mathlib.Core.Bool.{Bool, true, _&&_}
-use mathlib.Core.Logic.{_⊎_, inr}
+use mathlib.Core.Logic.{inr}
 use mathlib.Core.List.{List, [], _∷_, _++_, append-assoc}
 use mathlib.Core.Path.{_≡_, refl, sym, _∙_, ap, ap₂, subst}
 use native.Mathlib.Nat.{add-zero, mod-eq-of-lt}
@@ -35,7 +35,7 @@ use Rattle.sheet.specs.Sheet.{
   otherSlotField,
 }
 use Rattle.sheet.specs.Refusal.{marked, effectBefore, Accepted}
-use Rattle.sheet.specs.Accepted.{Form, Counts, EffectAccepted, BidAccepted, ConstraintAccepted, orderNumber, AcceptedSheet}
+use Rattle.sheet.specs.Accepted.{Counts, EffectAccepted, BidAccepted, ConstraintAccepted, orderNumber, AcceptedSheet}
 use Rattle.sheet.specs.declared.Constraint.{Constraint}
 use Rattle.sheet.specs.Round.{bidder, kindOf, constraintField, writtenOwn, writtenOther, writtenOthers, SheetHas}
 use Rattle.sheet.specs.Encoded.{Condition, on, words, quads, countBytes, bodyBytes, sheetInTicks}
@@ -44,6 +44,7 @@ use Rattle.sheet.proofs.AcceptedLaws.{accepted-sheet, sheet-accepted}
 use Rattle.sheet.proofs.RoundLaws.{written-fields}
 use Rattle.canonical.specs.Canonical.{listed, conditionsInOrder, canonicalSheet, SameRound}
 use Rattle.canonical.specs.EngineParts.{headerOf, conditionField, numberOf, none, numbersBytes, InSheetOrder}
+use Rattle.canonical.proofs.OrderedLaws.{few-conditions, condition-from, condition-kept, conditions-rise, conditions-same, conditions-two}
 use Rattle.canonical.proofs.EncodedLaws.{
   words-row,
   quadBytes,
@@ -108,7 +109,8 @@ four l at room =
 word-stands : (l : List ℕ) (at : ℕ) → ((i : ℕ) → byteAt l i < 256) → at + 4 ≤ length l → take 4 (drop at l) ≡ bytes32 (word32At l at)
 unfolding bytes32 word32At
 word-stands l at small room =
-    let parts = word-bytes (byteAt l at) (byteAt l (at + 1)) (byteAt l (at + 2)) (byteAt l (at + 3)) (small at) (small (at + 1)) (small (at + 2)) (small (at + 3)) in
+    let parts = word-bytes (byteAt l at) (byteAt l (at + 1)) (byteAt l (at + 2)) (byteAt l (at + 3))
+    (small at) (small (at + 1)) (small (at + 2)) (small (at + 3)) in
     let last : word32At l at / 16777216 % 256 ≡ byteAt l (at + 3) = ap (λ (x : ℕ). x % 256) (parts .1 .1 .1) ∙ mod-eq-of-lt (small (at + 3)) in
     four l at room
     ∙ sym (ap₂ (λ (a b : ℕ). a ∷ b ∷ word32At l at / 65536 % 256 ∷ word32At l at / 16777216 % 256 ∷ []) (parts .0) (parts .1 .0)
@@ -169,18 +171,23 @@ module _ (s : List ℕ) (ok : Accepted s) (small : (i : ℕ) → byteAt s i < 25
       ∙ ap₂ _++_ bids-stand (sym (take-all (4 * constraintCount s) (drop (constraintsStart s) s) (omega arith)) ∙ conditions-stand))
 
   -- and the header of version 2: the mark and the version, the counts, the tick
+  mark-bytes : (byteAt s 0 ≡ 0x50) × ((byteAt s 1 ≡ 0x41) × (byteAt s 2 ≡ 0x53))
+  mark-bytes =
+      let first = and-parts (eqb (byteAt s 0) 0x50) _ (accepted-sheet s ok .form .mark) in
+      let others = and-parts (eqb (byteAt s 1) 0x41) _ (first .1) in
+      (eqb-true (byteAt s 0) 0x50 (first .0), (eqb-true (byteAt s 1) 0x41 (others .0), eqb-true (byteAt s 2) 0x53 (others .1)))
+
+  version-bytes : version s ≡ 2 → (byteAt s 3 ≡ 2) × (byteAt s 4 ≡ 0)
+  unfolding word16At
+  version-bytes two = let low = small 3 in (omega arith, omega arith)
+
   mark-stands : version s ≡ 2 → take 5 s ≡ 0x50 ∷ 0x41 ∷ 0x53 ∷ 2 ∷ 0 ∷ []
-  unfolding row word16At
+  unfolding row
   mark-stands two =
-      let nine = accepted-sheet s ok .form .header in
-      let marks = and-parts (eqb (byteAt s 0) 0x50) _ (accepted-sheet s ok .form .mark) in
-      let others = and-parts (eqb (byteAt s 1) 0x41) _ (marks .1) in
-      let low : byteAt s 3 ≡ 2 = (let b = small 3 in omega arith) in
-      let high : byteAt s 4 ≡ 0 = (let b = small 3 in omega arith) in
-      bytes-row s 0 5 (omega arith)
-      ∙ ap₂ (λ (a b : ℕ). a ∷ b ∷ byteAt s 2 ∷ byteAt s 3 ∷ byteAt s 4 ∷ []) (eqb-true (byteAt s 0) 0x50 (marks .0)) (eqb-true (byteAt s 1) 0x41 (others .0))
-      ∙ ap (λ (c : ℕ). 0x50 ∷ 0x41 ∷ c ∷ byteAt s 3 ∷ byteAt s 4 ∷ []) (eqb-true (byteAt s 2) 0x53 (others .1))
-      ∙ ap₂ (λ (d e : ℕ). 0x50 ∷ 0x41 ∷ 0x53 ∷ d ∷ e ∷ []) low high
+      bytes-row s 0 5 (let nine = accepted-sheet s ok .form .header in omega arith)
+      ∙ ap₂ (λ (a b : ℕ). a ∷ b ∷ byteAt s 2 ∷ byteAt s 3 ∷ byteAt s 4 ∷ []) (mark-bytes .0) (mark-bytes .1 .0)
+      ∙ ap (λ (c : ℕ). 0x50 ∷ 0x41 ∷ c ∷ byteAt s 3 ∷ byteAt s 4 ∷ []) (mark-bytes .1 .1)
+      ∙ ap₂ (λ (d e : ℕ). 0x50 ∷ 0x41 ∷ 0x53 ∷ d ∷ e ∷ []) (version-bytes two .0) (version-bytes two .1)
 
   counts-stand : take 4 (drop 5 s) ≡ bidderCount s ∷ slotCount s ∷ constraintCount s % 256 ∷ constraintCount s / 256 ∷ []
   unfolding word16At
@@ -301,11 +308,15 @@ unfolding constraintField conditionField asConstraint
 field-constraint s k = refl
 
 -- from which, of an accepted sheet, its fields are read back
-field-written : (s : List ℕ) → Accepted s → (k : ℕ) → k < constraintCount s → conditionField s k
-    ≡ on (constraintField s k .owner .0) (writtenOwn (constraintField s k .kind)) (writtenOther (constraintField s k .kind)) (writtenOthers (constraintField s k .kind))
+abbrev readBack : Constraint → Condition
+readBack q = on (q .owner .0) (writtenOwn (q .kind)) (writtenOther (q .kind)) (writtenOthers (q .kind))
+
+field-written : (s : List ℕ) → Accepted s → (k : ℕ) → k < constraintCount s → conditionField s k ≡ readBack (constraintField s k)
 unfolding constraintField conditionField
 field-written s ok k l =
-    let fields = written-fields (bidderCount s) (slotCount s) (ownerField s k) (ownSlotField s k) (otherField s k) (otherSlotField s k) (accepted-sheet s ok .constraints k l) in
+    let fields =
+    written-fields (bidderCount s) (slotCount s) (ownerField s k) (ownSlotField s k) (otherField s k) (otherSlotField s k)
+    (accepted-sheet s ok .constraints k l) in
     ap (λ (own : ℕ). on (ownerField s k) own (otherField s k) (otherSlotField s k)) (sym (fields .0))
     ∙ ap₂ (λ (other others : ℕ). on (ownerField s k) (writtenOwn (constraintField s k .kind)) other others) (sym (fields .1 .0)) (sym (fields .1 .1))
 
@@ -344,7 +355,7 @@ listed-there s t ok ok′ there owner own other others e =
     let h = there (constraintField s (w .0)) (w .0, w .1, refl) in
     listed-at t owner own other others (h .0) (h .1)
     (field-written t ok′ (h .0) (h .1)
-    ∙ ap (λ (q : Constraint). on (q .owner .0) (writtenOwn (q .kind)) (writtenOther (q .kind)) (writtenOthers (q .kind))) (h .2)
+    ∙ ap readBack (h .2)
     ∙ sym (field-written s ok (w .0) (w .1))
     ∙ w .2)
 
@@ -374,170 +385,164 @@ round-trans s t u g h =
     }
 
 -- of version 2, whose conditions are in order: the sheet itself
-module _ (conditions-two : (s : List ℕ) → Accepted s → version s ≡ 2 → conditionsInOrder s ≡ row (conditionField s) (constraintCount s)) where
-  pub written-two : (s : List ℕ) → Accepted s → version s ≡ 2 → ((i : ℕ) → byteAt s i < 256) → canonicalSheet s ≡ s
-  written-two s ok two small =
-      let n = bidderCount s in
-      let m = slotCount s in
-      let qs = row (conditionField s) (constraintCount s) in
-      written-joined s
-      ∙ ap (assembled (tickField s) n m (effectBytes s) (bidBytes s)) (conditions-two s ok two)
-      ∙ ap (λ (c : ℕ). header (tickField s) n m c ++ (effectBytes s ++ (bidBytes s ++ quads qs))) (length-row (conditionField s) (constraintCount s))
-      ∙ sym
-      (sym (take-append-drop 13 s)
-      ∙ ap₂ _++_ (header-stands s ok small two) (ap (λ (x : ℕ). drop x s) (sym (start-two s two)) ∙ body-stands s ok small))
+pub written-two : (s : List ℕ) → Accepted s → version s ≡ 2 → ((i : ℕ) → byteAt s i < 256) → canonicalSheet s ≡ s
+written-two s ok two small =
+    let n = bidderCount s in
+    let m = slotCount s in
+    let qs = row (conditionField s) (constraintCount s) in
+    written-joined s
+    ∙ ap (assembled (tickField s) n m (effectBytes s) (bidBytes s)) (conditions-two s ok two)
+    ∙ ap (λ (c : ℕ). header (tickField s) n m c ++ (effectBytes s ++ (bidBytes s ++ quads qs))) (length-row (conditionField s) (constraintCount s))
+    ∙ sym
+    (sym (take-append-drop 13 s)
+    ∙ ap₂ _++_ (header-stands s ok small two) (ap (λ (x : ℕ). drop x s) (sym (start-two s two)) ∙ body-stands s ok small))
 
 abbrev ConditionAccepted : (n m : ℕ) → Condition → Type 0
 ConditionAccepted n m q = ConstraintAccepted n m (q .owner) (q .own) (q .other) (q .others)
 
 -- What is written of accepted sheets.
-module _
-    (few-conditions : (s : List ℕ) → Accepted s → length (conditionsInOrder s) ≤ constraintCount s)
-    (condition-from : (s : List ℕ) → Accepted s → (k : ℕ) → k < length (conditionsInOrder s) → (i : ℕ) × (i < constraintCount s) × (getD (conditionsInOrder s) k none ≡ conditionField s i))
-    (condition-kept : (s : List ℕ) → Accepted s → (i : ℕ) → i < constraintCount s → (k : ℕ) × (k < length (conditionsInOrder s)) × (getD (conditionsInOrder s) k none ≡ conditionField s i))
-    (conditions-rise : (s : List ℕ) → Accepted s → (k : ℕ) → suc k < length (conditionsInOrder s) → numberOf (getD (conditionsInOrder s) k none) < numberOf (getD (conditionsInOrder s) (suc k) none))
-    (conditions-same : (s t : List ℕ) → bidderCount s ≡ bidderCount t → slotCount s ≡ slotCount t → ((owner own other others : ℕ) → listed s owner own other others ≡ listed t owner own other others) → conditionsInOrder s ≡ conditionsInOrder t) where
-  module _ (s : List ℕ) (ok : Accepted s) where
-    written-number : (k : ℕ) → k < length (conditionsInOrder s) → orderNumber (canonicalSheet s) k ≡ numberOf (getD (conditionsInOrder s) k none)
-    unfolding orderNumber numberOf conditionField
-    written-number k l = ap numberOf (written-condition s k l)
+module _ (s : List ℕ) (ok : Accepted s) where
+  written-number : (k : ℕ) → k < length (conditionsInOrder s) → orderNumber (canonicalSheet s) k ≡ numberOf (getD (conditionsInOrder s) k none)
+  unfolding orderNumber numberOf conditionField
+  written-number k l = ap numberOf (written-condition s k l)
 
-    written-terms : (k : ℕ) → k < constraintCount (canonicalSheet s) →
-        ConditionAccepted (bidderCount (canonicalSheet s)) (slotCount (canonicalSheet s)) (conditionField (canonicalSheet s) k)
-    unfolding conditionField
-    written-terms k l =
-        let within : k < length (conditionsInOrder s) = (let count = written-constraints s in omega arith) in
-        let from = condition-from s ok k within in
-        let q = conditionField (canonicalSheet s) k in
-        subst (λ (n : ℕ). ConditionAccepted n (slotCount (canonicalSheet s)) q) (sym (written-bidders s))
-        (subst (λ (m : ℕ). ConditionAccepted (bidderCount s) m q) (sym (written-slots s))
-        (subst (ConditionAccepted (bidderCount s) (slotCount s)) (sym (written-condition s k within ∙ from .2)) (facts s ok .constraints (from .0) (from .1))))
+  written-terms : (k : ℕ) → k < constraintCount (canonicalSheet s) →
+      ConditionAccepted (bidderCount (canonicalSheet s)) (slotCount (canonicalSheet s)) (conditionField (canonicalSheet s) k)
+  unfolding conditionField
+  written-terms k l =
+      let within : k < length (conditionsInOrder s) = (let count = written-constraints s in omega arith) in
+      let from = condition-from s ok k within in
+      let q = conditionField (canonicalSheet s) k in
+      subst (λ (n : ℕ). ConditionAccepted n (slotCount (canonicalSheet s)) q) (sym (written-bidders s))
+      (subst (λ (m : ℕ). ConditionAccepted (bidderCount s) m q) (sym (written-slots s))
+      (subst (ConditionAccepted (bidderCount s) (slotCount s)) (sym (written-condition s k within ∙ from .2))
+      (facts s ok .constraints (from .0) (from .1))))
 
-    written-counts : Counts (canonicalSheet s)
-    written-counts =
-        let counts = facts s ok .counts in
-        let n = written-bidders s in
-        let m = written-slots s in
-        let c = written-constraints s in
-        let tick = written-tick s ok in
-        record {
-          some-bidders = (let h = counts .some-bidders in omega arith);
-          most-bidders = (let h = counts .most-bidders in omega arith);
-          some-slots = (let h = counts .some-slots in omega arith);
-          most-slots = (let h = counts .most-slots in omega arith);
-          most-constraints = (let h = counts .most-constraints in let few = few-conditions s ok in omega arith);
-          some-tick = (let h = counts .some-tick in omega arith);
-          most-tick = (let h = counts .most-tick in omega arith);
-          whole = (let size = written-length s in let start = start-two (canonicalSheet s) (written-version s) in omega arith);
-        }
+  written-counts : Counts (canonicalSheet s)
+  written-counts =
+      let counts = facts s ok .counts in
+      let n = written-bidders s in
+      let m = written-slots s in
+      let c = written-constraints s in
+      let tick = written-tick s ok in
+      record {
+        some-bidders = (let h = counts .some-bidders in omega arith);
+        most-bidders = (let h = counts .most-bidders in omega arith);
+        some-slots = (let h = counts .some-slots in omega arith);
+        most-slots = (let h = counts .most-slots in omega arith);
+        most-constraints = (let h = counts .most-constraints in let few = few-conditions s ok in omega arith);
+        some-tick = (let h = counts .some-tick in omega arith);
+        most-tick = (let h = counts .most-tick in omega arith);
+        whole = (let size = written-length s in let start = start-two (canonicalSheet s) (written-version s) in omega arith);
+      }
 
-    written-effects : (k : ℕ) → 0 < k → k ≤ slotCount (canonicalSheet s) → EffectAccepted (canonicalSheet s) k
-    written-effects k l most =
-        let m = written-slots s in
-        let within : k ≤ slotCount s = omega arith in
-        let fact = facts s ok .effects k l within in
-        let here = written-effect s ok k l within in
-        record {
-          some = (let h = fact .some in omega arith);
-          most = (let h = fact .most in omega arith);
-          no-rise = (let h = fact .no-rise in let before = written-before s ok k within in omega arith);
-        }
+  written-effects : (k : ℕ) → 0 < k → k ≤ slotCount (canonicalSheet s) → EffectAccepted (canonicalSheet s) k
+  written-effects k l most =
+      let m = written-slots s in
+      let within : k ≤ slotCount s = omega arith in
+      let fact = facts s ok .effects k l within in
+      let here = written-effect s ok k l within in
+      record {
+        some = (let h = fact .some in omega arith);
+        most = (let h = fact .most in omega arith);
+        no-rise = (let h = fact .no-rise in let before = written-before s ok k within in omega arith);
+      }
 
-    written-bids : (b : ℕ) → 0 < b → b ≤ bidderCount (canonicalSheet s) → BidAccepted (canonicalSheet s) b
-    written-bids b l most =
-        let n = written-bidders s in
-        let within : b ≤ bidderCount s = omega arith in
-        let fact = facts s ok .bids b l within in
-        let here = written-bid s ok b l within in
-        record { most = (let h = fact .most in omega arith); multiple = ap₂ _%_ here (written-tick s ok) ∙ fact .multiple }
+  written-bids : (b : ℕ) → 0 < b → b ≤ bidderCount (canonicalSheet s) → BidAccepted (canonicalSheet s) b
+  written-bids b l most =
+      let n = written-bidders s in
+      let within : b ≤ bidderCount s = omega arith in
+      let fact = facts s ok .bids b l within in
+      let here = written-bid s ok b l within in
+      record { most = (let h = fact .most in omega arith); multiple = ap₂ _%_ here (written-tick s ok) ∙ fact .multiple }
 
-    -- it is accepted,
-    written-sheet : AcceptedSheet (canonicalSheet s)
-    unfolding conditionField
-    written-sheet =
-        let size = written-length s in
-        let start = start-two (canonicalSheet s) (written-version s) in
-        record {
-          form =
-              record {
-                header = omega arith;
-                whole-header = omega arith;
-                mark = written-mark s;
-                known = inr (written-version s);
-              };
-          counts = written-counts;
-          effects = written-effects;
-          bids = written-bids;
-          constraints = written-terms;
-          rising = λ two k l.
-              let count = written-constraints s in
-              let here = written-number k (omega arith) in
-              let next = written-number (suc k) (omega arith) in
-              let rise = conditions-rise s ok k (omega arith) in
-              omega arith;
-        }
+  -- it is accepted,
+  written-sheet : AcceptedSheet (canonicalSheet s)
+  unfolding conditionField
+  written-sheet =
+      let size = written-length s in
+      let start = start-two (canonicalSheet s) (written-version s) in
+      record {
+        form =
+            record {
+              header = omega arith;
+              whole-header = omega arith;
+              mark = written-mark s;
+              known = inr (written-version s);
+            };
+        counts = written-counts;
+        effects = written-effects;
+        bids = written-bids;
+        constraints = written-terms;
+        rising = λ two k l.
+            let count = written-constraints s in
+            let here = written-number k (omega arith) in
+            let next = written-number (suc k) (omega arith) in
+            let rise = conditions-rise s ok k (omega arith) in
+            omega arith;
+      }
 
-    pub written-accepted : Accepted (canonicalSheet s)
-    written-accepted = sheet-accepted (canonicalSheet s) written-sheet
+  pub written-accepted : Accepted (canonicalSheet s)
+  written-accepted = sheet-accepted (canonicalSheet s) written-sheet
 
-    -- and says the same round
-    pub written-same : SameRound s (canonicalSheet s)
-    written-same =
-        record {
-          same-n = sym (written-bidders s);
-          same-m = sym (written-slots s);
-          same-tick = sym (written-tick s ok);
-          same-effects = λ k l m. sym (written-effect s ok k l m);
-          same-bids = λ b l m. sym (written-bid s ok b l m);
-          there = λ q h.
-              let w = condition-kept s ok (h .0) (h .1) in (
-                w .0,
-                (let count = written-constraints s in let l = w .1 in omega arith),
-                field-constraint (canonicalSheet s) (w .0)
-                    ∙ ap asConstraint (written-condition s (w .0) (w .1) ∙ w .2)
-                    ∙ sym (field-constraint s (h .0))
-                    ∙ h .2,
-              );
-          back = λ q h.
-              let within : h .0 < length (conditionsInOrder s) = (let count = written-constraints s in let l = h .1 in omega arith) in
-              let w = condition-from s ok (h .0) within in (
-                w .0,
-                w .1,
-                field-constraint s (w .0)
-                    ∙ ap asConstraint (sym (written-condition s (h .0) within ∙ w .2))
-                    ∙ sym (field-constraint (canonicalSheet s) (h .0))
-                    ∙ h .2,
-              );
-        }
+  -- and says the same round
+  pub written-same : SameRound s (canonicalSheet s)
+  written-same =
+      record {
+        same-n = sym (written-bidders s);
+        same-m = sym (written-slots s);
+        same-tick = sym (written-tick s ok);
+        same-effects = λ k l m. sym (written-effect s ok k l m);
+        same-bids = λ b l m. sym (written-bid s ok b l m);
+        there = λ q h.
+            let w = condition-kept s ok (h .0) (h .1) in (
+              w .0,
+              (let count = written-constraints s in let l = w .1 in omega arith),
+              field-constraint (canonicalSheet s) (w .0)
+                  ∙ ap asConstraint (written-condition s (w .0) (w .1) ∙ w .2)
+                  ∙ sym (field-constraint s (h .0))
+                  ∙ h .2,
+            );
+        back = λ q h.
+            let within : h .0 < length (conditionsInOrder s) = (let count = written-constraints s in let l = h .1 in omega arith) in
+            let w = condition-from s ok (h .0) within in (
+              w .0,
+              w .1,
+              field-constraint s (w .0)
+                  ∙ ap asConstraint (sym (written-condition s (h .0) within ∙ w .2))
+                  ∙ sym (field-constraint (canonicalSheet s) (h .0))
+                  ∙ h .2,
+            );
+      }
 
-  -- one round, one written sheet,
-  pub same-written : (s t : List ℕ) → Accepted s → Accepted t → SameRound s t → canonicalSheet s ≡ canonicalSheet t
-  same-written s t ok ok′ h =
-      let effects : effectBytes s ≡ effectBytes t =
-      joined-same (λ k. bytes32 (effectField s (suc k))) (λ k. bytes32 (effectField t (suc k))) (slotCount s)
-      (λ k l. ap bytes32 (h .same-effects (suc k) (omega arith) l))
-      ∙ ap (joined (λ k. bytes32 (effectField t (suc k)))) (h .same-m) in
-      let bids : bidBytes s ≡ bidBytes t =
-      joined-same (λ i. bytes32 (bidField s (suc i))) (λ i. bytes32 (bidField t (suc i))) (bidderCount s)
-      (λ i l. ap bytes32 (h .same-bids (suc i) (omega arith) l))
-      ∙ ap (joined (λ i. bytes32 (bidField t (suc i)))) (h .same-n) in
-      let conditions : conditionsInOrder s ≡ conditionsInOrder t =
-      conditions-same s t (h .same-n) (h .same-m)
-      (λ owner own other others.
-      same-tests (listed s owner own other others) (listed t owner own other others)
-      (listed-there s t ok ok′ (h .there) owner own other others)
-      (listed-there t s ok′ ok (h .back) owner own other others)) in
-      written-joined s
-      ∙ ap₂ (λ (n m : ℕ). assembled (tickField s) n m (effectBytes s) (bidBytes s) (conditionsInOrder s)) (h .same-n) (h .same-m)
-      ∙ ap₂ (λ (x : ℕ) (qs : List Condition). assembled x (bidderCount t) (slotCount t) (effectBytes s) (bidBytes s) qs) (h .same-tick) conditions
-      ∙ ap₂ (λ (es bs : List ℕ). assembled (tickField t) (bidderCount t) (slotCount t) es bs (conditionsInOrder t)) effects bids
-      ∙ sym (written-joined t)
+-- one round, one written sheet,
+pub same-written : (s t : List ℕ) → Accepted s → Accepted t → SameRound s t → canonicalSheet s ≡ canonicalSheet t
+same-written s t ok ok′ h =
+    let effects : effectBytes s ≡ effectBytes t =
+    joined-same (λ k. bytes32 (effectField s (suc k))) (λ k. bytes32 (effectField t (suc k))) (slotCount s)
+    (λ k l. ap bytes32 (h .same-effects (suc k) (omega arith) l))
+    ∙ ap (joined (λ k. bytes32 (effectField t (suc k)))) (h .same-m) in
+    let bids : bidBytes s ≡ bidBytes t =
+    joined-same (λ i. bytes32 (bidField s (suc i))) (λ i. bytes32 (bidField t (suc i))) (bidderCount s)
+    (λ i l. ap bytes32 (h .same-bids (suc i) (omega arith) l))
+    ∙ ap (joined (λ i. bytes32 (bidField t (suc i)))) (h .same-n) in
+    let conditions : conditionsInOrder s ≡ conditionsInOrder t =
+    conditions-same s t (h .same-n) (h .same-m)
+    (λ owner own other others.
+    same-tests (listed s owner own other others) (listed t owner own other others)
+    (listed-there s t ok ok′ (h .there) owner own other others)
+    (listed-there t s ok′ ok (h .back) owner own other others)) in
+    written-joined s
+    ∙ ap₂ (λ (n m : ℕ). assembled (tickField s) n m (effectBytes s) (bidBytes s) (conditionsInOrder s)) (h .same-n) (h .same-m)
+    ∙ ap₂ (λ (x : ℕ) (qs : List Condition). assembled x (bidderCount t) (slotCount t) (effectBytes s) (bidBytes s) qs) (h .same-tick) conditions
+    ∙ ap₂ (λ (es bs : List ℕ). assembled (tickField t) (bidderCount t) (slotCount t) es bs (conditionsInOrder t)) effects bids
+    ∙ sym (written-joined t)
 
-  -- and of the written sheet itself
-  pub written-again : (s : List ℕ) → Accepted s → canonicalSheet (canonicalSheet s) ≡ canonicalSheet s
-  written-again s ok = same-written (canonicalSheet s) s (written-accepted s ok) ok (round-sym s (canonicalSheet s) (written-same s ok))
+-- and of the written sheet itself
+pub written-again : (s : List ℕ) → Accepted s → canonicalSheet (canonicalSheet s) ≡ canonicalSheet s
+written-again s ok = same-written (canonicalSheet s) s (written-accepted s ok) ok (round-sym s (canonicalSheet s) (written-same s ok))
 
-  -- one written sheet, one round
-  pub written-equal : (s t : List ℕ) → Accepted s → Accepted t → canonicalSheet s ≡ canonicalSheet t → SameRound s t
-  written-equal s t ok ok′ e =
-      round-trans s (canonicalSheet t) t (subst (SameRound s) e (written-same s ok)) (round-sym t (canonicalSheet t) (written-same t ok′))
+-- one written sheet, one round
+pub written-equal : (s t : List ℕ) → Accepted s → Accepted t → canonicalSheet s ≡ canonicalSheet t → SameRound s t
+written-equal s t ok ok′ e =
+    round-trans s (canonicalSheet t) t (subst (SameRound s) e (written-same s ok)) (round-sym t (canonicalSheet t) (written-same t ok′))
