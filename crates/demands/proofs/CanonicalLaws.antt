@@ -1,21 +1,21 @@
 -- Request S-6: what is written of an accepted sheet stands at the front of the buffer, and is one sheet for each round (the laws of the written sheet,
 -- canonical/proofs/WrittenLaws.antt); the call's numbers. Assumes nothing.
 use Prim.Native.Nat.{ℕ, _+_, _<_, _≤_}
-use borrow.Author.Tests.{lt-ltb, le-ltb, ltb-false}
+use borrow.Author.Tests.{lt-ltb, le-ltb}
 use mathlib.Core.Bool.{Bool}
 use mathlib.Core.List.{List}
 use mathlib.Core.Logic.{⊎-elim}
-use mathlib.Core.Path.{_≡_, refl, sym, _∙_, ap, subst}
+use mathlib.Core.Path.{_≡_, sym, _∙_, ap, subst}
 use native.Mathlib.Omega.{arith}
 use lib.Dec.{ltb}
 use lib.ListN.{length, take, drop, getD}
 use lib.Seq.{take-at, drop-append-seam}
 use Rattle.basis.specs.First.{_when_otherwise_}
-use Rattle.basis.proofs.FirstLaws.{orElse-none, orElse-left, orElse-right, when-none, answered-gives}
+use Rattle.basis.proofs.FirstLaws.{orElse-none, orElse-left, orElse-right, answered-gives}
 use Rattle.sheet.specs.Sheet.{version}
 use Rattle.sheet.specs.Refusal.{refusalOf, Accepted}
 use Rattle.sheet.proofs.AcceptedLaws.{accepted-sheet, constraints-rise}
-use Rattle.canonical.specs.Canonical.{conditionsInOrder, canonicalSheet, canonicalRefusal, canonicalBuffer, SameRound}
+use Rattle.canonical.specs.Canonical.{canonicalSheet, canonicalRefusal, canonicalBuffer, SameRound}
 use Rattle.canonical.proofs.OrderedLaws.{few-conditions}
 use Rattle.canonical.proofs.WrittenLaws.{
   written-length,
@@ -37,7 +37,8 @@ sheet-first : (s out : List ℕ) → (refusalOf s ≡ 0 → ⊥) → canonicalRe
 unfolding canonicalRefusal
 sheet-first s out h = orElse-left (refusalOf s) _ h
 
-room-decides : (s out : List ℕ) (t : Bool) → Accepted s → ltb (length out) (length (canonicalSheet s)) ≡ t → canonicalRefusal s out ≡ (19 when t otherwise 0)
+room-decides : (s out : List ℕ) (t : Bool) → Accepted s →
+    ltb (length out) (length (canonicalSheet s)) ≡ t → canonicalRefusal s out ≡ (19 when t otherwise 0)
 unfolding canonicalRefusal
 room-decides s out t ok e = orElse-right (refusalOf s) _ ok ∙ ap (λ (u : Bool). 19 when u otherwise 0) e
 
@@ -101,7 +102,8 @@ written s out out′ before after g =
       same-answers = same-round-answers s (take after out′) ok accepted same;
       later = leaves-later s out out′ before after g;
       again = λ into into′ before′ number after′ room g′.
-          let itself = writes-itself (take after out′) into into′ before′ number after′ accepted (ap canonicalSheet says ∙ written-again s ok ∙ sym says) (omega arith) g′ in
+          let own = ap canonicalSheet says ∙ written-again s ok ∙ sym says in
+          let itself = writes-itself (take after out′) into into′ before′ number after′ accepted own (omega arith) g′ in
           (itself .0, itself .1 ∙ as-long, itself .2);
     }
 

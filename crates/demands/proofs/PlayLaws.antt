@@ -12,7 +12,7 @@ use Rattle.basis.proofs.NumberLaws.{same-or-not}
 use Rattle.sheet.specs.declared.Round.{Round}
 use Rattle.sheet.specs.Sheet.{bidderCount, slotCount, tickField, bidField}
 use Rattle.sheet.specs.Refusal.{legalBid, Accepted}
-use Rattle.sheet.specs.Proper.{ProperRound, ProperFloors}
+use Rattle.sheet.specs.Proper.{ProperRound}
 use Rattle.sheet.specs.Round.{roundOf, withFloors, floorOf}
 use Rattle.sheet.proofs.RoundLaws.{round-bid, round-bidders, round-slots, round-tick}
 use Rattle.sheet.proofs.FloorLaws.{floors-slots, floors-bidders, floors-tick, floors-bid}

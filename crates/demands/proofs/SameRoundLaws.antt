@@ -82,14 +82,17 @@ module _ (s t : List ℕ) (ok : Accepted s) (ok′ : Accepted t) (same : SameRou
         floors-effect (roundOf s) f k ∙ effects-of s t (same .same-m) (same .same-effects) k ∙ sym (floors-effect (roundOf t) f k)
 
     -- floors that a call of no number was given are right for both
-    proper : (rest : ℕ) → orElse (refusalOf s) (orElse (floorsRefusal (slotCount s) f) rest) ≡ 0 → ProperRound r
-    proper rest z = passed-round s f ok (orElse-none (floorsRefusal (slotCount s) f) rest (orElse-none (refusalOf s) _ z .1) .0)
+    abbrev Unrefused : ℕ → Type 0
+    Unrefused rest = orElse (refusalOf s) (orElse (floorsRefusal (slotCount s) f) rest) ≡ 0
 
-    proper′ : (rest : ℕ) → orElse (refusalOf s) (orElse (floorsRefusal (slotCount s) f) rest) ≡ 0 → ProperRound r′
-    proper′ rest z =
-        passed-round t f ok′
-        (ap (λ (m : ℕ). floorsRefusal m f) (sym (same .same-m))
-        ∙ orElse-none (floorsRefusal (slotCount s) f) rest (orElse-none (refusalOf s) _ z .1) .0)
+    right-floors : (rest : ℕ) → Unrefused rest → floorsRefusal (slotCount s) f ≡ 0
+    right-floors rest z = orElse-none (floorsRefusal (slotCount s) f) rest (orElse-none (refusalOf s) _ z .1) .0
+
+    proper : (rest : ℕ) → Unrefused rest → ProperRound r
+    proper rest z = passed-round s f ok (right-floors rest z)
+
+    proper′ : (rest : ℕ) → Unrefused rest → ProperRound r′
+    proper′ rest z = passed-round t f ok′ (ap (λ (m : ℕ). floorsRefusal m f) (sym (same .same-m)) ∙ right-floors rest z)
 
     play-number : (out : List ℕ) → playFloorsRefusal f s out ≡ playFloorsRefusal f t out
     unfolding playFloorsRefusal roomRefusal
@@ -166,7 +169,8 @@ module _ (s t : List ℕ) (ok : Accepted s) (ok′ : Accepted t) (same : SameRou
     truth-floors u i v before number after =
         let e = truth-number u i v in
         let played = withFloors (roundOf u) f in
-        let written = left-same (gainFloorsRefusal f u s i v) (gainFloorsRefusal f u t i v) (gainOf played (roundOf s) i v) (gainOf played (roundOf t) i v) before e
+        let gains = gainOf played in
+        let written = left-same (gainFloorsRefusal f u s i v) (gainFloorsRefusal f u t i v) (gains (roundOf s) i v) (gains (roundOf t) i v) before e
         (λ z. truth-sets played (roundOf s) (roundOf t) there back i v) in (
           λ g. record { number = g .number ∙ e; written = g .written ∙ written },
           λ g. record { number = g .number ∙ sym e; written = g .written ∙ sym written },
@@ -187,23 +191,34 @@ module _ (s t : List ℕ) (ok : Accepted s) (ok′ : Accepted t) (same : SameRou
       )
 
   -- Without floors: the sheets have the same floors of 0.
+  none-same : (P : List ℕ → Type 0) → P (noFloors t) → P (noFloors s)
+  none-same P = subst P (ap (λ (m : ℕ). replicate m 0) (sym (same .same-m)))
+
   pub same-round-answers : SameAnswers s t
   same-round-answers =
       record {
         play = λ out out′ number.
-            through (play-without s out out′ number)
-            (subst (λ (m : ℕ). Exactly (Played t out number out′) (PlayedFloors (replicate m 0) t out number out′)) (sym (same .same-m)) (play-without t out out′ number))
+            through
+            (play-without s out out′ number)
+            (none-same (λ f. Exactly (Played t out number out′) (PlayedFloors f t out number out′)) (play-without t out out′ number))
             (play-floors (noFloors s) out out′ number);
         downward = downward-same;
         gain = λ u i v before number after.
-            through (gain-without s u i v before number after)
-            (subst (λ (m : ℕ). Exactly (GainGiven t u i v before number after) (GainFloorsGiven (replicate m 0) t u i v before number after)) (sym (same .same-m)) (gain-without t u i v before number after))
+            through
+            (gain-without s u i v before number after)
+            (none-same (λ f. Exactly (GainGiven t u i v before number after) (GainFloorsGiven f t u i v before number after))
+            (gain-without t u i v before number after))
             (gain-floors (noFloors s) u i v before number after);
         truth = λ u i v before number after.
-            through (gain-without u s i v before number after) (gain-without u t i v before number after) (truth-floors (noFloors u) u i v before number after);
+            through
+            (gain-without u s i v before number after)
+            (gain-without u t i v before number after)
+            (truth-floors (noFloors u) u i v before number after);
         best = λ out out′ before number after.
-            through (best-without s out out′ before number after)
-            (subst (λ (m : ℕ). Exactly (BestPageGiven t out before number out′ after) (BestFloorsPageGiven (replicate m 0) t out before number out′ after)) (sym (same .same-m)) (best-without t out out′ before number after))
+            through
+            (best-without s out out′ before number after)
+            (none-same (λ f. Exactly (BestPageGiven t out before number out′ after) (BestFloorsPageGiven f t out before number out′ after))
+            (best-without t out out′ before number after))
             (best-floors (noFloors s) out out′ before number after);
         play-floors = play-floors;
         gain-floors = gain-floors;
