@@ -16,7 +16,6 @@ use Rattle.sheet.specs.Round.{roundOf, withFloors}
 use Rattle.floors.specs.Floors.{floorsRefusal}
 use Rattle.auction.specs.Page.{at}
 use Rattle.auction.specs.Allowed.{total}
-use Rattle.auction.specs.Except.{SameSets}
 use Rattle.best_page.specs.BestPage.{bestPage}
 use Rattle.best_search.specs.declared.Chosen.{Chosen}
 use Rattle.best_search.specs.Call.{boundsRefusal, bestRefusal, bestFloorsRefusal, bestBuffer, chosenFor, BestGiven, BestFloorsGiven}
@@ -123,7 +122,7 @@ module _ (r : Round) (s out : List ℕ) where
 pub best-unrefused : (s out : List ℕ) → Accepted s → bidderCount s ≤ 8 → slotCount s ≤ 8 → slotCount s ≤ length out → bestRefusal s out ≡ 0
 best-unrefused s out ok m n room = left-of-best s out ok ∙ within-bounds (roundOf s) s out m n room
 
--- what is written depends on each owner's set of constraints and the effects only
-pub buffer-sets : (r r′ : Round) → SameSets r r′ → bestPage r ≡ bestPage r′ → (out : List ℕ) → bestBuffer r out ≡ bestBuffer r′ out
+-- what is written depends on the best page and on how many slots there are
+pub buffer-same : (r r′ : Round) → r .slots ≡ r′ .slots → bestPage r ≡ bestPage r′ → (out : List ℕ) → bestBuffer r out ≡ bestBuffer r′ out
 unfolding bestBuffer
-buffer-sets r r′ x same out = ap₂ (λ (p : Page) (m : ℕ). row (λ k. at p (suc k)) m ++ drop m out) same (x .slots)
+buffer-same r r′ slots page out = ap₂ (λ (p : Page) (m : ℕ). row (λ k. at p (suc k)) m ++ drop m out) page slots

@@ -33,7 +33,7 @@ use Rattle.gain.proofs.SlotLaws.{gain-sets, truth-sets}
 use Rattle.best_page.specs.BestPage.{bestPage}
 use Rattle.best_page.proofs.BestPageLaws.{best-page-sets}
 use Rattle.best_search.specs.Call.{boundsRefusal, bestFloorsRefusal, bestBuffer}
-use Rattle.best_search.proofs.CallLaws.{buffer-sets}
+use Rattle.best_search.proofs.CallLaws.{buffer-same}
 use Rattle.canonical.specs.Canonical.{SameRound}
 use Rattle.pas.specs.Calls.{yesNumber, DownwardGiven, GainGiven, GainFloorsGiven, BestPageGiven, BestFloorsPageGiven}
 use Rattle.demands.specs.Demands.{Exactly, noFloors, SameAnswers}
@@ -146,7 +146,7 @@ module _ (s t : List ℕ) (ok : Accepted s) (ok′ : Accepted t) (same : SameRou
         let page : bestFloorsRefusal f s out ≡ 0 → bestPage r ≡ bestPage r′
         = (λ z. best-page-sets r r′ sets-same effects-same (proper (boundsRefusal s out) z) (proper′ (boundsRefusal s out) z)) in
         let buffer = left-same (bestFloorsRefusal f s out) (bestFloorsRefusal f t out) (bestBuffer r out) (bestBuffer r′ out) out e
-        (λ z. buffer-sets r r′ sets-same (page z) out) in
+        (λ z. buffer-same r r′ (sets-same .slots) (page z) out) in
         let sum = left-same (bestFloorsRefusal f s out) (bestFloorsRefusal f t out) (total r (bestPage r)) (total r′ (bestPage r′)) before e
         (λ z. ap (total r) (page z) ∙ total-sets r r′ sets-same effects-same (bestPage r′)) in (
           λ g. record { number = g .number ∙ e; buffer = g .buffer ∙ buffer; written = g .written ∙ sum },
