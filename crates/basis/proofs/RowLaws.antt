@@ -6,7 +6,7 @@ use mathlib.Core.Bool.{true, false}
 use mathlib.Core.Path.{_≡_, refl, sym, _∙_, ap, ap₂}
 use borrow.Author.Tests.{ltb-true, ltb-false}
 use lib.Dec.{ltb}
-use native.Mathlib.Nat.{eq-or-lt-of-le, le-of-suc-le-suc, not-suc-le-zero, sub-zero, mul-zero, mul-suc}
+use native.Mathlib.Nat.{eq-or-lt-of-le, le-of-suc-le-suc, not-suc-le-zero, sub-zero, mul-zero, mul-suc, add-zero, zero-add}
 use native.Mathlib.Omega.{arith}
 use lib.ListN.{length, getD, set, drop, replicate, length-append, length-drop, length-replicate, getD-replicate, replicate-append-replicate, List·getD-append, List·getD-eq-default}
 use lib.Seq.{sets, sets-eq, set-at, set-append-left, getD-append-add, getD-append-seam, take-at, drop-append-add, drop-drop}
@@ -159,6 +159,17 @@ pub joined-same : {A : Type 0} (f g : ℕ → List A) (k : ℕ) → ((i : ℕ) �
 unfolding joined
 joined-same f g zero h = refl
 joined-same f g (suc k) h = ap₂ _++_ (joined-same f g k (λ i l. h i (omega arith))) (h k (omega arith))
+
+-- Runs of stores: one, and another where it ends, are one run,
+pub sets-then : {A : Type 0} (a b l : List A) (at : ℕ) → sets (sets l at a) (at + length a) b ≡ sets l at (a ++ b)
+sets-then [] b l at = ap (λ (n : ℕ). sets l n b) (add-zero at)
+sets-then {A} (x ∷ a) b l at =
+    let e : at + length (x ∷ a) ≡ suc at + length a = omega arith in
+    ap (λ (n : ℕ). sets (sets (set l at x) (suc at) a) n b) e ∙ sets-then a b (set l at x) (suc at)
+
+-- and one from index 0 replaces the front
+pub sets-front : {A : Type 0} (a l : List A) → length a ≤ length l → sets l 0 a ≡ a ++ drop (length a) l
+sets-front a l h = sets-eq a l 0 (omega arith) ∙ ap (λ (n : ℕ). a ++ drop n l) (zero-add (length a))
 
 -- zeros are zero at every index, past the end too
 pub zeros : (n i : ℕ) → _≡_ {A = ℕ} (getD (replicate n 0) i 0) 0

@@ -2,3 +2,4 @@
 pub mod EncodedLaws
 pub mod OrderedLaws
 pub mod WrittenLaws
+pub mod PartLaws

@@ -53,7 +53,7 @@ fn order_constraints(ordered: &mut [u32; 1024], sheet: &[u8], start: usize) -> u
 }
 
 // Numbers are written at an offset one after another, four bytes each, the highest first.
-fn put_numbers(result: &mut [u8], at: usize, numbers: &[u32; 1024], count: usize)
+fn put_numbers(result: &mut [u8], at: usize, numbers: &[u32], count: usize)
     requires { ⌜ (length (now numbers) ≡ 1024) × (count ≤ 1024) × (at + 4 * count ≤ length (now result)) ⌝ }
     ensures { λ r. ⌜ now (result .exit) ≡ sets (now (result .entry)) at (numbersBytes (now (numbers .entry)) count) ⌝ }
 {
