@@ -11,6 +11,7 @@ use Rattle.basis.specs.Bytes.{byteAt}
 use Rattle.canonical.proofs.PartLaws.{copied-next}
 use Rattle.canonical.proofs.copy.Statement.{statement}
 use Rattle.canonical.proofs.copy.Tie as tie
+
 record Copied (result₀ : List ℕ) (at : ℕ) (sheet : List ℕ) (start count : ℕ) (result : List ℕ) (k : ℕ) : Type 0 where
   some : k ≤ count
   size : length result ≡ length result₀

@@ -11,6 +11,7 @@ use Rattle.basis.specs.Bytes.{bytes32}
 use Rattle.canonical.specs.EngineParts.{headerOf}
 use Rattle.canonical.proofs.put_header.Statement.{statement}
 use Rattle.canonical.proofs.put_header.Tie as tie
+
 slice-write-result : tie.Need-slice-write-result
 slice-write-result c = search needs
 

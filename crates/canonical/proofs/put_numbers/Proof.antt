@@ -14,6 +14,7 @@ use Rattle.canonical.specs.EngineParts.{numbersBytes}
 use Rattle.canonical.proofs.PartLaws.{turned-bytes, numbers-next}
 use Rattle.canonical.proofs.put_numbers.Statement.{statement}
 use Rattle.canonical.proofs.put_numbers.Tie as tie
+
 record Put (result₀ : List ℕ) (at : ℕ) (numbers : List ℕ) (count : ℕ) (result : List ℕ) (k : ℕ) : Type 0 where
   some : k ≤ count
   size : length result ≡ length result₀

@@ -11,6 +11,7 @@ use Rattle.check_constraints.proofs.FaultLaws.{word-number}
 use Rattle.canonical.proofs.PartLaws.{stored-next}
 use Rattle.canonical.proofs.read_numbers.Statement.{statement}
 use Rattle.canonical.proofs.read_numbers.Tie as tie
+
 record Read (sheet : List ℕ) (count : ℕ) (numbers : List ℕ) (k : ℕ) : Type 0 where
   some : k ≤ count
   size : length numbers ≡ 1024
