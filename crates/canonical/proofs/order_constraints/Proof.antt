@@ -44,10 +44,11 @@ add-sort-2 c = search needs
 sort-requires : tie.Need-sort-requires
 sort-requires c κs =
     let start = c .before .before .before .before .before .before .before .before in
+    let numbers = c .before .before .before .before .read-numbers .last .0 in
     let read = c .before .before .before .before .read-numbers .ensures in
     let known = accepted-sheet _ (start .pre .1) .counts in
     let many = c .before .before .before .before .before .before .word16 .ensures .0 in
-    ((read .0, start .pre .0, omega arith, omega arith, omega arith), read-low (start .args .sheet .now) _ _ (start .pre .1) many (read .1))
+    ((read .0, start .pre .0, omega arith, omega arith, omega arith), read-low (start .args .sheet .now) numbers _ (start .pre .1) many (read .1))
 
 drop-repeats-requires : tie.Need-drop-repeats-requires
 drop-repeats-requires c κs =
