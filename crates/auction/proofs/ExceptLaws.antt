@@ -1,18 +1,23 @@
 -- Two rounds that differ only in one bidder's list and bid play alike until that bidder has a slot in one of them: its constraints
--- bind nobody before. Assumes nothing.
-use Prim.Native.Nat.{ℕ, zero, suc, _<_, _≤_}
-use mathlib.Core.Bool.{true, false}
+-- bind nobody before. Rounds with the same sets of constraints play alike throughout, break and allow the same. Assumes nothing.
+use Prim.Native.Nat.{ℕ, zero, suc, _+_, _*_, _<_, _≤_}
+use mathlib.Core.Bool.{true, false, _&&_}
 use mathlib.Core.Logic.{_⊎_, ⊎-elim}
 use mathlib.Core.Path.{_≡_, refl, sym, _∙_, ap, ap₂, subst}
 use native.Mathlib.Omega.{arith}
+use lib.Dec.{eqb}
 use Rattle.basis.proofs.TestLaws.{not-both, fails, same-tests}
+use Rattle.sheet.specs.declared.Constraint.{Constraint}
 use Rattle.sheet.specs.declared.Page.{Page}
 use Rattle.sheet.specs.declared.Round.{Round}
 use Rattle.choice.specs.Winner.{winner}
 use Rattle.auction.specs.Page.{at, put, placed, Sized}
+use Rattle.auction.specs.Broken.{broken, breaks, breaksOwn}
+use Rattle.auction.specs.Allowed.{Allowed, totalUpTo, total}
 use Rattle.auction.specs.Eligible.{eligible}
 use Rattle.auction.specs.Greedy.{winnerAt, pageUpTo, greedyPage}
-use Rattle.sheet.specs.Round.{bidOf}
+use Rattle.sheet.specs.Round.{bidOf, effectOf, Has}
+use Rattle.sheet.proofs.RoundLaws.{any-of-set}
 use Rattle.auction.specs.Except.{Except, SameSets}
 use Rattle.choice.proofs.WinnerLaws.{winner-without}
 use Rattle.auction.proofs.PageLaws.{placed-put, placed-where, put-placed, keeps-placed}
@@ -129,3 +134,50 @@ upTo-sets r r′ x k m =
 pub page-sets : (r r′ : Round) → SameSets r r′ → r .slots ≤ 16 → greedyPage r ≡ greedyPage r′
 unfolding greedyPage
 page-sets r r′ x m = upTo-sets r r′ x (r .slots) m ∙ ap (pageUpTo r′) (x .slots)
+
+pub sets-sym : (r r′ : Round) → SameSets r r′ → SameSets r′ r
+sets-sym r r′ x =
+    record {
+      bidders = sym (x .bidders);
+      slots = sym (x .slots);
+      ticks = sym (x .ticks);
+      floors = λ k. sym (x .floors k);
+      bids = λ b. sym (x .bids b);
+      there = x .back;
+      back = x .there;
+    }
+
+-- so does what a page breaks, of anybody's list and of one bidder's
+module _ (r r′ : Round) (there : (q : Constraint) → Has r q → Has r′ q) (back : (q : Constraint) → Has r′ q → Has r q) (p : Page) where
+  pub breaks-sets : breaks r p ≡ breaks r′ p
+  unfolding breaks
+  breaks-sets = any-of-set r r′ (broken p) there back
+
+  pub own-sets : (i : ℕ) → breaksOwn r p i ≡ breaksOwn r′ p i
+  unfolding breaksOwn
+  own-sets i = any-of-set r r′ (λ q. eqb (q .owner .0) i && broken p q) there back
+
+-- and which pages are allowed; with the same effects their totals are the same
+pub allowed-sets : (r r′ : Round) → SameSets r r′ → (p : Page) → Allowed r p → Allowed r′ p
+allowed-sets r r′ x p ok =
+    record {
+      page =
+          record {
+            sized = ok .page .sized;
+            bidders = λ k. let h = ok .page .bidders k in let n = x .bidders in omega arith;
+            slots = λ k l. ok .page .slots k (let m = x .slots in omega arith);
+            once = ok .page .once;
+          };
+      unbroken = sym (breaks-sets r r′ (x .there) (x .back) p) ∙ ok .unbroken;
+      reached = λ k s. let h = ok .reached k s in let floor = x .floors k in let bid = x .bids (at p k) in omega arith;
+    }
+
+module _ (r r′ : Round) (x : SameSets r r′) (effects : (k : ℕ) → effectOf r k ≡ effectOf r′ k) (p : Page) where
+  total-upTo : (k : ℕ) → totalUpTo r p k ≡ totalUpTo r′ p k
+  unfolding totalUpTo
+  total-upTo zero = refl
+  total-upTo (suc k) = ap₂ _+_ (total-upTo k) (ap₂ _*_ (x .bids (at p (suc k))) (effects (suc k)))
+
+  pub total-sets : total r p ≡ total r′ p
+  unfolding total
+  total-sets = total-upTo (r .slots) ∙ ap (totalUpTo r′ p) (x .slots)

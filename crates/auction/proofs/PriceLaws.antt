@@ -40,9 +40,9 @@ use Rattle.choice.proofs.CriticalLaws.{
   floor-asks-reaches,
   floor-asks-least,
 }
-use Rattle.basis.proofs.NumberLaws.{same-or-not}
+use Rattle.basis.proofs.NumberLaws.{same-or-not, below-or-not}
 use Rattle.auction.proofs.BrokenLaws.{eligible-reaches, eligible-sentence, eligible-unplaced}
-use Rattle.auction.proofs.GreedyLaws.{upTo-next, upTo-sized, slot-winner, winner-eligible, winner-bidder, empty-nobody}
+use Rattle.auction.proofs.GreedyLaws.{upTo-next, upTo-sized, upTo-later, slot-winner, winner-eligible, winner-bidder, empty-nobody}
 use Rattle.auction.proofs.ExceptLaws.{winner-except, unplaced-before, eligible-except, upTo-sets, sets-except, page-sets}
 
 -- The replay's round: the same but for one bid.
@@ -380,27 +380,33 @@ price-except r r′ k w x proper proper′ inside some has-bid has-bid′ same w
     ∙ sym (price-critical r′ k w proper′ (omega arith) has-bid′ some won′)
 
 -- Prices depend on each owner's set of constraints only.
-pub price-sets : (r r′ : Round) → SameSets r r′ → ProperRound r → ProperRound r′ → (k : ℕ) → k < r .slots → price r (suc k) ≡ price r′ (suc k)
-price-sets r r′ x proper proper′ k inside =
+pub price-sets : (r r′ : Round) → SameSets r r′ → ProperRound r → ProperRound r′ → (k : ℕ) → price r (suc k) ≡ price r′ (suc k)
+unfolding greedyPage
+price-sets r r′ x proper proper′ k =
     let slots = x .slots in
     let few = proper .most-slots in
     let many = proper .most-bidders in
     let sized = proper .sized-bids in
     let sized′ = proper′ .sized-bids in
-    let same = upTo-sets r r′ x k (omega arith) in
     let page = page-sets r r′ x few in
+    ⊎-elim
+    (λ (z : at (greedyPage r) (suc k) ≡ 0).
+    empty-costs-nothing r (suc k) z ∙ sym (empty-costs-nothing r′ (suc k) (ap (λ (p : Page). at p (suc k)) (sym page) ∙ z)))
+    (λ (z : at (greedyPage r) (suc k) ≡ 0 → ⊥).
+    let inside : k < r .slots
+    = ⊎-elim
+    (λ (l : k < r .slots). l)
+    (λ (l : r .slots ≤ k). absurd (z (upTo-later r (r .slots) (suc k) (omega arith))))
+    (below-or-not k (r .slots)) in
+    let same = upTo-sets r r′ x k (omega arith) in
     let here = slot-winner r few k inside in
     let here′ = slot-winner r′ (omega arith) k (omega arith) in
-    ⊎-elim
-    (λ (z : winnerAt r (pageUpTo r k) (suc k) ≡ 0).
-    empty-costs-nothing r (suc k) (here ∙ z)
-    ∙ sym (empty-costs-nothing r′ (suc k) (ap (λ (p : Page). at p (suc k)) (sym page) ∙ here ∙ z)))
-    (λ (z : winnerAt r (pageUpTo r k) (suc k) ≡ 0 → ⊥).
     let w = winnerAt r (pageUpTo r k) (suc k) in
     let most = winner-bidder r (pageUpTo r k) (suc k) in
+    let some : w ≡ 0 → ⊥ = (λ e. z (here ∙ e)) in
     price-except r r′ k w (sets-except w r r′ x) proper proper′ inside (omega arith) (omega arith) (omega arith) same refl
     (sym here′ ∙ ap (λ (p : Page). at p (suc k)) (sym page) ∙ here))
-    (same-or-not (winnerAt r (pageUpTo r k) (suc k)) 0)
+    (same-or-not (at (greedyPage r) (suc k)) 0)
 
 -- a price is at most the largest bid, so four bytes hold it
 paid-low : (r : Round) (k w : ℕ) → ProperRound r → priceFor r k w ≤ 1_000_000_000

@@ -1,16 +1,16 @@
 -- What stands where after the four bytes of a number are written: the number itself at their offset, and elsewhere what stood there.
 -- A run of stores changes no index before or after it, and gives the j-th index of it its j-th value.
--- Last, a number by its four bytes, and a byte in lists of one length one after another. Assumes nothing.
+-- Last, a number by its four bytes, a byte in lists of one length one after another, and the bytes from a place within a list. Assumes nothing.
 use Prim.Native.Nat.{ℕ, zero, suc, _+_, _*_, _/_, _%_, _^_, _<_, _≤_}
 use mathlib.Core.List.{List, [], _∷_, _++_, append-assoc}
 use mathlib.Core.Logic.{_⊎_, inl, inr, ⊎-elim}
-use mathlib.Core.Path.{_≡_, refl, sym, _∙_, ap}
+use mathlib.Core.Path.{_≡_, refl, sym, _∙_, ap, ap₂}
 use native.Mathlib.Nat.{add-zero, eq-or-lt-of-le, le-of-suc-le-suc, not-suc-le-zero, mod-eq-of-lt, mod-add-div, div-div-eq-div-mul}
 use native.Mathlib.Omega.{arith}
-use lib.ListN.{length, set, length-set, List·getD-append}
-use lib.Seq.{getD-set-same, getD-set-other, getD-append-add, sets}
+use lib.ListN.{length, set, take, drop, length-set, length-drop, List·getD-append}
+use lib.Seq.{getD-set-same, getD-set-other, getD-append-add, sets, take-suc, getD-drop}
 use Rattle.basis.specs.Bytes.{byteAt, word16At, word32At, bytes32}
-use Rattle.basis.specs.Rows.{joined}
+use Rattle.basis.specs.Rows.{row, joined}
 use Rattle.basis.proofs.RowLaws.{length-joined}
 
 -- a run of stores leaves each index before it,
@@ -142,3 +142,18 @@ joined-byte f c each (suc n) k j rest l b =
     ∙ ap (λ (m : ℕ). byteAt (f m) j) (sym q))
     (λ (lt : k < n). joined-byte f c each n k j (f n ++ rest) lt b)
     (eq-or-lt-of-le (le-of-suc-le-suc l))
+
+-- the bytes from a place within a list
+pub bytes-stand : (l : List ℕ) (at n : ℕ) → at + n ≤ length l → take n (drop at l) ≡ row (λ i. byteAt l (at + i)) n
+unfolding row
+bytes-stand l at zero room = refl
+bytes-stand l at (suc n) room =
+    let rest = length-drop at l in
+    take-suc (drop at l) n 0 (omega arith)
+    ∙ ap₂ (λ (r : List ℕ) (b : ℕ). r ++ (b ∷ [])) (bytes-stand l at n (omega arith)) (getD-drop at l n 0)
+
+-- so four of them
+pub four-stand : (l : List ℕ) (at : ℕ) → at + 4 ≤ length l → take 4 (drop at l) ≡ byteAt l at ∷ byteAt l (at + 1) ∷ byteAt l (at + 2) ∷ byteAt l (at + 3) ∷ []
+unfolding row
+four-stand l at room =
+    bytes-stand l at 4 room ∙ ap (λ (i : ℕ). byteAt l i ∷ byteAt l (at + 1) ∷ byteAt l (at + 2) ∷ byteAt l (at + 3) ∷ []) (add-zero at)

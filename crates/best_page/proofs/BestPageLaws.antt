@@ -10,9 +10,10 @@ use Rattle.basis.specs.Tests.{allBelow}
 use Rattle.basis.proofs.TestLaws.{holds-or-fails, not-both, and-holds, and-parts, or-parts, or-left, or-right, not-holds, at-all, all-at}
 use Rattle.sheet.specs.declared.Page.{Page}
 use Rattle.sheet.specs.declared.Round.{Round}
-use Rattle.sheet.specs.Round.{bidOf, floorOf}
+use Rattle.sheet.specs.Round.{bidOf, effectOf, floorOf}
 use Rattle.auction.specs.Page.{at, put, emptyPage, Sized}
 use Rattle.auction.specs.Broken.{breaks}
+use Rattle.auction.specs.Except.{SameSets}
 use Rattle.sheet.specs.Proper.{ProperRound}
 use Rattle.auction.proofs.PageLaws.{at-zero, put-sized, empty-sized, at-put-same, at-put-other, at-empty}
 use Rattle.basis.proofs.NumberLaws.{same-or-not, below-or-not}
@@ -23,7 +24,7 @@ use Rattle.best_page.specs.EngineSearch.{Searched}
 use Rattle.best_page.specs.EngineSearch.{Agrees, Tried}
 use Rattle.best_page.specs.BestPage.{nobodyTwice, reachesFloors, isAllowed, keep, eachChoice, tryAll, bestPage}
 use Rattle.best_page.specs.declared.Answer.{Answer}
-use Rattle.best_page.proofs.BestLaws.{best-unique}
+use Rattle.best_page.proofs.BestLaws.{best-unique, best-sets}
 use Rattle.best_page.proofs.SearchLaws.{searched-none, searched-best}
 use Rattle.best_page.proofs.TriedLaws.{all-agree, settled-only, none-tried, choice-tried, all-tried}
 
@@ -222,3 +223,9 @@ module _ (r : Round) (few : r .slots ≤ 16) where
 
   pub is-best-page : ProperRound r → (p : Page) → Best r p → p ≡ bestPage r
   is-best-page c p b = best-unique r p (bestPage r) b (best-page c)
+
+-- so rounds with the same sets of constraints and the same effects have the same best page
+pub best-page-sets : (r r′ : Round) → SameSets r r′ → ((k : ℕ) → effectOf r k ≡ effectOf r′ k) → ProperRound r → ProperRound r′ → bestPage r ≡ bestPage r′
+best-page-sets r r′ x effects proper proper′ =
+    is-best-page r′ (proper′ .most-slots) proper′ (bestPage r)
+    (best-sets r r′ x effects (bestPage r) (best-page r (proper .most-slots) proper))

@@ -121,3 +121,8 @@ module _ (r : Round) (s out : List ℕ) where
 -- a call on an accepted sheet within the bounds and with room is not refused
 pub best-unrefused : (s out : List ℕ) → Accepted s → bidderCount s ≤ 8 → slotCount s ≤ 8 → slotCount s ≤ length out → bestRefusal s out ≡ 0
 best-unrefused s out ok m n room = left-of-best s out ok ∙ within-bounds (roundOf s) s out m n room
+
+-- what is written depends on the best page and on how many slots there are
+pub buffer-same : (r r′ : Round) → r .slots ≡ r′ .slots → bestPage r ≡ bestPage r′ → (out : List ℕ) → bestBuffer r out ≡ bestBuffer r′ out
+unfolding bestBuffer
+buffer-same r r′ slots page out = ap₂ (λ (p : Page) (m : ℕ). row (λ k. at p (suc k)) m ++ drop m out) page slots

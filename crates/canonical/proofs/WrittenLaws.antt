@@ -15,7 +15,7 @@ use lib.ListN.{length, getD, take, drop, length-drop, take-append-drop}
 use lib.Seq.{take-add, take-all, take-suc, drop-drop, getD-drop}
 use Rattle.basis.specs.Bytes.{byteAt, word16At, word32At, bytes32}
 use Rattle.basis.specs.Rows.{row, joined}
-use Rattle.basis.proofs.BytesLaws.{word-bytes}
+use Rattle.basis.proofs.BytesLaws.{word-bytes, bytes-stand, four-stand}
 use Rattle.basis.proofs.RowLaws.{length-row, getD-row, joined-same}
 use Rattle.basis.proofs.TestLaws.{and-parts, same-tests}
 use Rattle.sheet.specs.Sheet.{
@@ -90,21 +90,6 @@ written-joined s =
     (words-row (λ k. effectField s (suc k)) (slotCount s))
     (words-row (λ i. bidField s (suc i)) (bidderCount s))
 
--- bytes from a place within a list
-bytes-row : (l : List ℕ) (at n : ℕ) → at + n ≤ length l → take n (drop at l) ≡ row (λ i. byteAt l (at + i)) n
-unfolding row
-bytes-row l at zero room = refl
-bytes-row l at (suc n) room =
-    let rest = length-drop at l in
-    take-suc (drop at l) n 0 (omega arith)
-    ∙ ap₂ (λ (r : List ℕ) (b : ℕ). r ++ (b ∷ [])) (bytes-row l at n (omega arith)) (getD-drop at l n 0)
-
--- four of them,
-four : (l : List ℕ) (at : ℕ) → at + 4 ≤ length l → take 4 (drop at l) ≡ byteAt l at ∷ byteAt l (at + 1) ∷ byteAt l (at + 2) ∷ byteAt l (at + 3) ∷ []
-unfolding row
-four l at room =
-    bytes-row l at 4 room ∙ ap (λ (i : ℕ). byteAt l i ∷ byteAt l (at + 1) ∷ byteAt l (at + 2) ∷ byteAt l (at + 3) ∷ []) (add-zero at)
-
 -- which are those of the word there
 word-stands : (l : List ℕ) (at : ℕ) → ((i : ℕ) → byteAt l i < 256) → at + 4 ≤ length l → take 4 (drop at l) ≡ bytes32 (word32At l at)
 unfolding bytes32 word32At
@@ -112,7 +97,7 @@ word-stands l at small room =
     let parts = word-bytes (byteAt l at) (byteAt l (at + 1)) (byteAt l (at + 2)) (byteAt l (at + 3))
     (small at) (small (at + 1)) (small (at + 2)) (small (at + 3)) in
     let last : word32At l at / 16777216 % 256 ≡ byteAt l (at + 3) = ap (λ (x : ℕ). x % 256) (parts .1 .1 .1) ∙ mod-eq-of-lt (small (at + 3)) in
-    four l at room
+    four-stand l at room
     ∙ sym (ap₂ (λ (a b : ℕ). a ∷ b ∷ word32At l at / 65536 % 256 ∷ word32At l at / 16777216 % 256 ∷ []) (parts .0) (parts .1 .0)
     ∙ ap₂ (λ (c d : ℕ). byteAt l at ∷ byteAt l (at + 1) ∷ c ∷ d ∷ []) (parts .1 .1 .0) last)
 
@@ -149,7 +134,7 @@ module _ (s : List ℕ) (ok : Accepted s) (small : (i : ℕ) → byteAt s i < 25
   unfolding conditionField quadBytes ownerField ownSlotField otherField otherSlotField
   conditions-stand =
       stretch (λ k. quadBytes (conditionField s k)) s (constraintsStart s) (constraintCount s)
-      (λ k l. four s (constraintsStart s + 4 * k) (let whole = accepted-sheet s ok .counts .whole in omega arith))
+      (λ k l. four-stand s (constraintsStart s + 4 * k) (let whole = accepted-sheet s ok .counts .whole in omega arith))
       ∙ sym (quads-row (conditionField s) (constraintCount s))
 
   -- effects and bids in one stretch
@@ -184,7 +169,7 @@ module _ (s : List ℕ) (ok : Accepted s) (small : (i : ℕ) → byteAt s i < 25
   mark-stands : version s ≡ 2 → take 5 s ≡ 0x50 ∷ 0x41 ∷ 0x53 ∷ 2 ∷ 0 ∷ []
   unfolding row
   mark-stands two =
-      bytes-row s 0 5 (let nine = accepted-sheet s ok .form .header in omega arith)
+      bytes-stand s 0 5 (let nine = accepted-sheet s ok .form .header in omega arith)
       ∙ ap₂ (λ (a b : ℕ). a ∷ b ∷ byteAt s 2 ∷ byteAt s 3 ∷ byteAt s 4 ∷ []) (mark-bytes .0) (mark-bytes .1 .0)
       ∙ ap (λ (c : ℕ). 0x50 ∷ 0x41 ∷ c ∷ byteAt s 3 ∷ byteAt s 4 ∷ []) (mark-bytes .1 .1)
       ∙ ap₂ (λ (d e : ℕ). 0x50 ∷ 0x41 ∷ 0x53 ∷ d ∷ e ∷ []) (version-bytes two .0) (version-bytes two .1)
@@ -195,7 +180,7 @@ module _ (s : List ℕ) (ok : Accepted s) (small : (i : ℕ) → byteAt s i < 25
       let nine = accepted-sheet s ok .form .header in
       let low : byteAt s 7 ≡ constraintCount s % 256 = (let b = small 7 in omega arith) in
       let high : byteAt s 8 ≡ constraintCount s / 256 = (let b = small 7 in omega arith) in
-      four s 5 nine ∙ ap₂ (λ (c d : ℕ). bidderCount s ∷ slotCount s ∷ c ∷ d ∷ []) low high
+      four-stand s 5 nine ∙ ap₂ (λ (c d : ℕ). bidderCount s ∷ slotCount s ∷ c ∷ d ∷ []) low high
 
   header-stands : version s ≡ 2 → take 13 s ≡ header (tickField s) (bidderCount s) (slotCount s) (constraintCount s)
   unfolding header

@@ -119,15 +119,18 @@ fn copy_whole(sheet: &[u8], result: &mut [u8]) -> Written
     requires { ⌜ Accepted (now sheet) × (version (now sheet) ≡ 2) ⌝ }
     ensures { λ r. ⌜ CanonicalWritten (now (sheet .entry)) (now (result .entry)) r (now (result .exit)) ⌝ }
 {
-    let length = sheet.len();
-    if result.len() < length {
+    let size = sheet.len();
+    if result.len() < size {
         return Written {
             refusal: 19,
             length: 0,
         };
     }
-    copy(result, 0, sheet, 0, length);
-    Written { refusal: 0, length }
+    copy(result, 0, sheet, 0, size);
+    Written {
+        refusal: 0,
+        length: size,
+    }
 }
 
 // The number of the first rule that the call breaks, the check's or 19, with every byte of the buffer as it was; or 0 and the length of the one sheet

@@ -2,6 +2,7 @@
 use Prim.Native.Nat.{ℕ}
 use mathlib.Core.Path.{_≡_, sym, _∙_}
 use native.Mathlib.Omega.{arith}
+use lib.ListN.{length}
 use Rattle.basis.specs.First.{unlessRefused}
 use Rattle.basis.proofs.FirstLaws.{refused-leaves, answered-gives}
 use Rattle.sheet.specs.Round.{roundOf, withFloors}
@@ -16,8 +17,9 @@ use Rattle.gain.specs.Call.{gainRefusal, gainFloorsRefusal}
 use Rattle.best_page.specs.BestPage.{bestPage}
 use Rattle.best_search.specs.Call.{bestRefusal, bestFloorsRefusal, bestBuffer}
 use Rattle.owner_part.specs.OwnerPart.{partRefusal, bytesBefore, partLength}
+use Rattle.canonical.specs.Canonical.{canonicalSheet, canonicalRefusal, canonicalBuffer}
 use Rattle.pas.specs.Calls.{yesNumber}
-use Rattle.demands.specs.Demands.{Owed, DemandOne, DemandTwo, DemandThree, RequestThree, RequestFour, RequestFive, RequestSeven}
+use Rattle.demands.specs.Demands.{Owed, DemandOne, DemandTwo, DemandThree, RequestThree, RequestFour, RequestFive, RequestSix, RequestSeven}
 use Rattle.demands.proofs.FloorsLaws.{
   play-without,
   gain-without,
@@ -42,6 +44,7 @@ use Rattle.demands.proofs.HonestLaws.{honest-with, honest-demand}
 use Rattle.demands.proofs.AnswerLaws.{answered-in-order}
 use Rattle.demands.proofs.TickLaws.{request-four-holds}
 use Rattle.demands.proofs.OwnerOrderLaws.{request-five-holds}
+use Rattle.demands.proofs.CanonicalLaws.{request-six-holds}
 
 -- what stands in lent memory is what stood there, or the result
 owed : {A : Type 0} (number first : ℕ) (given before after : A) → number ≡ first → after ≡ unlessRefused first given before →
@@ -91,6 +94,14 @@ demand-one =
             refused = λ h. (buffer .refused h, sum .refused h);
             answered = λ z. (buffer .answered z, sum .answered z);
           };
+      canonical = λ s out out′ before number after g.
+          let buffer = owed number (canonicalRefusal s out) (canonicalBuffer s out) out out′ (g .number) (g .buffer) in
+          let bytes = owed number (canonicalRefusal s out) (length (canonicalSheet s)) before after (g .number) (g .written) in
+          record {
+            first-number = g .number;
+            refused = λ h. (buffer .refused h, bytes .refused h);
+            answered = λ z. (buffer .answered z, bytes .answered z);
+          };
     }
 
 -- Demand 2: the result's page and prices, and the best page, with floors of 0.
@@ -120,6 +131,10 @@ request-four = request-four-holds
 -- Request S-5: the order of the conditions in version 2, and one bidder's part.
 pub request-five : RequestFive
 request-five = request-five-holds
+
+-- Request S-6: one sheet for one round.
+pub request-six : RequestSix
+request-six = request-six-holds
 
 -- Request S-7: a floor under each place.
 pub request-seven : RequestSeven

@@ -18,10 +18,9 @@ use Rattle.sheet.specs.declared.Round.{Round}
 use Rattle.sheet.specs.Sheet.{bidderCount, slotCount, tickField}
 use Rattle.sheet.specs.Refusal.{refusalOf, Accepted}
 use Rattle.sheet.specs.Round.{roundOf, withFloors, bidOf, floorOf}
-use Rattle.sheet.specs.Proper.{ProperFloors}
 use Rattle.sheet.proofs.AcceptedLaws.{accepted-sheet}
-use Rattle.sheet.proofs.RoundLaws.{round-proper, round-bidders, round-slots, round-tick, no-floor}
-use Rattle.sheet.proofs.FloorLaws.{floor-under, floors-proper, floors-slots, floors-bidders, floors-tick, without-floors}
+use Rattle.sheet.proofs.RoundLaws.{round-bidders, round-slots, round-tick, no-floor}
+use Rattle.sheet.proofs.FloorLaws.{floor-under, floors-slots, floors-bidders, floors-tick, without-floors}
 use Rattle.floors.specs.Floors.{floorsRefusal}
 use Rattle.floors.proofs.FloorLaws as floors
 use Rattle.auction.specs.Page.{at, put, placed}
@@ -105,12 +104,12 @@ none-refusal s floored plain rest same e rest′ e′ =
     (λ (h : refusalOf s ≡ 0 → ⊥). e ∙ orElse-left (refusalOf s) rest h ∙ sym (e′ ∙ orElse-left (refusalOf s) rest′ h))
     (same-or-not (refusalOf s) 0)
 
--- memory that is written by the round of an accepted sheet, or left
-none-left : {A : Type 0} (s : List ℕ) (k : ℕ) (given : Round → A) (before : A) → (k ≡ 0 → refusalOf s ≡ 0) →
-    unlessRefused k (given (withFloors (roundOf s) (noFloors s))) before ≡ unlessRefused k (given (roundOf s)) before
+-- memory that is written or left, by equal numbers and with equal answers where there is one
+pub left-same : {A : Type 0} (k k′ : ℕ) (given given′ before : A) → k ≡ k′ → (k ≡ 0 → given ≡ given′) →
+    unlessRefused k given before ≡ unlessRefused k′ given′ before
 unfolding unlessRefused
-none-left s zero given before accepted = ap given (none-round s (accepted refl))
-none-left s (suc k) given before accepted = refl
+left-same zero k′ given given′ before e same = same refl ∙ ap (λ (n : ℕ). unlessRefused n given′ before) e
+left-same (suc k) k′ given given′ before e same = ap (λ (n : ℕ). unlessRefused n given′ before) e
 
 play-none : (s out : List ℕ) → playFloorsRefusal (noFloors s) s out ≡ playRefusal s out
 unfolding playFloorsRefusal playRefusal
@@ -124,12 +123,12 @@ best-none : (s out : List ℕ) → bestFloorsRefusal (noFloors s) s out ≡ best
 unfolding bestFloorsRefusal bestRefusal
 best-none s out = none-refusal s _ _ _ (λ ok. best-then (noFloors s) s (none-floored s ok) out) refl _ refl
 
--- what is written
+-- what is written by the round of an accepted sheet, or left
 written-none : {A : Type 0} (s : List ℕ) (k k′ rest : ℕ) (given : Round → A) (before : A) → k ≡ k′ → k′ ≡ orElse (refusalOf s) rest →
     unlessRefused k (given (withFloors (roundOf s) (noFloors s))) before ≡ unlessRefused k′ (given (roundOf s)) before
 written-none s k k′ rest given before e number =
-    ap (λ (n : ℕ). unlessRefused n (given (withFloors (roundOf s) (noFloors s))) before) e
-    ∙ none-left s k′ given before (λ z. orElse-none (refusalOf s) rest (sym number ∙ z) .0)
+    left-same k k′ (given (withFloors (roundOf s) (noFloors s))) (given (roundOf s)) before e
+    (λ z. ap given (none-round s (orElse-none (refusalOf s) rest (sym number ∙ sym e ∙ z) .0)))
 
 pub play-without : (s out out′ : List ℕ) (number : ℕ) → Exactly (Played s out number out′) (PlayedFloors (noFloors s) s out number out′)
 unfolding playRefusal
@@ -241,8 +240,7 @@ unfolding bestBuffer
 best-with f s out out′ before number after right few-bidders few-slots room g =
     let none : bestFloorsRefusal f s out ≡ 0 = best-then f s right out ∙ searching.best-unrefused s out (right .accepted) few-bidders few-slots room in
     let r = withFloors (roundOf s) f in
-    let proper = floors-proper (roundOf s) f (round-proper s (right .accepted))
-    (subst (λ (m : ℕ). ProperFloors m f) (sym (round-slots s)) (floors.passed-proper (slotCount s) f (passed f s right))) in (
+    let proper = floors.passed-round s f (right .accepted) (passed f s right) in (
       g .number ∙ none,
       record {
         page = bestPage r;

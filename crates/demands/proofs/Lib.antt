@@ -5,4 +5,6 @@ pub mod HonestLaws
 pub mod AnswerLaws
 pub mod TickLaws
 pub mod OwnerOrderLaws
+pub mod SameRoundLaws
+pub mod CanonicalLaws
 pub mod Demands

@@ -12,12 +12,12 @@ use Rattle.basis.proofs.NumberLaws.{same-or-not}
 use Rattle.sheet.specs.declared.Round.{Round}
 use Rattle.sheet.specs.Sheet.{bidderCount, slotCount, tickField, bidField}
 use Rattle.sheet.specs.Refusal.{legalBid, Accepted}
-use Rattle.sheet.specs.Proper.{ProperRound, ProperFloors}
+use Rattle.sheet.specs.Proper.{ProperRound}
 use Rattle.sheet.specs.Round.{roundOf, withFloors, floorOf}
-use Rattle.sheet.proofs.RoundLaws.{round-proper, round-bid, round-bidders, round-slots, round-tick}
-use Rattle.sheet.proofs.FloorLaws.{floors-proper, floors-slots, floors-bidders, floors-tick, floors-bid}
+use Rattle.sheet.proofs.RoundLaws.{round-bid, round-bidders, round-slots, round-tick}
+use Rattle.sheet.proofs.FloorLaws.{floors-slots, floors-bidders, floors-tick, floors-bid}
 use Rattle.floors.specs.Floors.{floorsRefusal}
-use Rattle.floors.proofs.FloorLaws.{passed-proper}
+use Rattle.floors.proofs.FloorLaws.{passed-round}
 use Rattle.auction.specs.Page.{at}
 use Rattle.auction.specs.Eligible.{eligible}
 use Rattle.auction.specs.Greedy.{winnerAt, pageUpTo, greedyPage}
@@ -52,9 +52,7 @@ module _ (f s : List ℕ) (ok : Accepted s) (floored : floorsRefusal (slotCount 
   tick-is = floors-tick (roundOf s) f ∙ round-tick s
 
   proper : ProperRound r
-  proper =
-      floors-proper (roundOf s) f (round-proper s ok)
-      (subst (λ (m : ℕ). ProperFloors m f) (sym (round-slots s)) (passed-proper (slotCount s) f floored))
+  proper = passed-round s f ok floored
 
   -- what it says of a slot
   module _ (out out′ : List ℕ) (number : ℕ) (room : 5 * slotCount s ≤ length out) (played : Plays s out number out′) where

@@ -22,7 +22,7 @@ use Rattle.demands.specs.Demands.{Exactly, RequestFour}
 version-one : (s : List ℕ) → version s ≡ 1 → tickField s ≡ 1
 version-one s e = tick-other s (λ z. absurd (omega arith))
 
-lengths : (s : List ℕ) → Accepted s →
+pub lengths : (s : List ℕ) → Accepted s →
     ((version s ≡ 1) × (length s ≡ 9 + 4 * (slotCount s + bidderCount s + constraintCount s)))
     ⊎ ((version s ≡ 2) × (length s ≡ 13 + 4 * (slotCount s + bidderCount s + constraintCount s)))
 lengths s ok =

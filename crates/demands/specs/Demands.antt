@@ -325,7 +325,8 @@ pub record RequestSeven : Type 0 where
 -- and the sets of conditions are equal. Writing again from the written sheet changes nothing, and both sheets play to the same page and prices. Refusal 19
 -- covers its buffer."
 
--- Two sheets get the same answers: each call returns and leaves with the one what it does with the other, as the played sheet and as the truth sheet.
+-- Two sheets get the same answers: playing, the downward test, gain and best page return and leave with the one what they do with the other, as the played sheet
+-- and as the truth sheet. (One bidder's part is of the sheet and not of the round: in version 1 there is none.)
 pub record SameAnswers (s t : List ℕ) : Type 0 where
   pub play : (out out′ : List ℕ) (number : ℕ) → Exactly (Played s out number out′) (Played t out number out′)
   pub downward : (i before number after : ℕ) → Exactly (DownwardGiven s i before number after) (DownwardGiven t i before number after)

@@ -1,5 +1,5 @@
 -- What the downward test says of a list: two kinds are the same exactly when they are equal, and a list that passes has each constraint
--- one lower; and what the call's answer says. Assumes nothing.
+-- one lower; that it sees only which constraints there are; and what the call's answer says. Assumes nothing.
 use Prim.Native.Nat.{ℕ, zero, suc, _<_, _≤_}
 use borrow.Author.Tests.{eq-eqb, eqb-true, eqb-false, lt-ltb, ltb-false}
 use mathlib.Core.Bool.{Bool, true, false, not, _&&_, _||_, false≢true}
@@ -7,6 +7,7 @@ use mathlib.Core.List.{List}
 use mathlib.Core.Path.{_≡_, refl, sym, _∙_, ap, ap₂}
 use native.Mathlib.Omega.{arith}
 use lib.Dec.{eqb, ltb}
+use Rattle.basis.specs.Tests.{allBelow}
 use Rattle.basis.proofs.FirstLaws.{orElse-none, when-none}
 use Rattle.basis.proofs.TestLaws.{and-holds, and-parts, or-none, any-at, any-where, all-at}
 use Rattle.sheet.specs.declared.Kind.{Kind}
@@ -16,6 +17,7 @@ use Rattle.sheet.specs.declared.Round.{Round}
 use Rattle.sheet.specs.Refusal.{refusalOf}
 use Rattle.sheet.specs.Sheet.{bidderCount}
 use Rattle.sheet.specs.Round.{bidder, slot, roundOf, constraintAt, Has}
+use Rattle.sheet.proofs.RoundLaws.{any-of-set, all-of-set}
 use Rattle.downward.specs.Downward.{ownSlot, oneLower, sameKind, listHas, asksLower, downward}
 use Rattle.downward.specs.Call.{testRefusal, testedFor, testedOf}
 use Rattle.downward.specs.declared.Tested.{Tested}
@@ -99,6 +101,27 @@ downward-lower r i e q h own some less =
     let owner : constraintAt r (w .0) .owner .0 ≡ q .owner .0 = w .2 ∙ sym own in
     let kind : constraintAt r (w .0) .kind ≡ oneLower (q .kind) = w .3 ∙ ap (λ (x : Constraint). oneLower (x .kind)) here in
     (w .0, w .1, λ x. record { owner = bidder (owner x); kind = kind x })
+
+-- the test sees only which constraints the round has, and how many slots
+module _ (r r′ : Round) (i : ℕ) (slots : r .slots ≡ r′ .slots)
+    (there : (q : Constraint) → Has r q → Has r′ q) (back : (q : Constraint) → Has r′ q → Has r q) where
+  list-sets : (kind : Kind) → listHas r i kind ≡ listHas r′ i kind
+  unfolding listHas
+  list-sets kind = any-of-set r r′ (λ q. eqb (q .owner .0) i && sameKind (q .kind) kind) there back
+
+  asks-sets : (kind : Kind) → asksLower r kind ≡ asksLower r′ kind
+  unfolding asksLower
+  asks-sets kind = ap (λ (m : ℕ). ltb 0 (ownSlot kind) && ltb (ownSlot kind) m) slots
+
+  pub downward-sets : downward r i ≡ downward r′ i
+  unfolding downward
+  downward-sets =
+      all-of-set r r′ (λ q. not (eqb (q .owner .0) i && asksLower r (q .kind)) || listHas r i (oneLower (q .kind))) there back
+      ∙ (λ x.
+      allBelow
+      (λ a.
+      not (eqb (constraintAt r′ a .owner .0) i && asks-sets (constraintAt r′ a .kind) x) || list-sets (oneLower (constraintAt r′ a .kind)) x)
+      (r′ .used))
 
 -- an answer "0 and yes" says that the call broke no rule and that the list passes,
 answer-yes : (k : ℕ) (s : List ℕ) (i : ℕ) → testedFor k s i ≡ record { refusal = 0; yes = true } → (k ≡ 0) × (downward (roundOf s) i ≡ true)

@@ -4,7 +4,7 @@ use borrow.Author.Tests.{eq-eqb, ne-eqb, lt-ltb, le-ltb, ltb-false}
 use mathlib.Core.Bool.{Bool, true, false, not}
 use mathlib.Core.List.{List}
 use mathlib.Core.Logic.{⊎-elim}
-use mathlib.Core.Path.{_≡_, ap, ap₂}
+use mathlib.Core.Path.{_≡_, sym, ap, ap₂, subst}
 use native.Mathlib.Omega.{arith}
 use lib.Dec.{eqb, ltb}
 use lib.ListN.{length, getD, replicate, List·getD-eq-default}
@@ -14,8 +14,11 @@ use Rattle.basis.proofs.NumberLaws.{same-or-not, below-or-not}
 use Rattle.basis.proofs.TestLaws.{any-at, any-none, none-any, not-both, not-holds, not-fails}
 use Rattle.sheet.specs.Sheet.{slotCount, tickField}
 use Rattle.sheet.specs.Refusal.{Accepted}
-use Rattle.sheet.specs.Proper.{ProperFloors}
+use Rattle.sheet.specs.Round.{roundOf, withFloors}
+use Rattle.sheet.specs.Proper.{ProperRound, ProperFloors}
 use Rattle.sheet.proofs.AcceptedLaws.{accepted-sheet}
+use Rattle.sheet.proofs.RoundLaws.{round-slots, round-proper}
+use Rattle.sheet.proofs.FloorLaws.{floors-proper}
 use Rattle.choice.specs.Critical.{Asked}
 use Rattle.choice.proofs.CriticalLaws.{zeros-asked}
 use Rattle.floors.specs.Floors.{someTooHigh, floorsRefusal}
@@ -68,6 +71,12 @@ passed-proper m floors e =
           (λ (l : length floors ≤ k). let past : getD floors k 0 ≡ 0 = List·getD-eq-default floors 0 l in omega arith)
           (below-or-not k (length floors));
     }
+
+-- so an accepted sheet's round with the floors of one is proper
+pub passed-round : (s floors : List ℕ) → Accepted s → floorsRefusal (slotCount s) floors ≡ 0 → ProperRound (withFloors (roundOf s) floors)
+passed-round s floors ok e =
+    floors-proper (roundOf s) floors (round-proper s ok)
+    (subst (λ (m : ℕ). ProperFloors m floors) (sym (round-slots s)) (passed-proper (slotCount s) floors e))
 
 -- floors of 0 ask nothing of an accepted sheet
 pub none-asked : (s : List ℕ) → Accepted s → Asked (tickField s) (slotCount s) (replicate 16 0) (replicate 16 0)

@@ -1,9 +1,9 @@
--- Where a bidder stands, and what it gains there. Assumes nothing.
+-- Where a bidder stands, and what it gains there; on which parts of the rounds that depends. Assumes nothing.
 use Prim.Native.Nat.{ℕ, zero, suc, _+_, _*_, _-_, _<_, _≤_}
 use borrow.Author.Tests.{eq-eqb, ne-eqb, lt-ltb, le-ltb}
 use mathlib.Core.Bool.{Bool, false, cond}
 use mathlib.Core.Logic.{_⊎_, ⊎-elim}
-use mathlib.Core.Path.{_≡_, refl, sym, _∙_, ap}
+use mathlib.Core.Path.{_≡_, refl, sym, _∙_, ap, ap₂}
 use native.Mathlib.Nat.{not-suc-le-zero, eq-or-lt-of-le, mul-zero, sub-zero, mul-le-mul}
 use native.Mathlib.Omega.{arith}
 use lib.Dec.{T, eqb, leb, le→leb}
@@ -12,17 +12,23 @@ use lib.IntN.{ℤ, pos, negsuc, negℤ, _-ℤ_, _*ℤ_}
 use Rattle.basis.specs.First.{_when_otherwise_, firstOver}
 use Rattle.basis.proofs.FirstLaws.{first-found, first-none, orElse-left, orElse-right, first-all-none}
 use Rattle.basis.proofs.TestLaws.{not-both, fails}
+use Rattle.sheet.specs.declared.Constraint.{Constraint}
 use Rattle.sheet.specs.declared.Page.{Page}
 use Rattle.sheet.specs.declared.Round.{Round}
+use Rattle.sheet.specs.Round.{effectOf, Has}
 use Rattle.auction.specs.Page.{at, placed}
 use Rattle.auction.specs.Broken.{breaksOwn}
 use Rattle.auction.specs.Greedy.{winnerAt, pageUpTo, greedyPage}
+use Rattle.auction.specs.Price.{price}
+use Rattle.auction.specs.Except.{SameSets}
 use Rattle.sheet.specs.Proper.{ProperRound}
 use Rattle.auction.proofs.PageLaws.{placed-where}
 use Rattle.auction.proofs.BrokenLaws.{breaks-none, breaks-own-where}
 use Rattle.auction.proofs.GreedyLaws.{upTo-later, slot-winner, nobody-twice, greedy-unbroken}
+use Rattle.auction.proofs.ExceptLaws.{page-sets, own-sets}
+use Rattle.auction.proofs.PriceLaws.{price-sets}
 use Rattle.basis.proofs.NumberLaws.{same-or-not, below-or-not}
-use Rattle.gain.specs.Gain.{slotOf, gainIf}
+use Rattle.gain.specs.Gain.{slotOf, gainIf, gainAt, gainOf}
 
 abbrev pub seen : Page → ℕ → ℕ → ℕ
 seen p i k = suc k when eqb (at p (suc k)) i otherwise 0
@@ -162,3 +168,30 @@ module _ (r : Round) (c : ProperRound r) (i : ℕ) (some : 0 < i) where
       (λ t.
       let w = breaks-own-where r (greedyPage r) i t in
       not-both (w .2) (breaks-none r (greedyPage r) (greedy-unbroken r c) (w .0) (w .1)))
+
+-- The gain depends on each owner's set of constraints only: of the played round with its effects,
+module _ (r r′ : Round) (x : SameSets r r′) (proper : ProperRound r) (proper′ : ProperRound r′) (effects : (k : ℕ) → effectOf r k ≡ effectOf r′ k)
+    (t : Round) (i v : ℕ) where
+  gain-at-sets : (k : ℕ) → gainAt k r t i v ≡ gainAt k r′ t i v
+  unfolding gainAt
+  gain-at-sets zero = refl
+  gain-at-sets (suc k) =
+      let page = page-sets r r′ x (proper .most-slots) in
+      let paid = price-sets r r′ x proper proper′ k in
+      ap₂ (λ (p : Page) (e : ℕ). gainIf (breaksOwn t p i) e v (price r (suc k))) page (effects (suc k))
+      ∙ ap (gainIf (breaksOwn t (greedyPage r′) i) (effectOf r′ (suc k)) v) paid
+
+  pub gain-sets : gainOf r t i v ≡ gainOf r′ t i v
+  unfolding gainOf
+  gain-sets = ap (λ (p : Page). gainAt (slotOf p i) r t i v) (page-sets r r′ x (proper .most-slots)) ∙ gain-at-sets (slotOf (greedyPage r′) i)
+
+-- and of the round that tells the truth
+module _ (r t t′ : Round) (there : (q : Constraint) → Has t q → Has t′ q) (back : (q : Constraint) → Has t′ q → Has t q) (i v : ℕ) where
+  truth-at-sets : (k : ℕ) → gainAt k r t i v ≡ gainAt k r t′ i v
+  unfolding gainAt
+  truth-at-sets zero = refl
+  truth-at-sets (suc k) = ap (λ (b : Bool). gainIf b (effectOf r (suc k)) v (price r (suc k))) (own-sets t t′ there back (greedyPage r) i)
+
+  pub truth-sets : gainOf r t i v ≡ gainOf r t′ i v
+  unfolding gainOf
+  truth-sets = truth-at-sets (slotOf (greedyPage r) i)

@@ -5,19 +5,15 @@ use mathlib.Core.List.{List}
 use mathlib.Core.Path.{_≡_, refl, sym, _∙_, ap, subst, subst₂}
 use native.Mathlib.Omega.{arith}
 use lib.IntN.{ℤ}
-use lib.ListN.{getD}
 use lib.Signed.{_≤ℤ_}
-use Rattle.basis.specs.Rows.{padded}
-use Rattle.basis.proofs.RowLaws.{padded-same}
-use Rattle.sheet.specs.Sheet.{bidderCount, slotCount, effectField, bidField}
+use Rattle.sheet.specs.Sheet.{bidderCount, slotCount}
 use Rattle.sheet.specs.Refusal.{refusalOf, Accepted}
 use Rattle.sheet.specs.declared.Round.{Round}
-use Rattle.sheet.specs.Round.{roundOf, withFloors, bidOf, effectOf, floorOf, constraintAt}
-use Rattle.sheet.specs.Proper.{ProperRound, ProperFloors}
-use Rattle.sheet.proofs.RoundLaws.{round-bidders, round-slots, round-tick, round-bid, round-proper, sheet-round, round-sheet}
-use Rattle.sheet.proofs.FloorLaws.{floors-proper, floors-bid, floors-effect, floors-slots, floors-bidders, floors-tick, floors-has, has-floors}
+use Rattle.sheet.specs.Round.{roundOf, withFloors, constraintAt}
+use Rattle.sheet.proofs.RoundLaws.{round-bidders, round-slots, round-tick, round-bid, sheet-round, round-sheet, bids-of, effects-of}
+use Rattle.sheet.proofs.FloorLaws.{floors-bid, floors-effect, floors-slots, floors-bidders, floors-tick, floors-has, has-floors, floors-of}
 use Rattle.floors.specs.Floors.{floorsRefusal}
-use Rattle.floors.proofs.FloorLaws.{passed-proper}
+use Rattle.floors.proofs.FloorLaws.{passed-round}
 use Rattle.auction.specs.Broken.{breaksOwn}
 use Rattle.auction.specs.Greedy.{greedyPage}
 use Rattle.auction.specs.Except.{Except}
@@ -29,25 +25,6 @@ use Rattle.honesty.specs.Honesty.{DifferOnlyInList, Honesty}
 use Rattle.gain.specs.declared.Gained.{Gained}
 use Rattle.downward.proofs.DownwardLaws.{tested-yes}
 use Rattle.honesty.proofs.HonestyLaws.{honest-pays}
-
--- sheets with the same n and bids have rounds with the same bids, and so for effects
-bids-of : (s t : List ℕ) → bidderCount s ≡ bidderCount t → ((b : ℕ) → 0 < b → b ≤ bidderCount s → bidField s b ≡ bidField t b) →
-    (b : ℕ) → bidOf (roundOf s) b ≡ bidOf (roundOf t) b
-unfolding roundOf bidOf
-bids-of s t n f zero = refl
-bids-of s t n f (suc b) =
-    ap (λ (l : List ℕ). getD l b 0)
-    (padded-same (λ i. bidField s (suc i)) (λ i. bidField t (suc i)) (bidderCount s) 64 0 (λ i l. f (suc i) (omega arith) l)
-    ∙ ap (λ (k : ℕ). padded (λ i. bidField t (suc i)) k 64 0) n)
-
-effects-of : (s t : List ℕ) → slotCount s ≡ slotCount t → ((k : ℕ) → 0 < k → k ≤ slotCount s → effectField s k ≡ effectField t k) →
-    (k : ℕ) → effectOf (roundOf s) k ≡ effectOf (roundOf t) k
-unfolding roundOf effectOf
-effects-of s t m f zero = refl
-effects-of s t m f (suc k) =
-    ap (λ (l : List ℕ). getD l k 0)
-    (padded-same (λ k. effectField s (suc k)) (λ k. effectField t (suc k)) (slotCount s) 16 0 (λ k l. f (suc k) (omega arith) l)
-    ∙ ap (λ (j : ℕ). padded (λ k. effectField t (suc k)) j 16 0) m)
 
 -- floors change neither whether a list is downward monotonic nor what a truth sheet's list is
 downward-floors : (r : Round) (f : List ℕ) (i : ℕ) → downward (withFloors r f) i ≡ downward r i
@@ -86,16 +63,6 @@ module _ (f : List ℕ) where
       gainedFloorsOf f s t i v ≡ record { refusal = 0; gain = gainOf (withFloors (roundOf s) f) (roundOf t) i v }
   gained-is s t i v ok none later = sym (for-gained (laterRefusal s t i v) (withFloors (roundOf s) f) t i v later ∙ floored-gains f s t i v ok none)
 
-  proper : (s : List ℕ) → Accepted s → floorsRefusal (slotCount s) f ≡ 0 → ProperRound (withFloors (roundOf s) f)
-  proper s ok none =
-      floors-proper (roundOf s) f (round-proper s ok) (subst (λ (m : ℕ). ProperFloors m f) (sym (round-slots s)) (passed-proper (slotCount s) f none))
-
-  -- rounds with as many slots have the same floors
-  floors-of : (r r′ : Round) → r .slots ≡ r′ .slots → (k : ℕ) → floorOf (withFloors r f) k ≡ floorOf (withFloors r′ f) k
-  unfolding withFloors floorOf
-  floors-of r r′ m zero = refl
-  floors-of r r′ m (suc k) = ap (λ (n : ℕ). getD (padded (λ k. getD f k 0) n 16 0) k 0) m
-
   -- sheets that differ only in i's list have rounds that differ only there
   rounds-except : (i : ℕ) (s t : List ℕ) → Accepted s → Accepted t → DifferOnlyInList i s t → Except i (withFloors (roundOf s) f) (withFloors (roundOf t) f)
   rounds-except i s t ok ok′ d =
@@ -106,7 +73,7 @@ module _ (f : List ℕ) where
         bidders = floors-bidders r f ∙ round-bidders s ∙ d .same-n ∙ sym (floors-bidders r′ f ∙ round-bidders t);
         slots = floors-slots r f ∙ slots ∙ sym (floors-slots r′ f);
         ticks = floors-tick r f ∙ round-tick s ∙ d .same-tick ∙ sym (floors-tick r′ f ∙ round-tick t);
-        floors = floors-of r r′ slots;
+        floors = floors-of f r r′ slots;
         bids = λ a e. floors-bid r f a ∙ bids-of s t (d .same-n) (d .same-bids) a ∙ sym (floors-bid r′ f a);
         there = λ q e h. floors-has r′ f q (sheet-round t ok′ q (d .there q e (round-sheet s ok q (has-floors r f q h))));
         back = λ q e h. floors-has r f q (sheet-round s ok q (d .back q e (round-sheet t ok′ q (has-floors r′ f q h))));
@@ -124,7 +91,7 @@ honesty f s o i v ok ok′ floored d passed low worth =
     let r′ = withFloors (roundOf o) f in
     let bids = bids-of s o (d .same-n) (d .same-bids) in
     let pays : gainOf r′ r i v ≤ℤ gainOf r r i v
-    = honest-pays r r′ i v (proper f s ok floored) (proper f o ok′ floored′) (rounds-except f i s o ok ok′ d)
+    = honest-pays r r′ i v (passed-round s f ok floored) (passed-round o f ok′ floored′) (rounds-except f i s o ok ok′ d)
     (floors-bid (roundOf s) f i ∙ bids i ∙ sym (floors-bid (roundOf o) f i))
     (λ k. floors-effect (roundOf s) f k ∙ effects-of s o (d .same-m) (d .same-effects) k ∙ sym (floors-effect (roundOf o) f k))
     (downward-floors (roundOf o) f i ∙ tested .1 .1) (tested .0)

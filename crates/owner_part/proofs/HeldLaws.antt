@@ -8,9 +8,9 @@ use mathlib.Core.Path.{_≡_, refl, sym, _∙_, ap, ap₂}
 use native.Mathlib.Omega.{arith}
 use lib.Dec.{eqb}
 use lib.ListN.{length, take, drop, length-drop}
-use lib.Seq.{drop-cons, drop-drop, take-add, length-take-le}
-use Rattle.basis.specs.Bytes.{byteAt}
+use lib.Seq.{drop-drop, take-add, length-take-le}
 use Rattle.basis.specs.Rows.{joined}
+use Rattle.basis.proofs.BytesLaws.{four-stand}
 use Rattle.sheet.specs.Sheet.{
   version,
   constraintCount,
@@ -54,20 +54,6 @@ none-of-its-own s i nowhere =
     ap (joined (adds s i)) (let e : constraintCount s ≡ 0 + constraintCount s = omega arith in e)
     ∙ joined-no-more (adds s i) 0 (constraintCount s) (λ k l m. other-adds s i k (nowhere k (omega arith)))
 
--- four bytes from a place within a list
-next : (l : List ℕ) (j i : ℕ) → j ≡ i → i < length l → drop j l ≡ byteAt l i ∷ drop (suc i) l
-next l j i e room = ap (λ (n : ℕ). drop n l) e ∙ drop-cons l i 0 room
-
-four : (l : List ℕ) (j : ℕ) → j + 4 ≤ length l → take 4 (drop j l) ≡ byteAt l j ∷ byteAt l (j + 1) ∷ byteAt l (j + 2) ∷ byteAt l (j + 3) ∷ []
-four l j room =
-    ap (take 4)
-    (next l j j refl (omega arith)
-    ∙ ap (λ (r : List ℕ). byteAt l j ∷ r)
-    (next l (suc j) (j + 1) (omega arith) (omega arith)
-    ∙ ap (λ (r : List ℕ). byteAt l (j + 1) ∷ r)
-    (next l (suc (j + 1)) (j + 2) (omega arith) (omega arith)
-    ∙ ap (λ (r : List ℕ). byteAt l (j + 2) ∷ r) (next l (suc (j + 2)) (j + 3) (omega arith) (omega arith)))))
-
 module _ (s : List ℕ) (ok : Accepted s) where
   -- a condition's bytes stand within the sheet
   within : (k : ℕ) → k < constraintCount s → constraintsStart s + 4 * k + 4 ≤ length s
@@ -75,7 +61,7 @@ module _ (s : List ℕ) (ok : Accepted s) where
 
   constraint-stands : (k : ℕ) → k < constraintCount s → take 4 (drop (constraintsStart s + 4 * k) s) ≡ constraintBytes s k
   unfolding constraintBytes ownerField ownSlotField otherField otherSlotField
-  constraint-stands k l = four s (constraintsStart s + 4 * k) (within k l)
+  constraint-stands k l = four-stand s (constraintsStart s + 4 * k) (within k l)
 
   -- d conditions of i from index a on, with none before them
   stretch : (i a d : ℕ) → a + d ≤ constraintCount s → ((k : ℕ) → k < a → ownerField s k ≡ i → ⊥) → ((k : ℕ) → a ≤ k → k < a + d → ownerField s k ≡ i) →

@@ -1,22 +1,27 @@
--- The cases of a play call: a refused sheet, refused floors, a short buffer, and a played round. Assumes nothing.
+-- The cases of a play call: a refused sheet, refused floors, a short buffer, and a played round; what it writes of a round. Assumes nothing.
 use Prim.Native.Nat.{ℕ, suc, _*_, _<_, _≤_}
 use borrow.Author.Tests.{lt-ltb, le-ltb}
-use mathlib.Core.List.{List, _∷_}
+use mathlib.Core.List.{List, _∷_, _++_}
 use mathlib.Core.Path.{_≡_, sym, _∙_, ap, ap₂}
 use native.Mathlib.Omega.{arith}
-use lib.ListN.{length}
+use lib.ListN.{length, drop}
 use Rattle.basis.specs.Bytes.{bytes32}
 use Rattle.basis.specs.First.{unlessRefused}
 use Rattle.basis.specs.Rows.{joined}
 use Rattle.basis.proofs.FirstLaws.{orElse-left, orElse-right, refused-leaves, answered-gives}
 use Rattle.basis.proofs.RowLaws.{getD-padded, joined-same}
+use Rattle.sheet.specs.declared.Page.{Page}
 use Rattle.sheet.specs.declared.Round.{Round}
 use Rattle.sheet.specs.Sheet.{slotCount}
 use Rattle.sheet.specs.Refusal.{refusalOf, Accepted}
 use Rattle.sheet.specs.Round.{roundOf, withFloors}
+use Rattle.sheet.specs.Proper.{ProperRound}
 use Rattle.floors.specs.Floors.{floorsRefusal}
 use Rattle.auction.specs.Page.{at}
 use Rattle.auction.specs.Price.{price}
+use Rattle.auction.specs.Except.{SameSets}
+use Rattle.auction.proofs.ExceptLaws.{page-sets}
+use Rattle.auction.proofs.PriceLaws.{price-sets}
 use Rattle.greedy.specs.EngineOutcome.{outcomeOf}
 use Rattle.play.specs.Play.{roomRefusal, playRefusal, playFloorsRefusal, slotEntry, playedBuffer, Played, PlayedFloors}
 use Rattle.play.specs.EngineEntries.{entryIn}
@@ -88,3 +93,14 @@ unfolding entryIn slotEntry outcomeOf at
 entries-same r =
     joined-same (entryIn (outcomeOf r)) (λ k. slotEntry r (suc k)) (r .slots)
     (λ k l. ap (λ (x : ℕ). at (outcomeOf r .page) (suc k) ∷ bytes32 x) (getD-padded (λ i. price r (suc i)) (r .slots) 16 0 0 k l))
+
+-- what is written depends on each owner's set of constraints only
+pub played-sets : (r r′ : Round) → SameSets r r′ → ProperRound r → ProperRound r′ → (out : List ℕ) → playedBuffer r out ≡ playedBuffer r′ out
+unfolding playedBuffer slotEntry
+played-sets r r′ x proper proper′ out =
+    ap₂ _++_
+    (joined-same (λ k. slotEntry r (suc k)) (λ k. slotEntry r′ (suc k)) (r .slots)
+    (λ k l.
+    ap₂ (λ (p : Page) (paid : ℕ). at p (suc k) ∷ bytes32 paid) (page-sets r r′ x (proper .most-slots)) (price-sets r r′ x proper proper′ k))
+    ∙ ap (joined (λ k. slotEntry r′ (suc k))) (x .slots))
+    (ap (λ (m : ℕ). drop (5 * m) out) (x .slots))

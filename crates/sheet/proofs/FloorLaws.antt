@@ -84,6 +84,12 @@ module _ (r : Round) (f : List ℕ) where
         rising = c .rising;
       }
 
+-- rounds with as many slots have the same floors
+pub floors-of : (f : List ℕ) (r r′ : Round) → r .slots ≡ r′ .slots → (k : ℕ) → floorOf (withFloors r f) k ≡ floorOf (withFloors r′ f) k
+unfolding withFloors floorOf
+floors-of f r r′ m zero = refl
+floors-of f r r′ m (suc k) = ap (λ (n : ℕ). getD (padded (λ k. getD f k 0) n 16 0) k 0) m
+
 -- with a floor of 0 under each slot the round is the sheet's own
 pub without-floors : (s f : List ℕ) → slotCount s ≤ 16 → ((k : ℕ) → k < slotCount s → getD f k 0 ≡ 0) → withFloors (roundOf s) f ≡ roundOf s
 unfolding withFloors roundOf

@@ -1,14 +1,19 @@
--- An accepted sheet's round has all that the laws ask of a round. Assumes nothing.
+-- An accepted sheet's round has all that the laws ask of a round; sheets with the same bids and effects have rounds with the same, and a test over a
+-- round's constraints sees only which it has. Assumes nothing.
 use Prim.Native.Nat.{ℕ, zero, suc, _%_, _<_, _≤_}
-use mathlib.Core.Bool.{true}
+use mathlib.Core.Bool.{Bool, true}
 use mathlib.Core.List.{List}
 use mathlib.Core.Logic.{_⊎_, ⊎-elim}
 use mathlib.Core.Path.{_≡_, refl, sym, _∙_, ap, ap₂, subst}
 use native.Mathlib.Nat.{not-suc-le-zero, zero-mod}
 use native.Mathlib.Omega.{arith}
-use lib.ListN.{length-replicate}
-use Rattle.basis.proofs.RowLaws.{length-padded, getD-padded, getD-padded-after, zeros}
+use lib.ListN.{getD, length-replicate}
+use Rattle.basis.specs.Rows.{padded}
+use Rattle.basis.specs.Tests.{anyBelow, allBelow}
+use Rattle.basis.proofs.RowLaws.{length-padded, getD-padded, getD-padded-after, padded-same, zeros}
+use Rattle.basis.proofs.TestLaws.{same-tests, any-at, any-where, all-at, at-all}
 use Rattle.sheet.specs.declared.Constraint.{Constraint}
+use Rattle.sheet.specs.declared.Round.{Round}
 use Rattle.sheet.specs.Sheet.{
   version,
   bidderCount,
@@ -206,3 +211,44 @@ module _ (s : List ℕ) (ok : Accepted s) where
   pub round-sheet : (q : Constraint) → Has (roundOf s) q → SheetHas s q
   unfolding roundOf
   round-sheet q h = (h .0, h .1, sym (round-constraint (h .0) (h .1)) ∙ h .2)
+
+-- sheets with the same n and bids have rounds with the same bids, and so for effects
+pub bids-of : (s t : List ℕ) → bidderCount s ≡ bidderCount t → ((b : ℕ) → 0 < b → b ≤ bidderCount s → bidField s b ≡ bidField t b) →
+    (b : ℕ) → bidOf (roundOf s) b ≡ bidOf (roundOf t) b
+unfolding roundOf bidOf
+bids-of s t n f zero = refl
+bids-of s t n f (suc b) =
+    ap (λ (l : List ℕ). getD l b 0)
+    (padded-same (λ i. bidField s (suc i)) (λ i. bidField t (suc i)) (bidderCount s) 64 0 (λ i l. f (suc i) (omega arith) l)
+    ∙ ap (λ (k : ℕ). padded (λ i. bidField t (suc i)) k 64 0) n)
+
+pub effects-of : (s t : List ℕ) → slotCount s ≡ slotCount t → ((k : ℕ) → 0 < k → k ≤ slotCount s → effectField s k ≡ effectField t k) →
+    (k : ℕ) → effectOf (roundOf s) k ≡ effectOf (roundOf t) k
+unfolding roundOf effectOf
+effects-of s t m f zero = refl
+effects-of s t m f (suc k) =
+    ap (λ (l : List ℕ). getD l k 0)
+    (padded-same (λ k. effectField s (suc k)) (λ k. effectField t (suc k)) (slotCount s) 16 0 (λ k l. f (suc k) (omega arith) l)
+    ∙ ap (λ (j : ℕ). padded (λ k. effectField t (suc k)) j 16 0) m)
+
+-- A test over the constraints of a round sees only which it has: order and repeats are free.
+module _ (r r′ : Round) (there : (q : Constraint) → Has r q → Has r′ q) where
+  any-has : (f : Constraint → Bool) → anyBelow (λ i. f (constraintAt r i)) (r .used) ≡ true → anyBelow (λ i. f (constraintAt r′ i)) (r′ .used) ≡ true
+  any-has f e =
+      let w = any-where (λ i. f (constraintAt r i)) (r .used) e in
+      let h = there (constraintAt r (w .0)) (w .0, w .1, refl) in
+      any-at (λ i. f (constraintAt r′ i)) (r′ .used) (h .0) (h .1) (ap f (h .2) ∙ w .2)
+
+  all-has : (f : Constraint → Bool) → allBelow (λ i. f (constraintAt r′ i)) (r′ .used) ≡ true → allBelow (λ i. f (constraintAt r i)) (r .used) ≡ true
+  all-has f e =
+      at-all (λ i. f (constraintAt r i)) (r .used)
+      (λ k l.
+      let h = there (constraintAt r k) (k, l, refl) in
+      ap f (sym (h .2)) ∙ all-at (λ i. f (constraintAt r′ i)) (r′ .used) e (h .0) (h .1))
+
+module _ (r r′ : Round) (f : Constraint → Bool) (there : (q : Constraint) → Has r q → Has r′ q) (back : (q : Constraint) → Has r′ q → Has r q) where
+  pub any-of-set : anyBelow (λ i. f (constraintAt r i)) (r .used) ≡ anyBelow (λ i. f (constraintAt r′ i)) (r′ .used)
+  any-of-set = same-tests _ _ (any-has r r′ there f) (any-has r′ r back f)
+
+  pub all-of-set : allBelow (λ i. f (constraintAt r i)) (r .used) ≡ allBelow (λ i. f (constraintAt r′ i)) (r′ .used)
+  all-of-set = same-tests _ _ (all-has r′ r back f) (all-has r r′ there f)

@@ -1,5 +1,4 @@
--- For the worked rounds, and for no demand.
--- The encoder of a sheet: the bytes of bids, effects and conditions.
+-- The encoder of a sheet: the bytes of bids, effects and conditions. What S-6 writes is said by it, in version 2, and so are the worked rounds.
 use Prim.Native.Nat.{ℕ, _%_, _/_}
 use mathlib.Core.List.{List, [], _∷_, _++_}
 use lib.ListN.{length}

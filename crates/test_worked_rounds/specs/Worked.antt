@@ -515,10 +515,9 @@ writesNot sheet room k =
       said = record { number = k; size = 0; buffer = replicate room 9 };
     }
 
--- F, byte for byte; H, H with its conditions in disorder and repeated, and H in version 2: one sheet; conditions from the last to the first, each field
--- deciding once; a condition twice; tick 3 stays 3. Then rounds that are nearly the same, each with a sheet of its own: C has one condition more than B, and
--- F in ticks another tick and a bid. Then refused ones: a byte less than F's 25, and none; 19 is for what is to be written, which is 4 bytes less than the
--- sheet has and 4 more where a condition is twice; the sheet's number comes first.
+-- F, byte for byte; H, H with its conditions in disorder and two of them twice, and H in version 2: one sheet; conditions from the last to the first, each
+-- field deciding once; a condition twice; tick 3 stays 3. Then refused calls: a byte less than F's 25, and none; a byte less than the 33 that are written
+-- where one of two conditions is dropped; a byte less than a sheet of version 2 has; and the sheet's own number before 19, and alone.
 unfoldable pub writings : List WriteAsked
 writings =
     writes F F-written
