@@ -1,6 +1,6 @@
 -- The parts of the written sheet: a condition's bytes are those of its number turned round, and each part is stored where the one before it ends.
 -- Assumes nothing.
-use Prim.Native.Nat.{ℕ, zero, suc, _+_, _*_, _/_, _%_, _^_, _<_, _≤_}
+use Prim.Native.Nat.{ℕ, suc, _+_, _*_, _/_, _%_, _^_, _<_, _≤_}
 use mathlib.Core.List.{List, [], _∷_, _++_}
 use mathlib.Core.Logic.{⊎-elim}
 use mathlib.Core.Path.{_≡_, refl, sym, _∙_, ap, ap₂, subst}
@@ -10,7 +10,6 @@ use native.Mathlib.Omega.{arith}
 use lib.ListN.{length, getD, set, take, drop, length-drop}
 use lib.Seq.{sets, length-take-le, take-suc, getD-drop, getD-set-same, getD-set-other}
 use Rattle.basis.specs.Bytes.{byteAt, bytes32}
-use Rattle.basis.specs.First.{unlessRefused}
 use Rattle.basis.specs.Rows.{joined}
 use Rattle.basis.proofs.BytesLaws.{word-bytes}
 use Rattle.basis.proofs.FirstLaws.{orElse-left, orElse-right, refused-leaves, answered-gives}
@@ -21,7 +20,6 @@ use Rattle.sheet.specs.Accepted.{fieldsNumber, orderNumber}
 use Rattle.sheet.proofs.AcceptedLaws.{accepted-sheet}
 use Rattle.sheet.proofs.HeaderLaws.{start-other}
 use Rattle.canonical_sort.specs.EngineSort.{DigitsBelow, Sorted, EachOnce}
-use Rattle.canonical.specs.declared.Written.{Written}
 use Rattle.canonical.specs.Canonical.{canonicalSheet, canonicalRefusal, canonicalBuffer, CanonicalWritten}
 use Rattle.canonical.specs.EngineParts.{headerOf, numberBytes, numbersBytes, InSheetOrder}
 use Rattle.canonical.proofs.OrderedLaws.{digits-low, numbers-some, ordered-numbers}

@@ -68,7 +68,8 @@ returns : tie.Need-returns Inv-loop μ-loop
 returns c =
     let v = c .before .loop .inv in
     let start = c .before .before .args in
-    v .run ∙ ap (λ (n : ℕ). sets (start .result .now) (start .at) (take n (drop (start .start) (start .sheet .now)))) (le-antisymm (v .some) (c .loop-test .left))
+    v .run
+    ∙ ap (λ (n : ℕ). sets (start .result .now) (start .at) (take n (drop (start .start) (start .sheet .now)))) (le-antisymm (v .some) (c .loop-test .left))
 
 pub copy-spec : {M : Type 1} → statement M
 copy-spec =

@@ -1,7 +1,6 @@
 -- `canonical::order_constraints` meets its contract: the numbers read are the constraints', sorted they are these in order, and each once they are
 -- those of the conditions in order. Assumes nothing.
 use Prim.Native.Nat.{ℕ}
-use mathlib.Core.Path.{_≡_, _∙_}
 use borrow.Author.Needs.{needs}
 use native.Mathlib.Omega.{arith}
 use lib.ListN.{length-replicate}
@@ -9,6 +8,13 @@ use Rattle.sheet.proofs.AcceptedLaws.{accepted-sheet}
 use Rattle.canonical.proofs.PartLaws.{read-low, sorted-some, sorted-order}
 use Rattle.canonical.proofs.order_constraints.Statement.{statement}
 use Rattle.canonical.proofs.order_constraints.Tie as tie
+
+-- where the call started, and where its calls stand in it
+abbrev start : tie.After-read-numbers → tie.Start
+start c = c .before .before .before .before
+
+abbrev read : tie.After-sort → tie.After-read-numbers
+read c = c .before .before .before .before .before
 
 word16-requires : tie.Need-word16-requires
 word16-requires c κs = let header = accepted-sheet _ (c .before .pre .1) .form .header in omega arith
@@ -24,7 +30,7 @@ read-numbers-requires c κs =
     (length-replicate {A = ℕ} 1024 0, omega arith, start .pre .2, omega arith)
 
 shared-slice-read-sort : tie.Need-shared-slice-read-sort
-shared-slice-read-sort c = let header = accepted-sheet _ (c .before .before .before .before .before .before .before .pre .1) .form .header in omega arith
+shared-slice-read-sort c = let header = accepted-sheet _ (start (c .before .before .before) .pre .1) .form .header in omega arith
 
 cast-sort : tie.Need-cast-sort
 cast-sort c = search needs
@@ -33,7 +39,7 @@ add-sort : tie.Need-add-sort
 add-sort c = search needs
 
 shared-slice-read-sort-2 : tie.Need-shared-slice-read-sort-2
-shared-slice-read-sort-2 c = let header = accepted-sheet _ (c .before .before .before .before .before .before .before .before .pre .1) .form .header in omega arith
+shared-slice-read-sort-2 c = let header = accepted-sheet _ (start (c .before .before .before .before) .pre .1) .form .header in omega arith
 
 cast-sort-2 : tie.Need-cast-sort-2
 cast-sort-2 c = search needs
@@ -43,31 +49,41 @@ add-sort-2 c = search needs
 
 sort-requires : tie.Need-sort-requires
 sort-requires c κs =
-    let start = c .before .before .before .before .before .before .before .before in
-    let numbers = c .before .before .before .before .read-numbers .last .0 in
-    let read = c .before .before .before .before .read-numbers .ensures in
-    let known = accepted-sheet _ (start .pre .1) .counts in
-    let many = c .before .before .before .before .before .before .word16 .ensures .0 in
-    ((read .0, start .pre .0, omega arith, omega arith, omega arith), read-low (start .args .sheet .now) numbers _ (start .pre .1) many (read .1))
+    let done = c .before .before .before .before in
+    let first = start done in
+    let got = done .read-numbers .ensures in
+    let known = accepted-sheet _ (first .pre .1) .counts in
+    let many = done .before .before .word16 .ensures .0 in (
+      (got .0, first .pre .0, omega arith, omega arith, omega arith),
+      read-low (first .args .sheet .now) (done .read-numbers .last .0) _ (first .pre .1) many (got .1),
+    )
 
 drop-repeats-requires : tie.Need-drop-repeats-requires
 drop-repeats-requires c κs =
-    let start = c .before .before .before .before .before .before .before .before .before .before .before in
-    let read = c .before .before .before .before .before .before .before .read-numbers .ensures in
-    let sorted = c .before .before .sort .ensures in
-    let known = accepted-sheet _ (start .pre .1) .counts in
-    let many = c .before .before .before .before .before .before .before .before .before .word16 .ensures .0 in
-    (sorted .0 .sized, sorted .1, omega arith, sorted .0 .no-fall, sorted-some (start .args .sheet .now) _ _ (start .pre .1) many (read .1) _ (sorted .0))
+    let done = c .before .before in
+    let first = start (read done) in
+    let got = read done .read-numbers .ensures in
+    let sorted = done .sort .ensures in
+    let known = accepted-sheet _ (first .pre .1) .counts in
+    let many = read done .before .before .word16 .ensures .0 in (
+      sorted .0 .sized,
+      sorted .1,
+      omega arith,
+      sorted .0 .no-fall,
+      sorted-some (first .args .sheet .now) _ _ (first .pre .1) many (got .1) _ (sorted .0),
+    )
 
 returns : tie.Need-returns
 returns c =
-    let start = c .before .before .before .before .before .before .before .before .before .before .before .before in
-    let read = c .before .before .before .before .before .before .before .before .read-numbers .ensures in
-    let sorted = c .before .before .before .sort .ensures in
+    let done = c .before .before .before in
+    let first = start (read done) in
+    let got = read done .read-numbers .ensures in
     let kept = c .drop-repeats .ensures in
-    let known = accepted-sheet _ (start .pre .1) .counts in
-    let many = c .before .before .before .before .before .before .before .before .before .before .word16 .ensures .0 in
-    (omega (arith, kept .0), sorted-order (start .args .sheet .now) _ _ (start .pre .1) many (read .1) _ (sorted .0) _ _ (kept .1))
+    let known = accepted-sheet _ (first .pre .1) .counts in
+    let many = read done .before .before .word16 .ensures .0 in (
+      omega (arith, kept .0),
+      sorted-order (first .args .sheet .now) _ _ (first .pre .1) many (got .1) _ (done .sort .ensures .0) _ _ (kept .1),
+    )
 
 pub order-constraints-spec : {M : Type 1} → statement M
 order-constraints-spec =

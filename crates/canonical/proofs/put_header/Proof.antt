@@ -1,8 +1,8 @@
 -- `canonical::put_header` meets its contract: a store keeps the length, so each index is below it, and the thirteen stores are those of `sets` with
 -- the header's bytes. Assumes nothing.
-use Prim.Native.Nat.{ℕ, _%_, _/_}
-use mathlib.Core.List.{List, [], _∷_}
-use mathlib.Core.Path.{_≡_, _∙_}
+use Prim.Native.Nat.{_%_, _/_}
+use mathlib.Core.List.{[], _∷_}
+use mathlib.Core.Path.{_∙_}
 use borrow.Author.Needs.{needs}
 use native.Mathlib.Omega.{arith}
 use lib.ListN.{length-set}
@@ -52,7 +52,8 @@ same-length : tie.Need-same-length
 same-length c =
     let start = c .before .before .before .before .before .args in
     c .before .before .put-word32 .kept .0
-    ∙ length-sets (start .result .now) 0 (0x50 ∷ 0x41 ∷ 0x53 ∷ 2 ∷ 0 ∷ start .bidders ∷ start .slots ∷ start .constraints % 256 ∷ start .constraints / 256 ∷ [])
+    ∙ length-sets (start .result .now) 0
+    (0x50 ∷ 0x41 ∷ 0x53 ∷ 2 ∷ 0 ∷ start .bidders ∷ start .slots ∷ start .constraints % 256 ∷ start .constraints / 256 ∷ [])
 
 returns : tie.Need-returns
 unfolding headerOf bytes32

@@ -1,5 +1,5 @@
--- `canonical::put_numbers` meets its contract: after k turns the bytes of the first k numbers stand at the offset, and the next are stored after them.
--- Assumes nothing.
+-- `canonical::put_numbers` meets its contract: after k turns the bytes of the first k numbers stand at the offset, and the next are stored after
+-- them. Assumes nothing.
 use Prim.Native.Nat.{ℕ, _+_, _-_, _*_, _^_, _<_, _≤_}
 use mathlib.Core.List.{List}
 use mathlib.Core.Path.{_≡_, refl, sym, _∙_, ap, ap₂}

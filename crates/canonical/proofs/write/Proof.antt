@@ -1,5 +1,5 @@
 -- `canonical::write` meets its contract, by the cases of the call: a refused sheet, and an accepted one of either version. Assumes nothing.
-use mathlib.Core.Path.{_≡_, sym, _∙_}
+use mathlib.Core.Path.{sym, _∙_}
 use borrow.Author.Needs.{needs}
 use native.Mathlib.Omega.{arith}
 use Rattle.sheet.specs.Refusal.{Accepted}
@@ -16,7 +16,9 @@ check-requires : tie.Need-check-requires
 check-requires c κs = search needs
 
 returns : tie.Need-returns
-returns c = let start = c .before .before .before .before .args in sheet-refused (start .sheet .now) (start .result .now) _ (c .before .check .ensures) (c .if1 .taken)
+returns c =
+    let start = c .before .before .before .before .args in
+    sheet-refused (start .sheet .now) (start .result .now) _ (c .before .check .ensures) (c .if1 .taken)
 
 word16-requires : tie.Need-word16-requires
 word16-requires c κs = let header = accepted-sheet _ (accepted c) .form .header in omega arith
