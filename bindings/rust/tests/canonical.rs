@@ -97,6 +97,16 @@ fn the_form_of_a_form_is_the_form() {
 }
 
 #[test]
+fn the_three_sheets_of_round_h_have_one_form() {
+    let kept: [&[u8]; 3] =
+        [include_bytes!("../../../sheets/H.pas"), include_bytes!("../../../sheets/H1.pas"), include_bytes!("../../../sheets/H1-mixed.pas")];
+    for sheet in kept {
+        assert_eq!(pas::canonical(sheet).expect("a good sheet").as_bytes(), kept[1]);
+    }
+    assert_eq!(pas::same_round(kept[0], include_bytes!("../../../sheets/H2.pas")), Ok(false), "its tick is 2");
+}
+
+#[test]
 fn the_largest_sheets_turned_round() {
     let in_order: Vec<Written> = (1..=64).flat_map(|bidder| (1..=16).map(move |slot| [bidder, slot, 0, 0])).collect();
     let mut turned = in_order.clone();
