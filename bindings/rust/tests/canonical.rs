@@ -102,6 +102,8 @@ fn the_three_sheets_of_round_h_have_one_form() {
         [include_bytes!("../../../sheets/H.pas"), include_bytes!("../../../sheets/H1.pas"), include_bytes!("../../../sheets/H1-mixed.pas")];
     for sheet in kept {
         assert_eq!(pas::canonical(sheet).expect("a good sheet").as_bytes(), kept[1]);
+        let page = pas::play(sheet).expect("a good sheet");
+        assert_eq!((numbers(&page.bidders()), page.prices()), (vec![4, 2, 0], vec![37, 31, 0]));
     }
     assert_eq!(pas::same_round(kept[0], include_bytes!("../../../sheets/H2.pas")), Ok(false), "its tick is 2");
 }
