@@ -1,12 +1,12 @@
 /*
- * pas.h - position pages with bidders' conditions, the nine calls of libpas.a
+ * pas.h - position pages with bidders' conditions, the ten calls of libpas.a
  *
  * A search page has a few paid places. Suppliers, the bidders, bid per click and list conditions (where they will not
  * stand, beside whom). The library fills the places from the top, charges each winner a second price, tests a bidder's
- * list, works out a bidder's gain, finds the best page of a small round and shows where in a sheet one bidder's
- * conditions stand. Playing, gain and best page have a second form, with a floor under each place. It is proved: each
- * call meets its description below for every input. It allocates nothing, keeps nothing between calls and calls nothing
- * but memcpy and memset.
+ * list, works out a bidder's gain, finds the best page of a small round, shows where in a sheet one bidder's conditions
+ * stand and writes the one sheet of version 2 for a round. Playing, gain and best page have a second form, with a floor
+ * under each place. It is proved: each call meets its description below for every input. It allocates nothing, keeps
+ * nothing between calls and calls nothing but memcpy and memset.
  *
  * Build:   ./build-library            (proves, and gives target/staticlib/libpas.a, for x86-64 Linux)
  * Link:    cc program.c -I include target/staticlib/libpas.a
@@ -52,12 +52,15 @@
  * then own place, then other bidder, then other's place: the first of the four in which two conditions differ decides.
  * That is the order of their four bytes (memcmp), so that the four above would come as (1, 0, 3, 1), (1, 2, 0, 0),
  * (1, 2, 3, 1), (1, 2, 3, 2). None repeats, and the conditions of one owner stand together: pas_owner_part finds them.
+ * So a round has one sheet of version 2, which pas_canonical writes from any sheet of the round, and many of version 1
+ * where the tick is 1 and there are conditions.
  *
  *
  * What holds for every call
  *
  * - It returns PAS_OK (0), or the number of the first rule that the call breaks, in the order of the list below.
- * - A refused call writes nothing: no byte of a result, and nothing to *answer, *gain, *total, *start or *length.
+ * - A refused call writes nothing: no byte of a result, and nothing to *answer, *gain, *total, *start, *length or
+ *   *written.
  * - A call that is not refused writes what its description says and nothing else. It does not read what it writes to,
  *   so that memory need not be set before.
  * - The same bytes and numbers get the same answer, always.
@@ -71,8 +74,8 @@
  *   null is one, so no answer is promised there. An empty std::vector may have one: pas_to_read, pas_to_write and
  *   pas_to_read_floors below give another pointer instead. Where the length is 0 any other pointer will do.
  * - Sheets, results and *answer are bytes and may lie at any address. Floors must be aligned as uint32_t is (4 bytes);
- *   *gain, *total, *start and *length as int64_t, uint64_t and size_t are (8 bytes). Each variable and each array of
- *   these types is.
+ *   *gain, *total, *start, *length and *written as int64_t, uint64_t and size_t are (8 bytes). Each variable and each
+ *   array of these types is.
  * - What a call writes overlaps neither what it reads nor another thing that it writes. Sheets and floors are only read
  *   and may overlap.
  * - While a call runs nobody else writes what it reads, nor touches what it writes. Otherwise calls may run in several
@@ -94,9 +97,9 @@ extern "C" {
 /* ---- Version ---- */
 
 /* The version of the library and of this file. CHANGELOG.md says what each one brought, and what a new number means. */
-#define PAS_VERSION "2.1.0"
+#define PAS_VERSION "2.2.0"
 #define PAS_VERSION_MAJOR 2
-#define PAS_VERSION_MINOR 1
+#define PAS_VERSION_MINOR 2
 #define PAS_VERSION_PATCH 0
 
 /* ---- Sizes ---- */
@@ -142,6 +145,7 @@ extern "C" {
  *   pas_play_floors    14,968  about 18,100          28,672
  *   pas_gain_floors    15,080  about 18,300          40,960
  *   pas_best_floors     7,008  about  7,200          20,480
+ *   pas_canonical       9,512  about 12,500          20,480
  *
  * These are measured and not proved: nothing in the toolchain bounds a stack. examples/c/stack measures them, on the
  * largest sheets, on refused ones and on random ones, and fails where a call takes more than its figure. The table is
@@ -162,8 +166,9 @@ extern "C" {
 #define PAS_STACK_PLAY_FLOORS PAS_STACK_PLAY
 #define PAS_STACK_GAIN_FLOORS PAS_STACK_GAIN
 #define PAS_STACK_BEST_FLOORS PAS_STACK_BEST
+#define PAS_STACK_CANONICAL 20480u
 
-/* the largest of the nine */
+/* the largest of the ten */
 #define PAS_MAX_STACK PAS_STACK_GAIN
 
 /* ---- Numbers of a refused call, in checking order ---- */
@@ -319,6 +324,28 @@ uint32_t pas_best(const uint8_t *sheet, size_t sheet_len, uint8_t *result, size_
  * Refused with 1 to 13 or 26 to 28, with 29 for a sheet of version 1 that is otherwise accepted, or 16.
  */
 uint32_t pas_owner_part(const uint8_t *sheet, size_t sheet_len, uint32_t bidder, size_t *start, size_t *length);
+
+/*
+ * Writes the one sheet for a round: of version 2, with n, m, effects and bids as they are, the tick (1 for a sheet of
+ * version 1), and the conditions in rising order, each once, however often the sheet has it. A sheet of version 2 is
+ * that sheet already, and is copied.
+ *
+ * Two sheets say the same round where n, m, tick, effects and bids are equal and each condition of the one is in the
+ * other too. Proved of it, for accepted sheets:
+ *
+ * - what is written of two sheets is equal, byte for byte, exactly where they say the same round: so memcmp tells;
+ * - what is written is accepted, says the round of the sheet, and is written again as it is;
+ * - the sheet and what is written of it get the same answers: the same page and prices, downward answers, gains, as
+ *   played and as truth sheet, and best page, with floors too. (pas_owner_part, which refuses version 1, takes what is
+ *   written.)
+ *
+ * Writes the sheet to the start of the result and its length to *written. Later bytes stay as they were. A result of
+ * sheet_len + PAS_TICK_LENGTH bytes always does, and so does one of PAS_MAX_SHEET_LENGTH. The result must not overlap
+ * the sheet: a sheet is not rewritten in its place.
+ *
+ * Refused with 1 to 13, 26 to 28, or 19 where result_len is below the length of the sheet to be written.
+ */
+uint32_t pas_canonical(const uint8_t *sheet, size_t sheet_len, uint8_t *result, size_t result_len, size_t *written);
 
 /* ---- The calls with floors ---- */
 

@@ -53,6 +53,9 @@ SHEETS = {
     "F2": sheet([3, 6], [1], tick=3),
     "G": sheet([0], [1, 1], [(1, 1, 0, 0)]),
     "H": sheet([30, 32, 36, 40], [10000, 4500, 2025], above(IN_ORDER, 3)),
+    "H1": sheet([30, 32, 36, 40], [10000, 4500, 2025], above(IN_ORDER, 3), tick=1),
+    # The conditions of H from the last to the first, and the last three again.
+    "H1-mixed": sheet([30, 32, 36, 40], [10000, 4500, 2025], above(IN_ORDER, 3)[::-1] + above(IN_ORDER, 3)[6:]),
     "H2": sheet([30, 32, 36, 40], [10000, 4500, 2025], above(IN_ORDER, 3), tick=2),
     "H4": sheet([30, 32, 36, 40], [10000, 4500, 2025, 911], above(IN_ORDER, 4)),
     "own": sheet([2, 1], [1, 1], [(1, 0, 2, 2)]),

@@ -6,9 +6,13 @@ use independent::random::{Floors, Manner, Size};
 const QUICK_CALLS: [Call; 4] = [Call::Check, Call::Play, Call::Downward, Call::Gain];
 const NONE: Floors = Floors::Zero;
 
-fn size(bidders: usize, slots: usize, constraints: usize) -> Size {
+const fn size(bidders: usize, slots: usize, constraints: usize) -> Size {
     Size { bidders, slots, constraints }
 }
+
+/// Five sizes; the smallest is round H's.
+const SIZES: [Size; 5] = [size(4, 3, 9), size(8, 4, 16), size(16, 8, 128), size(32, 12, 512), LARGEST];
+const LARGEST: Size = size(64, 16, 1024);
 
 /// All lines, part by part.
 pub fn rows() -> Vec<Row> {
@@ -24,6 +28,7 @@ pub fn rows() -> Vec<Row> {
     rows.extend(with_floors("floors any", None, Floors::Any));
     rows.extend(with_floors("floors above", None, Floors::Above));
     rows.extend(with_floors("floors, v. 2", TICK, Floors::OffTick));
+    rows.extend(canonical());
     rows
 }
 
@@ -39,10 +44,9 @@ fn with_floors(part: &'static str, tick: Option<u32>, floors: Floors) -> Vec<Row
 /// The tick of the rows of version 2. Their constraints are in order and none repeats, so they are not the rounds of version 1.
 const TICK: Option<u32> = Some(10);
 
-/// The quick calls on sheets of five sizes; the smallest is round H's.
+/// The quick calls on sheets of five sizes.
 fn sizes(part: &'static str, tick: Option<u32>) -> Vec<Row> {
-    let sizes = [size(4, 3, 9), size(8, 4, 16), size(16, 8, 128), size(32, 12, 512), size(64, 16, 1024)];
-    let of_call = |call| sizes.map(|size| Row { part, call, size, manner: Manner::Mixed, tick, floors: NONE });
+    let of_call = |call| SIZES.map(|size| Row { part, call, size, manner: Manner::Mixed, tick, floors: NONE });
     QUICK_CALLS.into_iter().flat_map(of_call).collect()
 }
 
@@ -59,10 +63,23 @@ fn owner_parts() -> Vec<Row> {
     [16, 64, 256, 1024].into_iter().flat_map(|constraints| [Call::Check, Call::Part].map(|call| row(call, constraints))).collect()
 }
 
+/// The canonical sheet, by size in version 1, by kind of constraint on the largest sheets, and by size in version 2, where it is a copy. Only the chain's
+/// constraints are drawn in order.
+fn canonical() -> Vec<Row> {
+    let row = |part, size, manner, tick| Row { part, call: Call::Canonical, size, manner, tick, floors: NONE };
+    let of_kind = |manner| row("kinds", LARGEST, manner, None);
+    let mut rows = SIZES.map(|size| row("sizes", size, Manner::Mixed, None)).to_vec();
+    rows.extend(KINDS.map(of_kind));
+    rows.extend(SIZES.map(|size| row("version 2", size, Manner::Mixed, TICK)));
+    rows
+}
+
+/// Kinds of constraint beside the mixed ones.
+const KINDS: [Manner; 4] = [Manner::Pairs, Manner::OwnSlots, Manner::Exclusions, Manner::Chain];
+
 /// Play and downward on the largest sheets, by kind of constraint.
 fn kinds() -> Vec<Row> {
-    let manners = [Manner::Pairs, Manner::OwnSlots, Manner::Exclusions, Manner::Chain];
-    let of_call = |call| manners.map(|manner| Row { part: "kinds", call, size: size(64, 16, 1024), manner, tick: None, floors: NONE });
+    let of_call = |call| KINDS.map(|manner| Row { part: "kinds", call, size: LARGEST, manner, tick: None, floors: NONE });
     [Call::Play, Call::Downward].into_iter().flat_map(of_call).collect()
 }
 

@@ -6,7 +6,7 @@ use independent::{engine, slow};
 use pas::raw;
 use std::hint::black_box;
 
-/// The five calls of document 01, and of document 02 the part and the second forms, with floors.
+/// The five calls of document 01, and of document 02 the part, the second forms, with floors, and the canonical sheet.
 #[derive(Clone, Copy, Debug, PartialEq)]
 pub enum Call {
     Check,
@@ -18,6 +18,7 @@ pub enum Call {
     PlayFloors,
     GainFloors,
     BestFloors,
+    Canonical,
 }
 
 impl Call {
@@ -33,6 +34,7 @@ impl Call {
             Call::PlayFloors => "play floors",
             Call::GainFloors => "gain floors",
             Call::BestFloors => "best floors",
+            Call::Canonical => "canonical",
         }
     }
 
@@ -107,18 +109,22 @@ fn input(random: &mut Random, of_floors: &mut Random, row: &Row) -> Input {
     Input { sheet, floors, truth, bidder: u32::from(bidder), worth: random.between(0, 1_000_000_000) as u32 }
 }
 
+/// The bytes of the longest sheet.
+const LONGEST: usize = 4429;
+
 /// Answers every input once.
 pub fn answer(engine: Engine, call: Call, inputs: &[Input]) {
+    let mut room = [0; LONGEST];
     for input in inputs {
         match engine {
-            Engine::Library => answer_by_library(call, input),
-            Engine::Rust => answer_by_rust(call, input),
+            Engine::Library => answer_by_library(call, input, &mut room),
+            Engine::Rust => answer_by_rust(call, input, &mut room),
         }
     }
 }
 
 #[inline(never)]
-fn answer_by_library(call: Call, input: &Input) {
+fn answer_by_library(call: Call, input: &Input, room: &mut [u8]) {
     let sheet = black_box(&input.sheet[..]);
     let (mut result, mut answer, mut gain, mut total) = ([0; 80], 0, 0, 0);
     let (mut start, mut length) = (0, 0);
@@ -132,12 +138,22 @@ fn answer_by_library(call: Call, input: &Input) {
         Call::PlayFloors => raw::play_floors(sheet, &input.floors, &mut result),
         Call::GainFloors => raw::gain_floors(sheet, &input.floors, &input.truth, input.bidder, input.worth, &mut gain),
         Call::BestFloors => raw::best_floors(sheet, &input.floors, &mut result, &mut total),
+        Call::Canonical => canonical(sheet, room, raw::canonical),
     };
     black_box((number, &result, answer, gain, total, start, length));
 }
 
+/// Apart, so that no other call pays for what this one keeps on the stack, and to a buffer that is made before.
 #[inline(never)]
-fn answer_by_rust(call: Call, input: &Input) {
+fn canonical(sheet: &[u8], room: &mut [u8], call: impl Fn(&[u8], &mut [u8], &mut usize) -> u32) -> u32 {
+    let mut written = 0;
+    let number = call(sheet, room, &mut written);
+    black_box((room, written));
+    number
+}
+
+#[inline(never)]
+fn answer_by_rust(call: Call, input: &Input, room: &mut [u8]) {
     let sheet = black_box(&input.sheet[..]);
     let (mut result, mut answer, mut gain, mut total) = ([0; 80], 0, 0, 0);
     let (mut start, mut length) = (0, 0);
@@ -151,6 +167,7 @@ fn answer_by_rust(call: Call, input: &Input) {
         Call::PlayFloors => engine::play_floors(sheet, &input.floors, &mut result),
         Call::GainFloors => engine::gain_floors(sheet, &input.floors, &input.truth, input.bidder, input.worth, &mut gain),
         Call::BestFloors => engine::best_floors(sheet, &input.floors, &mut result, &mut total),
+        Call::Canonical => canonical(sheet, room, engine::canonical),
     };
     black_box((number, &result, answer, gain, total, start, length));
 }

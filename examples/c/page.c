@@ -2,7 +2,7 @@
  * Round H of document 01 from C: builds its sheet, prints the page with its prices as the page program does, then a
  * bidder's gain and the best page; then the page of the same round with bids in ticks, a sheet of version 2, and two
  * bidders' conditions where they stand in that sheet; then page, gain and best page of that sheet with a floor under
- * each place.
+ * each place; then whether other sheets say the round that a sheet of version 1 in disorder says.
  */
 #include <inttypes.h>
 #include <stdio.h>
@@ -117,6 +117,44 @@ static int show_with_floors(const uint8_t *sheet, size_t length, const uint32_t 
     return 0;
 }
 
+/* the sheet of version 1 with the conditions from the last to the first, the last REPEATS of them twice; its length */
+enum { REPEATS = 3 };
+
+static size_t build_in_disorder(uint8_t *sheet) {
+    uint8_t *at = sheet + build(sheet, 0) - sizeof conditions;
+    for (int i = 0; i < CONDITIONS + REPEATS; i++) {
+        memcpy(at, conditions[(2 * CONDITIONS - 1 - i) % CONDITIONS], sizeof conditions[0]);
+        at += sizeof conditions[0];
+    }
+    sheet[7] = CONDITIONS + REPEATS;
+    return (size_t)(at - sheet);
+}
+
+/* a sheet's one sheet of version 2; 0 where the call is refused, and else its length */
+static size_t write_canonical(const uint8_t *sheet, size_t length, uint8_t *canonical) {
+    size_t written = 0;
+    uint32_t number = pas_canonical(sheet, length, canonical, PAS_MAX_SHEET_LENGTH, &written);
+    if (number != PAS_OK) {
+        refused("pas_canonical", number);
+    }
+    return written;
+}
+
+/* prints how long both sheets are, and those that are written of them, and whether they say the same round */
+static int compare(const uint8_t *one, size_t one_length, const uint8_t *other, size_t other_length) {
+    uint8_t first[PAS_MAX_SHEET_LENGTH];
+    uint8_t second[PAS_MAX_SHEET_LENGTH];
+    size_t first_length = write_canonical(one, one_length, first);
+    size_t second_length = write_canonical(other, other_length, second);
+    if (first_length == 0 || second_length == 0) {
+        return 1;
+    }
+    int same = first_length == second_length && memcmp(first, second, first_length) == 0;
+    printf("%zu bytes, written as %zu, and %zu, as %zu: %s\n", one_length, first_length, other_length, second_length,
+           same ? "the same round" : "another round");
+    return 0;
+}
+
 int main(void) {
     uint8_t sheet[PAS_SHEET_LENGTH(BIDDERS, PLACES, CONDITIONS) + PAS_TICK_LENGTH];
     size_t length = build(sheet, 0);
@@ -164,5 +202,19 @@ int main(void) {
     uint8_t result[PAS_MAX_RESULT_LENGTH];
     number = pas_play_floors(sheet, length, floors, PLACES - 1, result, sizeof result);
     printf("with a floor too few: refused %" PRIu32 "\n", number);
+
+    uint8_t kept[PAS_SHEET_LENGTH(BIDDERS, PLACES, CONDITIONS + REPEATS)];
+    size_t kept_length = build_in_disorder(kept);
+    printf("in disorder, with repeats, against version 1, version 2 and ticks of 2:\n");
+    for (uint32_t tick = 0; tick <= 2; tick++) {
+        length = build(sheet, tick);
+        if (compare(kept, kept_length, sheet, length)) {
+            return 1;
+        }
+    }
+    uint8_t too_short[PAS_SHEET_LENGTH(BIDDERS, PLACES, CONDITIONS) + PAS_TICK_LENGTH - 1];
+    size_t written = 0;
+    number = pas_canonical(kept, kept_length, too_short, sizeof too_short, &written);
+    printf("with a byte too few: refused %" PRIu32 "\n", number);
     return 0;
 }

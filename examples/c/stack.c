@@ -248,10 +248,11 @@ static inline __attribute__((always_inline)) size_t depth_below(const uint8_t *t
 static struct sheet sheet, truth;
 static struct floors floors;
 static uint8_t result[PAS_MAX_RESULT_LENGTH];
+static uint8_t canonical_sheet[PAS_MAX_SHEET_LENGTH];
 static uint8_t answer;
 static int64_t gain;
 static uint64_t total;
-static size_t start, length;
+static size_t start, length, written;
 static uint32_t bidder, worth;
 static uint32_t number;
 
@@ -275,6 +276,7 @@ MEASURED(gain_floors, pas_gain_floors(sheet.bytes, sheet.length, floors.numbers,
                                       truth.length, bidder, worth, &gain))
 MEASURED(best_floors,
          pas_best_floors(sheet.bytes, sheet.length, floors.numbers, floors.count, result, sizeof result, &total))
+MEASURED(canonical, pas_canonical(sheet.bytes, sheet.length, canonical_sheet, sizeof canonical_sheet, &written))
 
 static const struct call {
     const char *name;
@@ -290,6 +292,7 @@ static const struct call {
     {"pas_play_floors", play_floors, PAS_STACK_PLAY_FLOORS},
     {"pas_gain_floors", gain_floors, PAS_STACK_GAIN_FLOORS},
     {"pas_best_floors", best_floors, PAS_STACK_BEST_FLOORS},
+    {"pas_canonical", canonical, PAS_STACK_CANONICAL},
 };
 
 enum { CALLS = sizeof calls / sizeof calls[0] };

@@ -2,6 +2,7 @@
  * Sheets, results and floors in vectors, which may be empty: pas_to_read, pas_to_write and pas_to_read_floors take the
  * place of the null pointer that an empty vector has.
  */
+#include <cstddef>
 #include <cstdint>
 #include <iostream>
 #include <vector>
@@ -26,6 +27,15 @@ static std::uint32_t play(const Bytes &sheet, const Floors &floors, Bytes &resul
                            pas_to_write(result.data(), result.size()), result.size());
 }
 
+/* a sheet's one sheet of version 2, empty where the call is refused */
+static Bytes canonical(const Bytes &sheet) {
+    Bytes result(sheet.size() + PAS_TICK_LENGTH);
+    std::size_t written = 0;
+    pas_canonical(pas_to_read(sheet.data(), sheet.size()), sheet.size(), result.data(), result.size(), &written);
+    result.resize(written);
+    return result;
+}
+
 int main() {
     /* two bidders that bid 5 and 6 for one place of effect 1 */
     const Bytes sheet = {'P', 'A', 'S', 1, 0, 2, 1, 0, 0, 1, 0, 0, 0, 5, 0, 0, 0, 6, 0, 0, 0};
@@ -43,6 +53,13 @@ int main() {
     std::cout << "no floors: " << play(sheet, no_floors, result) << '\n';
     std::cout << "no floors and both empty: " << play(none, no_floors, none) << '\n';
     std::cout << "a floor of 7: " << play(sheet, floors, result) << ", bidder " << int{result[0]} << '\n';
+
+    /* the sheet with bidder 1 barred from place 1, twice, and once in version 2 */
+    const Bytes twice = {'P', 'A', 'S', 1, 0, 2, 1, 2, 0, 1, 0, 0, 0, 5, 0, 0, 0, 6, 0, 0, 0, 1, 1, 0, 0, 1, 1, 0, 0};
+    const Bytes once = {'P', 'A', 'S', 2, 0, 2, 1, 1, 0, 1, 0, 0, 0, 1, 0, 0, 0, 5, 0, 0, 0, 6, 0, 0, 0, 1, 1, 0, 0};
+    std::cout << "one sheet for one round: " << (canonical(twice) == once && canonical(once) == once ? "yes" : "no");
+    std::cout << ", another for another: " << (canonical(sheet) != once ? "yes" : "no");
+    std::cout << ", none for none: " << (canonical(none).empty() ? "yes" : "no") << '\n';
 
     /* the pointers that the calls get: never null, and the vector's own where it has bytes */
     const bool kept = pas_to_read(sheet.data(), sheet.size()) == sheet.data() &&

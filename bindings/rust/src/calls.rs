@@ -1,13 +1,16 @@
-//! The nine calls over bytes that nobody has checked, with typed answers.
+//! The ten calls over bytes that nobody has checked, with typed answers.
 
 use crate::page::{bidders, BestPage, Page};
 use crate::part::OwnerPart;
 use crate::raw;
-use crate::sheet::Bidder;
+use crate::sheet::{Bidder, Sheet};
 use crate::Refusal;
 
 /// The most slots that a sheet can have.
 const MOST_SLOTS: usize = 16;
+
+/// The bytes of the longest sheet.
+const MOST_BYTES: usize = 4429;
 
 /// Checks a sheet: refusals 1 to 13 and 26 to 28. Every other call does this by itself.
 pub fn check(sheet: &[u8]) -> Result<(), Refusal> {
@@ -108,6 +111,63 @@ pub fn owner_part(sheet: &[u8], bidder: Bidder) -> Result<OwnerPart<'_>, Refusal
     let (mut start, mut length) = (0, 0);
     Refusal::none_or(raw::owner_part(sheet, u32::from(bidder.0), &mut start, &mut length))?;
     Ok(OwnerPart::of(sheet, start, length))
+}
+
+/// The canonical form of a sheet, the one sheet for its round: version 2 with the same tick (1 where the sheet is of version 1), effects and bids, and
+/// the constraints in order of owner, own slot, other bidder, other's slot, each once. A sheet of version 2 is its own canonical form. The two get the
+/// same answers from every call but [`owner_part`], which refuses version 1. Refused with 1 to 13 or 26 to 28.
+///
+/// ```
+/// use pas::{Bidder, Kind, Refusal, SheetBuilder, Slot};
+///
+/// let (first, second) = (Kind::OwnSlot(Slot(1)), Kind::OwnSlot(Slot(2)));
+/// let round = SheetBuilder::new().effects([2, 1]).bids([7]);
+/// let kept = round.constraint(Bidder(1), second).constraint(Bidder(1), first).constraint(Bidder(1), second).bytes();
+///
+/// let canonical = pas::canonical(&kept)?;
+/// assert_eq!((canonical.version(), canonical.tick()), (2, 1));
+/// assert_eq!(canonical.all_constraints().iter().map(|constraint| constraint.kind).collect::<Vec<_>>(), [first, second]);
+/// assert_eq!(pas::canonical(canonical.as_bytes())?, canonical);
+/// assert_eq!(pas::play(&kept)?, canonical.play());
+/// # Ok::<(), Refusal>(())
+/// ```
+pub fn canonical(sheet: &[u8]) -> Result<Sheet, Refusal> {
+    let mut result = [0; MOST_BYTES];
+    let written = canonical_into(sheet, &mut result)?;
+    Ok(Sheet::of_accepted(result[..written].to_vec()))
+}
+
+/// Writes the canonical form of a sheet to a lent buffer, without allocation, and gives its length. Later bytes stay as they were, and on a refusal all
+/// of them. Refused as [`canonical`], or with 19 where the buffer is shorter than the bytes to be written; 4 bytes more than the sheet has always do, and
+/// so do 4,429.
+pub fn canonical_into(sheet: &[u8], result: &mut [u8]) -> Result<usize, Refusal> {
+    let mut written = 0;
+    Refusal::none_or(raw::canonical(sheet, result, &mut written))?;
+    Ok(written)
+}
+
+/// Whether two sheets say the same round: bidders, slots, tick, effects and bids are equal, and each constraint of the one is in the other too. The
+/// version does not matter, nor the order in which a sheet of version 1 has its constraints and how often it has one. It is told by the canonical
+/// forms, which are equal exactly then. Refused with 1 to 13 or 26 to 28 of the first sheet that is not accepted.
+///
+/// ```
+/// use pas::{Bidder, Kind, Refusal, SheetBuilder, Slot};
+///
+/// let round = SheetBuilder::new().effects([2, 1]).bids([7]).constraint(Bidder(1), Kind::OwnSlot(Slot(2)));
+/// let twice = round.clone().constraint(Bidder(1), Kind::OwnSlot(Slot(2)));
+/// let more = round.clone().constraint(Bidder(1), Kind::OwnSlot(Slot(1)));
+///
+/// assert!(pas::same_round(&round.bytes(), &twice.bytes())?);
+/// assert!(pas::same_round(&round.bytes(), &round.clone().tick(1).bytes())?);
+/// assert!(!pas::same_round(&round.bytes(), &more.bytes())?);
+/// assert!(!pas::same_round(&round.bytes(), &round.clone().tick(7).bytes())?);
+/// assert_eq!(pas::same_round(&round.bytes(), b"PAS"), Err(Refusal::SheetTooShort));
+/// # Ok::<(), Refusal>(())
+/// ```
+pub fn same_round(one: &[u8], other: &[u8]) -> Result<bool, Refusal> {
+    let (mut first, mut second) = ([0; MOST_BYTES], [0; MOST_BYTES]);
+    let (long, as_long) = (canonical_into(one, &mut first)?, canonical_into(other, &mut second)?);
+    Ok(first[..long] == second[..as_long])
 }
 
 /// The number of slots of an accepted sheet.

@@ -3,8 +3,8 @@
 //! A page has slots from the top down, each with an effect. Bidders bid per click and set constraints: slots where they will not stand,
 //! and bidders beside whom they will not stand. The library fills the page, charges each winner the smallest bid with which it would still
 //! have won its slot, tells whether a bidder's list is downward monotonic, works out what a bidder gains, finds the best page of a
-//! small round, and shows where in a sheet one bidder's constraints stand. Page, gain and best page are there with a floor under each slot too. Its
-//! answers are proved, refusals included; this crate adds types and no judgement of its own.
+//! small round, shows where in a sheet one bidder's constraints stand, and writes the one sheet of version 2 for a round. Page, gain and best page are
+//! there with a floor under each slot too. Its answers are proved, refusals included; this crate adds types and no judgement of its own.
 //!
 //! The C header `include/pas.h` is the manual: the sheet's layout, the limits, what each call means. It says "place" for a slot and
 //! "condition" for a constraint, and so do the sentences of a [`Refusal`]; `docs/EMBEDDING.md` of the repository has the table of words.
@@ -73,6 +73,27 @@
 //! # Ok::<(), Refusal>(())
 //! ```
 //!
+//! A sheet of version 1 may have its constraints in any order and more than once, so that one round has many sheets. Its canonical form is the one of
+//! version 2; two rounds are the same exactly where these are equal:
+//!
+//! ```
+//! use pas::{Bidder, Kind, Refusal, SheetBuilder, Slot};
+//!
+//! let (own, other) = (Kind::OwnSlot(Slot(2)), Kind::OtherSlot { other: Bidder(1), slot: Slot(1) });
+//! let terms = SheetBuilder::new().effects([2, 1]).bids([5, 6]);
+//! let one = terms.clone().constraint(Bidder(2), own).constraint(Bidder(2), other).constraint(Bidder(2), own).build()?;
+//! let two = terms.clone().constraint(Bidder(2), other).constraint(Bidder(2), own).build()?;
+//! let less = terms.constraint(Bidder(2), own).build()?;
+//!
+//! assert!(one != two && one.same_round(&two) && !one.same_round(&less));
+//! let canonical = one.canonical();
+//! assert_eq!(canonical, two.canonical());
+//! assert_eq!((canonical.version(), canonical.tick(), canonical.constraints()), (2, 1, 2));
+//! assert_eq!(canonical.canonical(), canonical);
+//! assert_eq!(canonical.play(), one.play());
+//! # Ok::<(), Refusal>(())
+//! ```
+//!
 //! Where some slots cost more to show, a call is lent a floor for each slot. Here the floor of slot 1 is above every bid, so that it stays empty; that of
 //! slot 2 sets the price, since a bid of 36 is the smallest in ticks that reaches 34; that of slot 3 is 0 and asks nothing:
 //!
@@ -96,8 +117,8 @@
 //! ```
 //!
 //! Every call but the check is there twice: as a method of [`Sheet`], whose bytes the library has accepted, and as a function over bytes
-//! that nobody has checked. The check makes a [`Sheet`] of bytes (`Sheet::from_bytes`), and is a function too. `play_into`, `best_into` and
-//! their second forms with floors write to a buffer of the caller's and allocate nothing. [`raw`] has the calls with plain
+//! that nobody has checked. The check makes a [`Sheet`] of bytes (`Sheet::from_bytes`), and is a function too. `play_into`, `best_into`,
+//! their second forms with floors and `canonical_into` write to a buffer of the caller's and allocate nothing. [`raw`] has the calls with plain
 //! numbers, as in C. A [`Sheet`] can be read back: its tick, effects, bids and constraints, as the builder takes them.
 //!
 //! Calls may run in several threads at once. They take up to 40 KB of stack, which is measured and not proved (`PAS_STACK_PLAY` and the
@@ -117,6 +138,7 @@ mod refusal;
 mod sheet;
 
 pub use calls::{best_floors_into, best_into, best_page, best_page_floors, play_floors, play_floors_into};
+pub use calls::{canonical, canonical_into, same_round};
 pub use calls::{check, gain, gain_floors, is_downward, owner_part, play, play_into};
 pub use page::{BestPage, Page, Placement};
 pub use part::OwnerPart;

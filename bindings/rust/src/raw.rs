@@ -1,4 +1,4 @@
-//! The nine calls with plain numbers, as the C header has them, over slices.
+//! The ten calls with plain numbers, as the C header has them, over slices.
 //!
 //! Each returns 0, or the number of the first rule that the call breaks, by which [`Refusal`](crate::Refusal) names it; then everything
 //! lent stays as it was. This is the only module with `unsafe` in it.
@@ -51,6 +51,7 @@ mod library {
             result_len: usize,
             total: *mut u64,
         ) -> u32;
+        pub fn pas_canonical(sheet: *const u8, sheet_len: usize, result: *mut u8, result_len: usize, written: *mut usize) -> u32;
     }
 }
 
@@ -89,6 +90,12 @@ pub fn best(sheet: &[u8], result: &mut [u8], total: &mut u64) -> u32 {
 pub fn owner_part(sheet: &[u8], bidder: u32, start: &mut usize, length: &mut usize) -> u32 {
     // SAFETY: the slice, which is only read, is good for its length, and both numbers are aligned and lent to this call alone.
     unsafe { library::pas_owner_part(sheet.as_ptr(), sheet.len(), bidder, start, length) }
+}
+
+/// Writes the one sheet for a round, of version 2 with the constraints in order and each once, and gives its length.
+pub fn canonical(sheet: &[u8], result: &mut [u8], written: &mut usize) -> u32 {
+    // SAFETY: both slices are good for their lengths, and a `&mut` slice and a `&mut` number, which is aligned, overlap nothing else.
+    unsafe { library::pas_canonical(sheet.as_ptr(), sheet.len(), result.as_mut_ptr(), result.len(), written) }
 }
 
 /// As [`play`], with a floor under each slot.

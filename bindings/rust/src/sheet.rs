@@ -74,6 +74,9 @@ const TICK: usize = 4;
 
 /// A sheet that the library has accepted. What it holds can be read back, as the builder takes it: a builder that is given the effects,
 /// the bids, all constraints and, for version 2, the tick builds the same bytes.
+///
+/// Two sheets are equal (`==`) where their bytes are. One round can have many sheets of version 1: [`same_round`](Sheet::same_round) compares rounds, and
+/// [`canonical`](Sheet::canonical) gives the one sheet to keep or to hash.
 #[derive(Clone, Debug, PartialEq, Eq, Hash)]
 pub struct Sheet {
     bytes: Vec<u8>,
@@ -84,6 +87,11 @@ impl Sheet {
     pub fn from_bytes(bytes: &[u8]) -> Result<Sheet, Refusal> {
         calls::check(bytes)?;
         Ok(Sheet { bytes: bytes.to_vec() })
+    }
+
+    /// The sheet of bytes that the library accepts, as those that it has written are.
+    pub(crate) fn of_accepted(bytes: Vec<u8>) -> Sheet {
+        Sheet { bytes }
     }
 
     /// The sheet's bytes.
@@ -147,6 +155,21 @@ impl Sheet {
     /// version 1, or with 16.
     pub fn owner_part(&self, bidder: Bidder) -> Result<OwnerPart<'_>, Refusal> {
         calls::owner_part(&self.bytes, bidder)
+    }
+
+    /// The canonical form, the one sheet for the round; see [`canonical`](crate::canonical). An accepted sheet cannot be refused here.
+    pub fn canonical(&self) -> Sheet {
+        calls::canonical(&self.bytes).expect("an accepted sheet has a canonical form")
+    }
+
+    /// Writes the canonical form to a lent buffer and gives its length; see [`canonical_into`](crate::canonical_into). Only the buffer can be refused here.
+    pub fn canonical_into(&self, result: &mut [u8]) -> Result<usize, Refusal> {
+        calls::canonical_into(&self.bytes, result)
+    }
+
+    /// Whether another sheet says the same round; see [`same_round`](crate::same_round).
+    pub fn same_round(&self, other: &Sheet) -> bool {
+        calls::same_round(&self.bytes, &other.bytes).expect("accepted sheets have canonical forms")
     }
 
     /// So many of the sheet's fields of four bytes, after those that are skipped.

@@ -1,7 +1,7 @@
 //! The library and the independent engine must agree on every byte: numbers, answers, buffers with what lies behind the result, on
 //! good sheets and on damaged ones. The seeds are fixed, so that a failure comes back.
 
-use independent::random::{disordered, floors, in_ticks, round, tick, Floors, Manner, Random, Size};
+use independent::random::{disordered, floors, in_ticks, nearly, reshaped, round, tick, Floors, Manner, Random, Size};
 use independent::{engine, slow};
 use pas::raw;
 use std::collections::BTreeSet;
@@ -298,6 +298,107 @@ fn both_find_every_owners_part() {
     assert!(parts.iter().all(|&times| times > 1000), "parts, empty ones and empty ones at the end come up: {parts:?}");
 }
 
+/// A sheet for the canonical form: one time in three in another shape first, shuffled and with repeats.
+fn random_shape(random: &mut Random, most: Size) -> Vec<u8> {
+    let mut round = random_round(random, most);
+    if random.once_in(3) {
+        round = reshaped(random, round);
+    }
+    sheet_of(random, round)
+}
+
+#[test]
+fn both_write_the_same_canonical_sheet() {
+    let (mut random, mut seen, mut sizes) = (Random::seeded(13), Seen::default(), [0; 3]);
+    for _ in 0..40_000 {
+        let most = random.one_of(&[WHOLE, SMALL, SMALL, Size { bidders: 2, slots: 2, constraints: 12 }]);
+        let sheet = random_shape(&mut random, most);
+        // Around the length that is written, which with repeats is less than the sheet's own and 4.
+        let (mut form, mut length) = (vec![0; sheet.len() + 4], 0);
+        engine::canonical(&sheet, &mut form, &mut length);
+        let around = random.one_of(&[length, length, sheet.len(), sheet.len() + 4, 0]);
+        let lent = lent_buffer(&mut random, around);
+        let (mut ours, mut theirs, mut our_length, mut their_length) = (lent.clone(), lent.clone(), 77, 77);
+        let number = engine::canonical(&sheet, within(&mut theirs), &mut their_length);
+        assert_eq!(raw::canonical(&sheet, within(&mut ours), &mut our_length), number, "{sheet:?}");
+        assert_eq!((&ours, our_length), (&theirs, their_length), "{sheet:?}");
+        match number {
+            0 => {
+                assert!(our_length <= sheet.len() + 4 && ours[GUARD + our_length..] == lent[GUARD + our_length..], "{sheet:?}");
+                sizes[(our_length.cmp(&sheet.len()) as i8 + 1) as usize] += 1;
+            }
+            _ => assert!(ours == lent && our_length == 77, "a refused call altered something lent"),
+        }
+        seen.add(number);
+    }
+    seen.all_of_a_sheet_and([19]);
+    assert!(sizes.iter().all(|&times| times > 1000), "shorter, as long and longer forms come up: {sizes:?}");
+}
+
+#[test]
+fn rounds_are_the_same_exactly_where_the_document_says_so() {
+    let (mut random, mut seen, mut answers) = (Random::seeded(14), Seen::default(), [0; 2]);
+    for _ in 0..40_000 {
+        let most = random.one_of(&[WHOLE, SMALL, SMALL, Size { bidders: 2, slots: 2, constraints: 12 }]);
+        let one = random_round(&mut random, most);
+        let other = if random.once_in(3) { one.clone() } else { nearly(&mut random, one.clone()) };
+        let (one, other) = (reshaped(&mut random, one), reshaped(&mut random, other));
+        let (sheet, second) = (slow::sheet(&one), slow::sheet(&other));
+        let same = pas::same_round(&sheet, &second);
+        let number = engine::check(&second);
+        match number {
+            0 => {
+                assert_eq!(same, Ok(slow::same_round(&one, &other)), "{one:?}, {other:?}");
+                answers[usize::from(same == Ok(true))] += 1;
+            }
+            _ => assert_eq!(same.map_err(pas::Refusal::number), Err(number), "{one:?}, {other:?}"),
+        }
+        assert_eq!(pas::same_round(&second, &sheet), same);
+        seen.add(number);
+    }
+    assert!(answers.iter().all(|&times| times > 5000), "both answers come up: {answers:?}");
+    assert!([8, 9, 10, 27].iter().all(|number| seen.0.contains(number)), "and refused sheets: {:?}", seen.0);
+}
+
+#[test]
+fn a_canonical_sheet_gets_the_answers_of_the_sheet() {
+    let mut random = Random::seeded(15);
+    for _ in 0..20_000 {
+        let most = random.one_of(&[WHOLE, SMALL, SMALL]);
+        let played = random_round(&mut random, most);
+        let floors = random_floors(&mut random, &played);
+        let (truth, played) = (truth_of(&mut random, &played), reshaped(&mut random, played));
+        let sheet = slow::sheet(&played);
+        let form = pas::canonical(&sheet).expect("a random round is a good sheet");
+        let form = form.as_bytes();
+        assert_eq!(pas::canonical(form).as_ref().map(pas::Sheet::as_bytes), Ok(form), "{sheet:?}");
+        assert_eq!(pas::same_round(&sheet, form), Ok(true), "{sheet:?}");
+
+        assert_eq!(pas::play(form), pas::play(&sheet), "{sheet:?}");
+        assert_eq!(pas::play_floors(form, &floors), pas::play_floors(&sheet, &floors), "{sheet:?}, {floors:?}");
+        assert_eq!(pas::best_page(form), pas::best_page(&sheet), "{sheet:?}");
+        assert_eq!(pas::best_page_floors(form, &floors), pas::best_page_floors(&sheet, &floors), "{sheet:?}, {floors:?}");
+        let (bidder, worth) = (bidder_number(&mut random, &sheet) as u8, worth(&mut random));
+        let bidder = pas::Bidder(bidder);
+        assert_eq!(pas::is_downward(form, bidder), pas::is_downward(&sheet, bidder), "{sheet:?}, {bidder:?}");
+        let (gain, with_floors) = (pas::gain(&sheet, &truth, bidder, worth), pas::gain_floors(&sheet, &floors, &truth, bidder, worth));
+        assert_eq!(pas::gain(form, &truth, bidder, worth), gain, "{sheet:?}, {truth:?}, {bidder:?}, {worth}");
+        assert_eq!(
+            pas::gain_floors(form, &floors, &truth, bidder, worth),
+            with_floors,
+            "{sheet:?}, {floors:?}, {truth:?}, {bidder:?}, {worth}"
+        );
+        // and as the truth sheet
+        let (gain, with_floors) = (pas::gain(&truth, &sheet, bidder, worth), pas::gain_floors(&truth, &floors, &sheet, bidder, worth));
+        assert_eq!(pas::gain(&truth, form, bidder, worth), gain, "{truth:?}, {sheet:?}, {bidder:?}, {worth}");
+        assert_eq!(
+            pas::gain_floors(&truth, &floors, form, bidder, worth),
+            with_floors,
+            "{truth:?}, {floors:?}, {sheet:?}, {bidder:?}, {worth}"
+        );
+    }
+}
+
 #[test]
 fn both_write_the_same_page_with_floors() {
     let (mut random, mut seen, mut others) = (Random::seeded(8), Seen::default(), [0; 2]);
@@ -431,6 +532,7 @@ fn the_library_keeps_to_the_document_tried_word_by_word() {
             let expected = tick.map(|_| slow::owner_part(&round, bidder)).ok_or(pas::Refusal::UnorderedVersion);
             assert_eq!(part, expected, "{round:?}");
         }
+        assert_eq!(sheet.canonical().as_bytes(), slow::sheet(&slow::canonical(&round)), "{round:?}");
     }
 }
 

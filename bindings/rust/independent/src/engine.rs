@@ -1,7 +1,8 @@
-//! The nine calls over bytes that nobody has checked, for speed. Each returns 0, or the first number of documents 01 and 02 that applies,
+//! The ten calls over bytes that nobody has checked, for speed. Each returns 0, or the first number of documents 01 and 02 that applies,
 //! and then leaves everything lent as it was.
 
 use crate::best::{Search, MOST};
+use crate::canonical;
 use crate::fill::fill;
 use crate::read::{accept, accept_floors, constraint, word_at, words, Parts, LARGEST_BID, MOST_BIDDERS, MOST_SLOTS};
 
@@ -170,4 +171,22 @@ pub fn owner_part(sheet: &[u8], bidder: u32, start: &mut usize, length: &mut usi
     *start = sheet.len() - 4 * (all.len() - first);
     *length = 4 * owned;
     0
+}
+
+/// Writes the sheet of version 2 that says the same round, with the constraints in order and each once, and gives its length.
+pub fn canonical(sheet: &[u8], result: &mut [u8], written: &mut usize) -> u32 {
+    let parts = match accept(sheet) {
+        Ok(parts) => parts,
+        Err(number) => return number,
+    };
+    let length = if parts.ordered { copy(sheet, result) } else { canonical::write(&parts, result) };
+    let Some(length) = length else { return 19 };
+    *written = length;
+    0
+}
+
+/// Copies a sheet of version 2, which is in order already, and gives its length, where there is room for it.
+fn copy(sheet: &[u8], result: &mut [u8]) -> Option<usize> {
+    result.get_mut(..sheet.len())?.copy_from_slice(sheet);
+    Some(sheet.len())
 }

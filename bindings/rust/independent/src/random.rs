@@ -1,7 +1,7 @@
 //! Random numbers from a fixed seed, and random rounds of several kinds and of both versions. The same seed gives the same rounds on every
 //! machine.
 
-use crate::read::LARGEST_BID;
+use crate::read::{LARGEST_BID, MOST_CONSTRAINTS};
 use crate::slow::{Constraint, Round};
 
 /// A generator of 64-bit numbers (SplitMix64).
@@ -169,8 +169,7 @@ pub fn tick(random: &mut Random) -> Option<u32> {
 pub fn in_ticks(mut round: Round, tick: Option<u32>) -> Round {
     round.tick = tick;
     if tick.is_some() {
-        round.constraints.sort_unstable();
-        round.constraints.dedup();
+        put_in_order(&mut round.constraints);
     }
     let step = tick.unwrap_or(1);
     for bid in &mut round.bids {
@@ -178,6 +177,12 @@ pub fn in_ticks(mut round: Round, tick: Option<u32>) -> Round {
         *bid = step * nearest.min(LARGEST_BID / step);
     }
     round
+}
+
+/// Constraints as version 2 has them.
+fn put_in_order(constraints: &mut Vec<Constraint>) {
+    constraints.sort_unstable();
+    constraints.dedup();
 }
 
 /// The same round with its constraints in disorder: two that stand in a row are exchanged, or one is repeated, right after itself or
@@ -194,6 +199,64 @@ pub fn disordered(random: &mut Random, mut round: Round) -> Round {
         _ => all[at] = all[random.between(0, all.len() - 1)],
     }
     round
+}
+
+/// The same round in another shape. In version 1 the constraints are shuffled, and some of them, or none, come up to three times more, as far as
+/// there is room; with tick 1 it may be of either version. In version 2 with another tick there is no other shape.
+pub fn reshaped(random: &mut Random, mut round: Round) -> Round {
+    let tick = round.tick.unwrap_or(1);
+    let all = &mut round.constraints;
+    put_in_order(all);
+    if tick != 1 || random.once_in(4) {
+        round.tick = Some(tick);
+        return round;
+    }
+    round.tick = None;
+    let more = if all.is_empty() || random.once_in(3) { 0 } else { random.between(1, 3 * all.len()).min(MOST_CONSTRAINTS - all.len()) };
+    for _ in 0..more {
+        let again = random.one_of(all);
+        all.push(again);
+    }
+    for last in (1..all.len()).rev() {
+        all.swap(last, random.between(0, last));
+    }
+    round
+}
+
+/// A round that is nearly the same: a bid, an effect, the tick or a constraint is another one, or there is a constraint more or one less. Now and then
+/// the sheet of it is refused, and now and then it is the same round after all.
+pub fn nearly(random: &mut Random, mut round: Round) -> Round {
+    let size = Size { bidders: round.bids.len(), slots: round.effects.len(), constraints: 1 };
+    let step = round.tick.unwrap_or(1);
+    let (bid, effect) = (random.between(0, size.bidders - 1), random.between(0, size.slots - 1));
+    let change = random.between(0, 5);
+    match change {
+        0 if round.bids[bid] < step || random.once_in(2) => round.bids[bid] += step,
+        0 => round.bids[bid] -= step,
+        1 if random.once_in(2) => round.effects[effect] += 1,
+        1 => round.effects[effect] -= 1,
+        2 => round.tick = Some(random.one_of(&[1, 2, step + 1, 2 * step])),
+        3 | 4 if !round.constraints.is_empty() => {
+            let gone = random.one_of(&round.constraints);
+            round.constraints.retain(|&of| of != gone);
+            if change == 4 {
+                round.constraints.push(near(random, gone));
+            }
+        }
+        _ => round.constraints.extend(constraints(random, size, Manner::Mixed)),
+    }
+    round.constraints.truncate(MOST_CONSTRAINTS);
+    if round.tick.is_some() {
+        put_in_order(&mut round.constraints);
+    }
+    round
+}
+
+/// A constraint with one of its numbers one more or less.
+fn near(random: &mut Random, mut constraint: Constraint) -> Constraint {
+    let number = &mut constraint[random.between(0, 3)];
+    *number = if random.once_in(2) { *number + 1 } else { number.saturating_sub(1) };
+    constraint
 }
 
 fn constraints(random: &mut Random, size: Size, manner: Manner) -> Vec<Constraint> {

@@ -1,4 +1,4 @@
-//! Document 01 word by word, with the ticks, the owner order and the floors of document 02, by trying everything: the measure for `engine`, which is
+//! Document 01 word by word, with the ticks, the owner order, the canonical sheet and the floors of document 02, by trying everything: the measure for `engine`, which is
 //! quick and so needs one.
 //!
 //! Rounds must be small: a price is found by replaying the round with bid 0, one tick, two ticks and so on, and the best page by going
@@ -45,6 +45,31 @@ pub fn owner_part(round: &Round, bidder: u8) -> (usize, usize) {
     let first = all.iter().position(|of| of[0] == bidder);
     let higher = all.iter().position(|of| of[0] > bidder);
     (first.or(higher).map_or(sheet.len(), at), 4 * owned)
+}
+
+/// "Version 2, with the conditions in order and repeats dropped": every condition that could be is asked for in order, and those that the round has are
+/// taken; "version 1 means tick 1".
+pub fn canonical(round: &Round) -> Round {
+    let (bidders, slots) = (0..=round.bids.len() as u8, 0..=round.effects.len() as u8);
+    let others = || bidders.clone().flat_map(|other| slots.clone().map(move |slot| (other, slot)));
+    let mut constraints = Vec::new();
+    for owner in bidders.clone() {
+        for own in slots.clone() {
+            let all = others().map(|(other, slot)| [owner, own, other, slot]);
+            constraints.extend(all.filter(|of| round.constraints.contains(of)));
+        }
+    }
+    Round { tick: Some(round.tick.unwrap_or(1)), constraints, ..round.clone() }
+}
+
+/// "n, m, tick, effects, bids and the sets of conditions are equal."
+pub fn same_round(one: &Round, other: &Round) -> bool {
+    let within = |inner: &Round, outer: &Round| inner.constraints.iter().all(|of| outer.constraints.contains(of));
+    one.bids == other.bids
+        && one.effects == other.effects
+        && one.tick.unwrap_or(1) == other.tick.unwrap_or(1)
+        && within(one, other)
+        && within(other, one)
 }
 
 /// The bidder of each slot, 0 for none.

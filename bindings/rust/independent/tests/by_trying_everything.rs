@@ -1,6 +1,6 @@
 //! The quick engine against the document tried word by word, on rounds small enough for that.
 
-use independent::random::{disordered, floors, in_ticks, round, tick, Floors, Manner, Random, Size};
+use independent::random::{disordered, floors, in_ticks, nearly, reshaped, round, tick, Floors, Manner, Random, Size};
 use independent::{engine, slow};
 
 const MANNERS: [Manner; 6] = [Manner::Mixed, Manner::Pairs, Manner::OwnSlots, Manner::Exclusions, Manner::Chain, Manner::Ties];
@@ -120,4 +120,45 @@ fn parts_are_those_that_a_walk_through_the_sheet_finds() {
         }
     }
     assert!(empty[0] > 1000 && empty[1] > 1000, "empty ones come up too: {empty:?}");
+}
+
+/// What is written for a round that is in an accepted sheet.
+fn written(round: &slow::Round) -> Vec<u8> {
+    let sheet = slow::sheet(round);
+    let (mut result, mut length) = (vec![0; sheet.len() + 4], 0);
+    assert_eq!(engine::canonical(&sheet, &mut result, &mut length), 0, "{round:?}");
+    result.truncate(length);
+    result
+}
+
+#[test]
+fn canonical_sheets_have_every_constraint_of_the_round_in_order() {
+    let (mut random, mut shorter) = (Random::seeded(17), [0; 2]);
+    for _ in 0..6_000 {
+        let round = small_round(&mut random);
+        let round = reshaped(&mut random, round);
+        let canonical = slow::canonical(&round);
+        assert!(slow::is_in_order(&canonical) && slow::same_round(&canonical, &round), "{round:?}");
+        assert_eq!(written(&round), slow::sheet(&canonical), "{round:?}");
+        assert_eq!(written(&canonical), slow::sheet(&canonical), "{round:?}");
+        shorter[usize::from(canonical.constraints.len() < round.constraints.len())] += 1;
+    }
+    assert!(shorter.iter().all(|&times| times > 1000), "some have repeats and some have none: {shorter:?}");
+}
+
+#[test]
+fn canonical_sheets_are_equal_exactly_where_rounds_are() {
+    let (mut random, mut answers) = (Random::seeded(18), [0; 2]);
+    for _ in 0..20_000 {
+        let one = small_round(&mut random);
+        let other = if random.once_in(3) { one.clone() } else { nearly(&mut random, one.clone()) };
+        let (one, other) = (reshaped(&mut random, one), reshaped(&mut random, other));
+        if engine::check(&slow::sheet(&other)) != 0 {
+            continue;
+        }
+        let same = slow::same_round(&one, &other);
+        assert_eq!(written(&one) == written(&other), same, "{one:?}, {other:?}");
+        answers[usize::from(same)] += 1;
+    }
+    assert!(answers.iter().all(|&times| times > 1000), "both answers come up: {answers:?}");
 }
