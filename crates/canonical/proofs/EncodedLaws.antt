@@ -27,7 +27,7 @@ use Rattle.sheet.specs.Sheet.{
 }
 use Rattle.sheet.specs.Encoded.{Condition, on, words, quads, countBytes, bodyBytes, sheetInTicks}
 use Rattle.sheet.proofs.HeaderLaws.{start-two, tick-two}
-use Rattle.canonical.specs.EngineParts.{conditionField, none}
+use Rattle.canonical.specs.EngineParts.{conditionField, blankCondition}
 
 -- the first of lists one after another, and the others
 joined-front : (f : ℕ → List ℕ) (k : ℕ) → joined f (suc k) ≡ f 0 ++ joined (λ i. f (suc i)) k
@@ -81,7 +81,7 @@ unfolding quadBytes
 length-quad q = refl
 
 length-quads : (qs : List Condition) → length (quads qs) ≡ 4 * length qs
-length-quads qs = ap length (quads-joined none qs) ∙ length-joined (λ i. quadBytes (getD qs i none)) 4 (λ i. length-quad (getD qs i none)) (length qs)
+length-quads qs = ap length (quads-joined blankCondition qs) ∙ length-joined (λ i. quadBytes (getD qs i blankCondition)) 4 (λ i. length-quad (getD qs i blankCondition)) (length qs)
 
 -- a byte of lists of four, one after another behind a front of a known length
 byte-behind : (front : List ℕ) (f : ℕ → List ℕ) (rest : List ℕ) (at n k j : ℕ) → length front ≡ at → ((i : ℕ) → length (f i) ≡ 4) → k < n → j < 4 →
@@ -174,19 +174,19 @@ module _ (tick : ℕ) (bids effects : List ℕ) (qs : List Condition) where
   conditions-start : constraintsStart encoded ≡ 13 + 4 * length effects + 4 * length bids
   conditions-start = let start = start-two encoded read-version in let n = read-bidders in let m = read-slots in omega arith
 
-  condition-byte : (k j : ℕ) → k < length qs → j < 4 → byteAt encoded (constraintsStart encoded + 4 * k + j) ≡ byteAt (quadBytes (getD qs k none)) j
+  condition-byte : (k j : ℕ) → k < length qs → j < 4 → byteAt encoded (constraintsStart encoded + 4 * k + j) ≡ byteAt (quadBytes (getD qs k blankCondition)) j
   condition-byte k j l b =
       ap₂ (λ (t : List ℕ) (x : ℕ). byteAt t (x + 4 * k + j))
       (from-conditions
-      ∙ ap (λ (w : List ℕ). ((header-bytes ++ words effects) ++ words bids) ++ w) (quads-joined none qs ∙ sym (append-nil _)))
+      ∙ ap (λ (w : List ℕ). ((header-bytes ++ words effects) ++ words bids) ++ w) (quads-joined blankCondition qs ∙ sym (append-nil _)))
       conditions-start
-      ∙ byte-behind ((header-bytes ++ words effects) ++ words bids) (λ i. quadBytes (getD qs i none)) []
-      (13 + 4 * length effects + 4 * length bids) (length qs) k j bids-size (λ i. length-quad (getD qs i none)) l b
+      ∙ byte-behind ((header-bytes ++ words effects) ++ words bids) (λ i. quadBytes (getD qs i blankCondition)) []
+      (13 + 4 * length effects + 4 * length bids) (length qs) k j bids-size (λ i. length-quad (getD qs i blankCondition)) l b
 
-  pub read-condition : (k : ℕ) → k < length qs → conditionField encoded k ≡ getD qs k none
+  pub read-condition : (k : ℕ) → k < length qs → conditionField encoded k ≡ getD qs k blankCondition
   unfolding conditionField ownerField ownSlotField otherField otherSlotField quadBytes
   read-condition k l =
-      let q = getD qs k none in
+      let q = getD qs k blankCondition in
       let start = constraintsStart encoded + 4 * k in
       ap₂ (λ (a b : ℕ). on a b (byteAt encoded (start + 2)) (byteAt encoded (start + 3)))
       (ap (byteAt encoded) (sym (add-zero start)) ∙ condition-byte k 0 l (omega arith))

@@ -31,14 +31,14 @@ use Rattle.sheet.specs.Encoded.{Condition, on, quads}
 use Rattle.sheet.proofs.AcceptedLaws.{accepted-sheet}
 use Rattle.sheet.proofs.OrderLaws.{rising-over}
 use Rattle.canonical_sort.specs.EngineSort.{digitOf, DigitsBelow, Among, Sorted, EachOnce}
-use Rattle.canonical.specs.Canonical.{listed, conditionsInOrder}
-use Rattle.canonical.specs.EngineParts.{conditionField, numberOf, none, numberBytes, numbersBytes, InSheetOrder}
+use Rattle.canonical.specs.Canonical.{hasCondition, conditionsInOrder}
+use Rattle.canonical.specs.EngineParts.{conditionField, numberOf, blankCondition, numberBytes, numbersBytes, InSheetOrder}
 use Rattle.canonical.proofs.EncodedLaws.{quadBytes, quads-row}
 
 -- a sheet lists just the conditions that stand in it
-pub listed-where : (s : List ℕ) (a b c d : ℕ) → listed s a b c d ≡ true → (i : ℕ) × (i < constraintCount s) × (conditionField s i ≡ on a b c d)
-unfolding listed conditionField
-listed-where s a b c d e =
+pub has-where : (s : List ℕ) (a b c d : ℕ) → hasCondition s a b c d ≡ true → (i : ℕ) × (i < constraintCount s) × (conditionField s i ≡ on a b c d)
+unfolding hasCondition conditionField
+has-where s a b c d e =
     let w = any-where _ (constraintCount s) e in
     let i = w .0 in
     let first = and-parts (eqb (ownerField s i) a) _ (w .2) in
@@ -50,9 +50,9 @@ listed-where s a b c d e =
           ∙ ap₂ (λ (x y : ℕ). on a b x y) (eqb-true (otherField s i) c (third .0)) (eqb-true (otherSlotField s i) d (third .1)),
     )
 
-pub listed-at : (s : List ℕ) (i : ℕ) → i < constraintCount s → listed s (ownerField s i) (ownSlotField s i) (otherField s i) (otherSlotField s i) ≡ true
-unfolding listed
-listed-at s i l =
+pub has-at : (s : List ℕ) (i : ℕ) → i < constraintCount s → hasCondition s (ownerField s i) (ownSlotField s i) (otherField s i) (otherSlotField s i) ≡ true
+unfolding hasCondition
+has-at s i l =
     any-at _ (constraintCount s) i l
     (and-holds (eq-eqb (ownerField s i) (ownerField s i) refl)
     (and-holds (eq-eqb (ownSlotField s i) (ownSlotField s i) refl)
@@ -61,7 +61,7 @@ listed-at s i l =
 -- The conditions in order, level by level.
 module _ (s : List ℕ) where
   abbrev one : (a b c d : ℕ) → List Condition
-  one a b c d = cond (listed s a b c d) (on a b c d ∷ []) []
+  one a b c d = cond (hasCondition s a b c d) (on a b c d ∷ []) []
 
   abbrev withOther : (a b c : ℕ) → List Condition
   withOther a b c = joined (λ d. one a b c d) (suc (slotCount s))
@@ -72,16 +72,16 @@ module _ (s : List ℕ) where
   abbrev withOwner : ℕ → List Condition
   withOwner a = joined (λ b. withOwn a b) (suc (slotCount s))
 
-  -- who is in it is listed
-  one-mem : (a b c d : ℕ) (t : Bool) → listed s a b c d ≡ t → (q : Condition) → List·Memᴰ q (cond t (on a b c d ∷ []) []) →
-      (listed s a b c d ≡ true) × (q ≡ on a b c d)
+  -- who is in it is a condition of the sheet
+  one-mem : (a b c d : ℕ) (t : Bool) → hasCondition s a b c d ≡ t → (q : Condition) → List·Memᴰ q (cond t (on a b c d ∷ []) []) →
+      (hasCondition s a b c d ≡ true) × (q ≡ on a b c d)
   one-mem a b c d true e q m = (e, List·Memᴰ·eq-of-singleton m)
   one-mem a b c d false e q m = absurd (List·Memᴰ·not-nil m)
 
   one-where : (a b c d : ℕ) (q : Condition) → List·Memᴰ q (one a b c d) → (i : ℕ) × (i < constraintCount s) × (conditionField s i ≡ q)
   one-where a b c d q m =
-      let found = one-mem a b c d (listed s a b c d) refl q m in
-      let w = listed-where s a b c d (found .0) in
+      let found = one-mem a b c d (hasCondition s a b c d) refl q m in
+      let w = has-where s a b c d (found .0) in
       (w .0, w .1, w .2 ∙ sym (found .1))
 
   in-order-where : (q : Condition) → List·Memᴰ q (conditionsInOrder s) → (i : ℕ) × (i < constraintCount s) × (conditionField s i ≡ q)
@@ -103,7 +103,7 @@ module _ (s : List ℕ) where
       let c = otherField s i in
       let d = otherSlotField s i in
       let here : List·Memᴰ (on a b c d) (one a b c d) =
-      subst (λ (t : Bool). List·Memᴰ (on a b c d) (cond t (on a b c d ∷ []) [])) (sym (listed-at s i l)) (List·Memᴰ·head refl) in
+      subst (λ (t : Bool). List·Memᴰ (on a b c d) (cond t (on a b c d ∷ []) [])) (sym (has-at s i l)) (List·Memᴰ·head refl) in
       joined-mem (λ a. withOwner a) (suc (bidderCount s)) a (on a b c d) (let h = fits .most-owner in omega arith)
       (joined-mem (λ b. withOwn a b) (suc (slotCount s)) b (on a b c d) (let h = fits .most-own in omega arith)
       (joined-mem (λ c. withOther a b c) (suc (bidderCount s)) c (on a b c d) (let h = fits .most-other in omega arith)
@@ -119,7 +119,7 @@ module _ (s : List ℕ) where
     other-rises : (a b c : ℕ) → Rising numberOf (fieldsNumber a b c 0) (fieldsNumber a b (suc c) 0) (withOther a b c)
     other-rises a b c =
         rising-higher numberOf (fieldsNumber a b c 0) (fieldsNumber a b c (suc (slotCount s))) (fieldsNumber a b (suc c) 0) (withOther a b c) (omega arith)
-        (rising-joined numberOf (λ d. one a b c d) (λ d. fieldsNumber a b c d) (suc (slotCount s)) (λ d l. one-rises a b c d (listed s a b c d)))
+        (rising-joined numberOf (λ d. one a b c d) (λ d. fieldsNumber a b c d) (suc (slotCount s)) (λ d l. one-rises a b c d (hasCondition s a b c d)))
 
     own-rises : (a b : ℕ) → Rising numberOf (fieldsNumber a b 0 0) (fieldsNumber a (suc b) 0 0) (withOwn a b)
     own-rises a b =
@@ -137,7 +137,7 @@ module _ (s : List ℕ) where
 
 -- Sheets that list the same conditions have the same in order.
 pub conditions-same : (s t : List ℕ) → bidderCount s ≡ bidderCount t → slotCount s ≡ slotCount t →
-    ((owner own other others : ℕ) → listed s owner own other others ≡ listed t owner own other others) → conditionsInOrder s ≡ conditionsInOrder t
+    ((owner own other others : ℕ) → hasCondition s owner own other others ≡ hasCondition t owner own other others) → conditionsInOrder s ≡ conditionsInOrder t
 unfolding conditionsInOrder
 conditions-same s t n m same =
     joined-same (λ a. withOwner s a) (λ a. shown a (bidderCount s) (slotCount s)) (suc (bidderCount s))
@@ -165,18 +165,18 @@ module _ (s : List ℕ) (ok : Accepted s) where
   rises = in-order-rises s (facts .counts .most-bidders) (facts .counts .most-slots)
 
   pub condition-from : (k : ℕ) → k < length (conditionsInOrder s) →
-      (i : ℕ) × (i < constraintCount s) × (getD (conditionsInOrder s) k none ≡ conditionField s i)
+      (i : ℕ) × (i < constraintCount s) × (getD (conditionsInOrder s) k blankCondition ≡ conditionField s i)
   condition-from k l =
-      let w = in-order-where s (getD (conditionsInOrder s) k none) (at-mem (conditionsInOrder s) none k l) in
+      let w = in-order-where s (getD (conditionsInOrder s) k blankCondition) (at-mem (conditionsInOrder s) blankCondition k l) in
       (w .0, w .1, sym (w .2))
 
   pub condition-kept : (i : ℕ) → i < constraintCount s →
-      (k : ℕ) × (k < length (conditionsInOrder s)) × (getD (conditionsInOrder s) k none ≡ conditionField s i)
-  condition-kept i l = mem-at (conditionsInOrder s) none (conditionField s i) (in-order-has s ok i l)
+      (k : ℕ) × (k < length (conditionsInOrder s)) × (getD (conditionsInOrder s) k blankCondition ≡ conditionField s i)
+  condition-kept i l = mem-at (conditionsInOrder s) blankCondition (conditionField s i) (in-order-has s ok i l)
 
   pub conditions-rise : (k : ℕ) → suc k < length (conditionsInOrder s) →
-      numberOf (getD (conditionsInOrder s) k none) < numberOf (getD (conditionsInOrder s) (suc k) none)
-  conditions-rise = rising-next numberOf 0 (fieldsNumber (suc (bidderCount s)) 0 0 0) (conditionsInOrder s) none rises
+      numberOf (getD (conditionsInOrder s) k blankCondition) < numberOf (getD (conditionsInOrder s) (suc k) blankCondition)
+  conditions-rise = rising-next numberOf 0 (fieldsNumber (suc (bidderCount s)) 0 0 0) (conditionsInOrder s) blankCondition rises
 
   pub few-conditions : length (conditionsInOrder s) ≤ constraintCount s
   few-conditions =

@@ -126,26 +126,26 @@ three-runs out first middle last a b e g =
     ∙ ap (λ (n : ℕ). sets (sets out 0 first) n (middle ++ last)) (let z : a ≡ 0 + length first = omega arith in z)
     ∙ sets-then first (middle ++ last) out 0
 
-length-header : (n m c : ℕ) → length (headerOf n m c) ≡ 13
+length-header : (tick n m c : ℕ) → length (headerOf tick n m c) ≡ 13
 unfolding headerOf bytes32
-length-header n m c = refl
+length-header tick n m c = refl
 
 -- and of the header, the effects and bids, and the numbers they are the written sheet.
 pub ordered-written : (s out one two three numbers : List ℕ) (k : ℕ) → Accepted s → version s ≡ 1 → ((i : ℕ) → byteAt s i < 256) →
     InSheetOrder s numbers k →
-    one ≡ sets out 0 (headerOf (bidderCount s) (slotCount s) k) →
+    one ≡ sets out 0 (headerOf 1 (bidderCount s) (slotCount s) k) →
     two ≡ sets one 13 (take (4 * (bidderCount s + slotCount s)) (drop 9 s)) →
     three ≡ sets two (13 + 4 * (bidderCount s + slotCount s)) (numbersBytes numbers k) →
     three ≡ sets out 0 (canonicalSheet s)
 ordered-written s out one two three numbers k ok first low order e f g =
     let body = 4 * (bidderCount s + slotCount s) in
-    let header = headerOf (bidderCount s) (slotCount s) k in
+    let header = headerOf 1 (bidderCount s) (slotCount s) k in
     let middle = take body (drop 9 s) in
     let size : length middle ≡ body =
     length-take-le body (drop 9 s) (let left = length-drop 9 s in let room = body-room s ok first in omega arith) in
     g
     ∙ ap (λ (l : List ℕ). sets l (13 + body) (numbersBytes numbers k)) (f ∙ ap (λ (l : List ℕ). sets l 13 middle) e)
-    ∙ three-runs out header middle (numbersBytes numbers k) 13 (13 + body) (length-header (bidderCount s) (slotCount s) k) (omega arith)
+    ∙ three-runs out header middle (numbersBytes numbers k) 13 (13 + body) (length-header 1 (bidderCount s) (slotCount s) k) (omega arith)
     ∙ ap (sets out 0) (sym (written-parts s numbers k ok first low order))
 
 -- The call's three ways out: a number of the check, 19, and the written sheet.

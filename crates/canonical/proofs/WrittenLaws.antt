@@ -42,9 +42,9 @@ use Rattle.sheet.specs.Encoded.{Condition, on, words, quads, countBytes, bodyBy
 use Rattle.sheet.proofs.HeaderLaws.{start-two, tick-two, start-other, tick-other}
 use Rattle.sheet.proofs.AcceptedLaws.{accepted-sheet, sheet-accepted}
 use Rattle.sheet.proofs.RoundLaws.{written-fields}
-use Rattle.canonical.specs.Canonical.{listed, conditionsInOrder, canonicalSheet, SameRound}
-use Rattle.canonical.specs.EngineParts.{headerOf, conditionField, numberOf, none, numbersBytes, InSheetOrder}
-use Rattle.canonical.proofs.OrderedLaws.{listed-where, listed-at, few-conditions, condition-from, condition-kept, conditions-rise, conditions-same, conditions-two}
+use Rattle.canonical.specs.Canonical.{hasCondition, conditionsInOrder, canonicalSheet, SameRound}
+use Rattle.canonical.specs.EngineParts.{headerOf, conditionField, numberOf, blankCondition, numbersBytes, InSheetOrder}
+use Rattle.canonical.proofs.OrderedLaws.{has-where, has-at, few-conditions, condition-from, condition-kept, conditions-rise, conditions-same, conditions-two}
 use Rattle.canonical.proofs.EncodedLaws.{
   words-row,
   quadBytes,
@@ -60,10 +60,6 @@ use Rattle.canonical.proofs.EncodedLaws.{
   read-condition,
 }
 
--- the header of version 2
-unfoldable header : (tick n m c : ℕ) → List ℕ
-header tick n m c = 0x50 ∷ 0x41 ∷ 0x53 ∷ 2 ∷ 0 ∷ n ∷ m ∷ c % 256 ∷ c / 256 ∷ bytes32 tick
-
 -- the effects' bytes, and the bids'
 abbrev effectBytes : List ℕ → List ℕ
 effectBytes s = joined (λ k. bytes32 (effectField s (suc k))) (slotCount s)
@@ -73,17 +69,17 @@ bidBytes s = joined (λ i. bytes32 (bidField s (suc i))) (bidderCount s)
 
 -- a sheet of version 2 of these parts
 abbrev assembled : (tick n m : ℕ) (effects bids : List ℕ) → List Condition → List ℕ
-assembled tick n m effects bids qs = header tick n m (length qs) ++ (effects ++ (bids ++ quads qs))
+assembled tick n m effects bids qs = headerOf tick n m (length qs) ++ (effects ++ (bids ++ quads qs))
 
 -- what is written, part by part
 written-joined : (s : List ℕ) →
     canonicalSheet s ≡ assembled (tickField s) (bidderCount s) (slotCount s) (effectBytes s) (bidBytes s) (conditionsInOrder s)
-unfolding canonicalSheet sheetInTicks countBytes bodyBytes header bytes32
+unfolding canonicalSheet sheetInTicks countBytes bodyBytes headerOf bytes32
 written-joined s =
     let bids = row (λ i. bidField s (suc i)) (bidderCount s) in
     let effects = row (λ k. effectField s (suc k)) (slotCount s) in
     let qs = conditionsInOrder s in
-    ap₂ (λ (n m : ℕ). header (tickField s) n m (length qs) ++ (words effects ++ (words bids ++ quads qs)))
+    ap₂ (λ (n m : ℕ). headerOf (tickField s) n m (length qs) ++ (words effects ++ (words bids ++ quads qs)))
     (length-row (λ i. bidField s (suc i)) (bidderCount s))
     (length-row (λ k. effectField s (suc k)) (slotCount s))
     ∙ ap₂ (λ (a b : List ℕ). assembled (tickField s) (bidderCount s) (slotCount s) a b qs)
@@ -182,8 +178,8 @@ module _ (s : List ℕ) (ok : Accepted s) (small : (i : ℕ) → byteAt s i < 25
       let high : byteAt s 8 ≡ constraintCount s / 256 = (let b = small 7 in omega arith) in
       four-stand s 5 nine ∙ ap₂ (λ (c d : ℕ). bidderCount s ∷ slotCount s ∷ c ∷ d ∷ []) low high
 
-  header-stands : version s ≡ 2 → take 13 s ≡ header (tickField s) (bidderCount s) (slotCount s) (constraintCount s)
-  unfolding header
+  header-stands : version s ≡ 2 → take 13 s ≡ headerOf (tickField s) (bidderCount s) (slotCount s) (constraintCount s)
+  unfolding headerOf
   header-stands two =
       let start = start-two s two in
       let long = accepted-sheet s ok .form .whole-header in
@@ -194,16 +190,15 @@ module _ (s : List ℕ) (ok : Accepted s) (small : (i : ℕ) → byteAt s i < 25
 
 -- of version 1: a new header, the bytes of effects and bids, and the numbers' bytes
 pub written-parts : (s numbers : List ℕ) (k : ℕ) → Accepted s → version s ≡ 1 → ((i : ℕ) → byteAt s i < 256) → InSheetOrder s numbers k →
-    canonicalSheet s ≡ headerOf (bidderCount s) (slotCount s) k ++ (take (4 * (bidderCount s + slotCount s)) (drop 9 s) ++ numbersBytes numbers k)
-unfolding header headerOf
+    canonicalSheet s ≡ headerOf 1 (bidderCount s) (slotCount s) k ++ (take (4 * (bidderCount s + slotCount s)) (drop 9 s) ++ numbersBytes numbers k)
 written-parts s numbers k ok one small order =
     let n = bidderCount s in
     let m = slotCount s in
     let qs = conditionsInOrder s in
     let not-two : version s ≡ 2 → ⊥ = (λ two. absurd (omega arith)) in
     written-joined s
-    ∙ ap₂ (λ (t c : ℕ). header t n m c ++ (effectBytes s ++ (bidBytes s ++ quads qs))) (tick-other s not-two) (sym (order .as-many))
-    ∙ ap (λ (r : List ℕ). header 1 n m k ++ r)
+    ∙ ap₂ (λ (t c : ℕ). headerOf t n m c ++ (effectBytes s ++ (bidBytes s ++ quads qs))) (tick-other s not-two) (sym (order .as-many))
+    ∙ ap (λ (r : List ℕ). headerOf 1 n m k ++ r)
     (sym (append-assoc (effectBytes s) (bidBytes s) (quads qs))
     ∙ ap₂ _++_
     (sym (both-stand s ok small) ∙ ap (λ (x : ℕ). take (4 * (n + m)) (drop x s)) (start-other s not-two))
@@ -249,7 +244,7 @@ module _ (s : List ℕ) where
   unfolding canonicalSheet
   written-constraints = read-constraints (tickField s) bidRow effectRow (conditionsInOrder s)
 
-  written-condition : (k : ℕ) → k < length (conditionsInOrder s) → conditionField (canonicalSheet s) k ≡ getD (conditionsInOrder s) k none
+  written-condition : (k : ℕ) → k < length (conditionsInOrder s) → conditionField (canonicalSheet s) k ≡ getD (conditionsInOrder s) k blankCondition
   unfolding canonicalSheet
   written-condition = read-condition (tickField s) bidRow effectRow (conditionsInOrder s)
 
@@ -307,18 +302,18 @@ field-written s ok k l =
 
 -- so a sheet that has all constraints of another lists each condition that the other lists
 listed-there : (s t : List ℕ) → Accepted s → Accepted t → ((q : Constraint) → SheetHas s q → SheetHas t q) → (owner own other others : ℕ) →
-    listed s owner own other others ≡ true → listed t owner own other others ≡ true
+    hasCondition s owner own other others ≡ true → hasCondition t owner own other others ≡ true
 unfolding conditionField
 listed-there s t ok ok′ there owner own other others e =
-    let w = listed-where s owner own other others e in
+    let w = has-where s owner own other others e in
     let h = there (constraintField s (w .0)) (w .0, w .1, refl) in
-    ap (λ (q : Condition). listed t (q .owner) (q .own) (q .other) (q .others))
+    ap (λ (q : Condition). hasCondition t (q .owner) (q .own) (q .other) (q .others))
     (sym
     (field-written t ok′ (h .0) (h .1)
     ∙ ap readBack (h .2)
     ∙ sym (field-written s ok (w .0) (w .1))
     ∙ w .2))
-    ∙ listed-at t (h .0) (h .1)
+    ∙ has-at t (h .0) (h .1)
 
 -- saying the same round goes both ways, and on
 pub round-sym : (s t : List ℕ) → SameRound s t → SameRound t s
@@ -353,7 +348,7 @@ written-two s ok two small =
     let qs = row (conditionField s) (constraintCount s) in
     written-joined s
     ∙ ap (assembled (tickField s) n m (effectBytes s) (bidBytes s)) (conditions-two s ok two)
-    ∙ ap (λ (c : ℕ). header (tickField s) n m c ++ (effectBytes s ++ (bidBytes s ++ quads qs))) (length-row (conditionField s) (constraintCount s))
+    ∙ ap (λ (c : ℕ). headerOf (tickField s) n m c ++ (effectBytes s ++ (bidBytes s ++ quads qs))) (length-row (conditionField s) (constraintCount s))
     ∙ sym
     (sym (take-append-drop 13 s)
     ∙ ap₂ _++_ (header-stands s ok small two) (ap (λ (x : ℕ). drop x s) (sym (start-two s two)) ∙ body-stands s ok small))
@@ -363,7 +358,7 @@ ConditionAccepted n m q = ConstraintAccepted n m (q .owner) (q .own) (q .other) 
 
 -- What is written of accepted sheets.
 module _ (s : List ℕ) (ok : Accepted s) where
-  written-number : (k : ℕ) → k < length (conditionsInOrder s) → orderNumber (canonicalSheet s) k ≡ numberOf (getD (conditionsInOrder s) k none)
+  written-number : (k : ℕ) → k < length (conditionsInOrder s) → orderNumber (canonicalSheet s) k ≡ numberOf (getD (conditionsInOrder s) k blankCondition)
   unfolding orderNumber numberOf conditionField
   written-number k l = ap numberOf (written-condition s k l)
 
@@ -490,7 +485,7 @@ same-written s t ok ok′ h =
     let conditions : conditionsInOrder s ≡ conditionsInOrder t =
     conditions-same s t (h .same-n) (h .same-m)
     (λ owner own other others.
-    same-tests (listed s owner own other others) (listed t owner own other others)
+    same-tests (hasCondition s owner own other others) (hasCondition t owner own other others)
     (listed-there s t ok ok′ (h .there) owner own other others)
     (listed-there t s ok′ ok (h .back) owner own other others)) in
     written-joined s

@@ -25,26 +25,29 @@ use Rattle.sheet.specs.Sheet.{
 use Rattle.sheet.specs.Refusal.{refusalOf}
 use Rattle.sheet.specs.Round.{SheetHas}
 use Rattle.sheet.specs.Encoded.{Condition, on, sheetInTicks}
-use Rattle.canonical.specs.declared.Written.{Written}
+use Rattle.canonical.specs.declared.Rewritten.{Rewritten}
 
 -- the sheet has the condition (owner, own place, other bidder, other's place)
-unfoldable pub listed : List ℕ → (owner own other others : ℕ) → Bool
-listed s owner own other others =
+unfoldable pub hasCondition : List ℕ → (owner own other others : ℕ) → Bool
+hasCondition s owner own other others =
     anyBelow
     (λ k. eqb (ownerField s k) owner && (eqb (ownSlotField s k) own && (eqb (otherField s k) other && eqb (otherSlotField s k) others)))
     (constraintCount s)
 
+-- for each bidder of the sheet, from 0, which stands for none; and for each slot, from 0, which stands for any or none
+abbrev pub eachBidder : List ℕ → (ℕ → List Condition) → List Condition
+eachBidder s f = joined f (suc (bidderCount s))
+
+abbrev pub eachSlot : List ℕ → (ℕ → List Condition) → List Condition
+eachSlot s f = joined f (suc (slotCount s))
+
 -- "the conditions in order and repeats dropped": by owner, then by own place, by other bidder and by other's place, each that the sheet has, once
 unfoldable pub conditionsInOrder : List ℕ → List Condition
 conditionsInOrder s =
-    joined (λ owner.
-    joined (λ own.
-    joined (λ other.
-    joined (λ others. cond (listed s owner own other others) (on owner own other others ∷ []) [])
-    (suc (slotCount s)))
-    (suc (bidderCount s)))
-    (suc (slotCount s)))
-    (suc (bidderCount s))
+    eachBidder s (λ owner.
+    eachSlot s (λ own.
+    eachBidder s (λ other.
+    eachSlot s (λ others. cond (hasCondition s owner own other others) (on owner own other others ∷ []) []))))
 
 -- what is written: the sheet in version 2 of the same tick, bids and effects and of these conditions
 unfoldable pub canonicalSheet : List ℕ → List ℕ
@@ -63,7 +66,7 @@ unfoldable pub canonicalBuffer : List ℕ → List ℕ → List ℕ
 canonicalBuffer s out = canonicalSheet s ++ drop (length (canonicalSheet s)) out
 
 -- All that the call returns and leaves: the first number that applies and no length, or 0 and the length written, and each byte of the buffer.
-pub record CanonicalWritten (s out : List ℕ) (returned : Written) (out′ : List ℕ) : Type 0 where
+pub record CanonicalWritten (s out : List ℕ) (returned : Rewritten) (out′ : List ℕ) : Type 0 where
   pub number : returned .refusal ≡ canonicalRefusal s out
   pub size : returned .length ≡ unlessRefused (canonicalRefusal s out) (length (canonicalSheet s)) 0
   pub buffer : out′ ≡ unlessRefused (canonicalRefusal s out) (canonicalBuffer s out) out

@@ -17,7 +17,7 @@ use basis::word32;
 use check_constraints::order_number;
 
 // What the call answers: a refusal's number, or 0 and the length of the sheet that is written.
-pub struct Written {
+pub struct Rewritten {
     pub refusal: u32,
     pub length: usize,
 }
@@ -52,7 +52,8 @@ fn order_constraints(ordered: &mut [u32; 1024], sheet: &[u8], start: usize) -> u
     canonical_sort::drop_repeats(&numbers, ordered, count)
 }
 
-// Numbers are written at an offset one after another, four bytes each, the highest first.
+// Numbers are written at an offset one after another, the highest byte of each first: turned round, a constraint's number is its four bytes as they are
+// read.
 fn put_numbers(result: &mut [u8], at: usize, numbers: &[u32], count: usize)
     requires { ⌜ (length (now numbers) ≡ 1024) × (count ≤ 1024) × (at + 4 * count ≤ length (now result)) ⌝ }
     ensures { λ r. ⌜ now (result .exit) ≡ sets (now (result .entry)) at (numbersBytes (now (numbers .entry)) count) ⌝ }
@@ -79,7 +80,7 @@ fn copy(result: &mut [u8], at: usize, sheet: &[u8], start: usize, count: usize)
 // The header of version 2 with tick 1, which is what version 1 means.
 fn put_header(result: &mut [u8], bidders: u8, slots: u8, constraints: usize)
     requires { ⌜ (13 ≤ length (now result)) × (constraints ≤ 1024) ⌝ }
-    ensures { λ r. ⌜ now (result .exit) ≡ sets (now (result .entry)) 0 (headerOf bidders slots constraints) ⌝ }
+    ensures { λ r. ⌜ now (result .exit) ≡ sets (now (result .entry)) 0 (headerOf 1 bidders slots constraints) ⌝ }
 {
     result[0] = 0x50;
     result[1] = 0x41;
@@ -94,7 +95,7 @@ fn put_header(result: &mut [u8], bidders: u8, slots: u8, constraints: usize)
 }
 
 // An accepted sheet of version 1 is written anew where the buffer has room: 19, or 0.
-fn write_ordered(sheet: &[u8], result: &mut [u8]) -> Written
+fn write_ordered(sheet: &[u8], result: &mut [u8]) -> Rewritten
     requires { ⌜ Accepted (now sheet) × (version (now sheet) ≡ 1) ⌝ }
     ensures { λ r. ⌜ CanonicalWritten (now (sheet .entry)) (now (result .entry)) r (now (result .exit)) ⌝ }
 {
@@ -103,7 +104,7 @@ fn write_ordered(sheet: &[u8], result: &mut [u8]) -> Written
     let constraints = order_constraints(&mut ordered, sheet, 9 + body);
     let length = 13 + body + 4 * constraints;
     if result.len() < length {
-        return Written {
+        return Rewritten {
             refusal: 19,
             length: 0,
         };
@@ -111,23 +112,23 @@ fn write_ordered(sheet: &[u8], result: &mut [u8]) -> Written
     put_header(result, sheet[5], sheet[6], constraints);
     copy(result, 13, sheet, 9, body);
     put_numbers(result, 13 + body, &ordered, constraints);
-    Written { refusal: 0, length }
+    Rewritten { refusal: 0, length }
 }
 
 // An accepted sheet of version 2 is copied where the buffer has room: 19, or 0.
-fn copy_whole(sheet: &[u8], result: &mut [u8]) -> Written
+fn copy_whole(sheet: &[u8], result: &mut [u8]) -> Rewritten
     requires { ⌜ Accepted (now sheet) × (version (now sheet) ≡ 2) ⌝ }
     ensures { λ r. ⌜ CanonicalWritten (now (sheet .entry)) (now (result .entry)) r (now (result .exit)) ⌝ }
 {
     let size = sheet.len();
     if result.len() < size {
-        return Written {
+        return Rewritten {
             refusal: 19,
             length: 0,
         };
     }
     copy(result, 0, sheet, 0, size);
-    Written {
+    Rewritten {
         refusal: 0,
         length: size,
     }
@@ -135,12 +136,12 @@ fn copy_whole(sheet: &[u8], result: &mut [u8]) -> Written
 
 // The number of the first rule that the call breaks, the check's or 19, with every byte of the buffer as it was; or 0 and the length of the one sheet
 // for the round, which stands at the front of the buffer, with every later byte as it was.
-pub fn write(sheet: &[u8], result: &mut [u8]) -> Written
+pub fn write(sheet: &[u8], result: &mut [u8]) -> Rewritten
     ensures { λ r. ⌜ CanonicalWritten (now (sheet .entry)) (now (result .entry)) r (now (result .exit)) ⌝ }
 {
     let refusal = sheet_check::check(sheet);
     if refusal != 0 {
-        return Written { refusal, length: 0 };
+        return Rewritten { refusal, length: 0 };
     }
     if word16(sheet, 3) == 2 {
         return copy_whole(sheet, result);

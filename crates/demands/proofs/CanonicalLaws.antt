@@ -130,9 +130,17 @@ at-most-longer s ok =
     let few = few-conditions s ok in
     ⊎-elim (λ one. let whole = one .1 in omega arith) (λ two. let whole = two .1 in omega arith) (lengths s ok)
 
+any-accepted : (s out out′ : List ℕ) (before number after : ℕ) → Accepted s → length s + 4 ≤ length out → CanonicalGiven s out before number out′ after →
+    (number ≡ 0) × WrittenRight s out out′ after
+any-accepted s out out′ before number after ok room g =
+    let longer = at-most-longer s ok in
+    let none : number ≡ 0 = g .number ∙ answered s out ok (omega arith) in
+    (none, written s out out′ before after (subst (λ (n : ℕ). CanonicalGiven s out before n out′ after) none g))
+
 pub request-six-holds : RequestSix
 request-six-holds =
     record {
+      any-accepted = any-accepted;
       written = written;
       one-sheet = one-sheet;
       same-answers = same-round-answers;

@@ -1,12 +1,13 @@
 -- Sheets of one round get the same answers: their rounds have the same sets of constraints, with any floors, and page, prices, gains, best page and the
--- downward test see no more of the constraints; the numbers see only n, m and that both sheets are accepted. Assumes nothing.
+-- downward test see no more of the constraints; the numbers see only n, m and that both sheets are accepted. What is written of both is the same. Assumes
+-- nothing.
 use Prim.Native.Nat.{ℕ, _*_}
 use mathlib.Core.Bool.{not, _||_}
-use mathlib.Core.List.{List}
+use mathlib.Core.List.{List, _++_}
 use mathlib.Core.Path.{_≡_, sym, _∙_, ap, subst}
 use lib.Dec.{eqb, ltb}
 use lib.IntN.{ℤ}
-use lib.ListN.{length, replicate}
+use lib.ListN.{length, drop, replicate}
 use Rattle.basis.specs.First.{_when_otherwise_, orElse}
 use Rattle.basis.proofs.FirstLaws.{orElse-none}
 use Rattle.sheet.specs.declared.Constraint.{Constraint}
@@ -34,8 +35,9 @@ use Rattle.best_page.specs.BestPage.{bestPage}
 use Rattle.best_page.proofs.BestPageLaws.{best-page-sets}
 use Rattle.best_search.specs.Call.{boundsRefusal, bestFloorsRefusal, bestBuffer}
 use Rattle.best_search.proofs.CallLaws.{buffer-same}
-use Rattle.canonical.specs.Canonical.{SameRound}
-use Rattle.pas.specs.Calls.{yesNumber, DownwardGiven, GainGiven, GainFloorsGiven, BestPageGiven, BestFloorsPageGiven}
+use Rattle.canonical.specs.Canonical.{canonicalSheet, canonicalRefusal, canonicalBuffer, SameRound}
+use Rattle.canonical.proofs.WrittenLaws.{same-written}
+use Rattle.pas.specs.Calls.{yesNumber, DownwardGiven, GainGiven, GainFloorsGiven, BestPageGiven, BestFloorsPageGiven, CanonicalGiven}
 use Rattle.demands.specs.Demands.{Exactly, noFloors, SameAnswers}
 use Rattle.demands.proofs.FloorsLaws.{left-same, play-without, gain-without, best-without}
 
@@ -190,6 +192,26 @@ module _ (s t : List ℕ) (ok : Accepted s) (ok′ : Accepted t) (same : SameRou
         λ g. record { number = g .number ∙ sym e; written = g .written ∙ sym written },
       )
 
+  -- The writer.
+  sheet-same : canonicalSheet s ≡ canonicalSheet t
+  sheet-same = same-written s t ok ok′ same
+
+  canonical-number : (out : List ℕ) → canonicalRefusal s out ≡ canonicalRefusal t out
+  unfolding canonicalRefusal
+  canonical-number out = λ x. orElse (refusal-same x) (19 when ltb (length out) (length (sheet-same x)) otherwise 0)
+
+  canonical-same : (out out′ : List ℕ) (before number after : ℕ) → Exactly (CanonicalGiven s out before number out′ after) (CanonicalGiven t out before number out′ after)
+  unfolding canonicalBuffer
+  canonical-same out out′ before number after =
+      let e = canonical-number out in
+      let buffer = left-same (canonicalRefusal s out) (canonicalRefusal t out) (canonicalBuffer s out) (canonicalBuffer t out) out e
+      (λ z. ap (λ (w : List ℕ). w ++ drop (length w) out) sheet-same) in
+      let size = left-same (canonicalRefusal s out) (canonicalRefusal t out) (length (canonicalSheet s)) (length (canonicalSheet t)) before e
+      (λ z. ap length sheet-same) in (
+        λ g. record { number = g .number ∙ e; buffer = g .buffer ∙ buffer; written = g .written ∙ size },
+        λ g. record { number = g .number ∙ sym e; buffer = g .buffer ∙ sym buffer; written = g .written ∙ sym size },
+      )
+
   -- Without floors: the sheets have the same floors of 0.
   none-same : (P : List ℕ → Type 0) → P (noFloors t) → P (noFloors s)
   none-same P = subst P (ap (λ (m : ℕ). replicate m 0) (sym (same .same-m)))
@@ -220,6 +242,7 @@ module _ (s t : List ℕ) (ok : Accepted s) (ok′ : Accepted t) (same : SameRou
             (none-same (λ f. Exactly (BestPageGiven t out before number out′ after) (BestFloorsPageGiven f t out before number out′ after))
             (best-without t out out′ before number after))
             (best-floors (noFloors s) out out′ before number after);
+        canonical = canonical-same;
         play-floors = play-floors;
         gain-floors = gain-floors;
         truth-floors = truth-floors;

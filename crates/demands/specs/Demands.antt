@@ -325,8 +325,8 @@ pub record RequestSeven : Type 0 where
 -- and the sets of conditions are equal. Writing again from the written sheet changes nothing, and both sheets play to the same page and prices. Refusal 19
 -- covers its buffer."
 
--- Two sheets get the same answers: playing, the downward test, gain and best page return and leave with the one what they do with the other, as the played sheet
--- and as the truth sheet. (One bidder's part is of the sheet and not of the round: in version 1 there is none.)
+-- Two sheets get the same answers: playing, the downward test, gain, best page and the writer return and leave with the one what they do with the other, as the
+-- played sheet and as the truth sheet. (One bidder's part is of the sheet and not of the round: in version 1 there is none.)
 pub record SameAnswers (s t : List ℕ) : Type 0 where
   pub play : (out out′ : List ℕ) (number : ℕ) → Exactly (Played s out number out′) (Played t out number out′)
   pub downward : (i before number after : ℕ) → Exactly (DownwardGiven s i before number after) (DownwardGiven t i before number after)
@@ -335,6 +335,7 @@ pub record SameAnswers (s t : List ℕ) : Type 0 where
   pub truth : (played : List ℕ) (i worth : ℕ) (before : ℤ) (number : ℕ) (after : ℤ) →
       Exactly (GainGiven played s i worth before number after) (GainGiven played t i worth before number after)
   pub best : (out out′ : List ℕ) (before number after : ℕ) → Exactly (BestPageGiven s out before number out′ after) (BestPageGiven t out before number out′ after)
+  pub canonical : (out out′ : List ℕ) (before number after : ℕ) → Exactly (CanonicalGiven s out before number out′ after) (CanonicalGiven t out before number out′ after)
   -- and with any floors
   pub play-floors : (floors out out′ : List ℕ) (number : ℕ) → Exactly (PlayedFloors floors s out number out′) (PlayedFloors floors t out number out′)
   pub gain-floors : (floors truth : List ℕ) (i worth : ℕ) (before : ℤ) (number : ℕ) (after : ℤ) →
@@ -351,7 +352,7 @@ pub record WrittenRight (s out out′ : List ℕ) (size : ℕ) : Type 0 where
   pub as-long : length (take size out′) ≡ size
   pub version-two : version (take size out′) ≡ 2
   pub in-order : (j k : ℕ) → j < k → k < constraintCount (take size out′) → constraintBelow (take size out′) j k ≡ true
-  -- n, m, tick, effects, bids and the set of conditions are those of s, and so is every answer
+  -- n, m, tick, effects, bids and the set of conditions are those of s, and so are the answers
   pub same-round : SameRound s (take size out′)
   pub same-answers : SameAnswers s (take size out′)
   -- "later bytes stay"
@@ -361,7 +362,10 @@ pub record WrittenRight (s out out′ : List ℕ) (size : ℕ) : Type 0 where
       (number ≡ 0) × (after ≡ size) × (take after into′ ≡ take size out′)
 
 pub record RequestSix : Type 0 where
-  -- what is written
+  -- any accepted sheet is written, into any buffer of 4 bytes more than it has
+  pub any-accepted : (s out out′ : List ℕ) (before number after : ℕ) → Accepted s → length s + 4 ≤ length out → CanonicalGiven s out before number out′ after →
+      (number ≡ 0) × WrittenRight s out out′ after
+  -- what is written, wherever the call is not refused
   pub written : (s out out′ : List ℕ) (before after : ℕ) → CanonicalGiven s out before 0 out′ after → WrittenRight s out out′ after
   -- equal bytes exactly when n, m, tick, effects, bids and the sets of conditions are equal
   pub one-sheet : (s t out out′ into into′ : List ℕ) (before after before-t after-t : ℕ) →

@@ -22,7 +22,7 @@ use Rattle.owner_part.specs.OwnerPart.{partRefusal, bytesBefore, partLength, bo
 use Rattle.owner_part.specs.declared.Bounds.{Bounds}
 use Rattle.owner_part.proofs.CallLaws.{given-bounds}
 use Rattle.canonical.specs.Canonical.{canonicalSheet, canonicalRefusal, CanonicalWritten}
-use Rattle.canonical.specs.declared.Written.{Written}
+use Rattle.canonical.specs.declared.Rewritten.{Rewritten}
 use Rattle.pas.specs.Calls.{yesNumber, DownwardGiven, GainGiven, GainFloorsGiven, BestPageGiven, BestFloorsPageGiven, PartGiven, CanonicalGiven}
 
 -- an answered call's memory holds what is written there

@@ -44,7 +44,7 @@ use Rattle.best_page.specs.BestPage.{nobodyTwice, reachesFloors, isAllowed, kee
 use Rattle.best_search.specs.Call.{boundsRefusal, bestRefusal, bestFloorsRefusal, bestBuffer, chosenFor}
 use Rattle.play.specs.Play.{roomRefusal, playRefusal, playFloorsRefusal, slotEntry, playedBuffer}
 use Rattle.owner_part.specs.OwnerPart.{callRefusal, partRefusal, firstFrom, bytesBefore, constraintBytes, constraintsOf, partLength, boundsFor, boundsOf, beforeFor, beforeOf}
-use Rattle.canonical.specs.Canonical.{listed, conditionsInOrder, canonicalSheet, canonicalRefusal, canonicalBuffer}
+use Rattle.canonical.specs.Canonical.{hasCondition, conditionsInOrder, canonicalSheet, canonicalRefusal, canonicalBuffer}
 use Rattle.test_worked_rounds.specs.Sheets.{A, B, C, D, E, F, F-true, F-version-3, F-eight-bytes, F-in-ticks, F-off-tick, F-tick-0, F-twelve-bytes, F-without-tick, G, H, H-longer, earlier-winner, earlier-winner-and-own, placed-and-own, overbid, overbid-barred, second-not-first, tie-in-ticks, lower-number-in-ticks, tick-above-bids, too-high-and-off-tick, H-in-order, owners-two-and-four, equal-neighbours, repeated-in-version-1, own-place-falls, falls-and-names-itself, falls-before-a-fault, falls-after-a-fault, nine-bidders, two-faults, H-shuffled, owners-four-and-two, repeat-dropped, F-written}
 use Rattle.test_worked_rounds.specs.Worked.{Worked, lent, givenByPlay, givenByBest, givenWithFloors, given, entries, rounds, Candidate, givenByStep, candidates, PartAsked, givenByPart, parts, WriteAsked, givenByWriter, writings}
 
@@ -64,5 +64,5 @@ parts-hold = refl
 
 -- The sheets that are written anew.
 pub writings-hold : map givenByWriter writings ≡ map (λ (w : WriteAsked). w .said) writings
-unfolding word16At word32At bytes32 firstOver unlessRefused row joined anyBelow tickField effectsStart effectField bidField ownerField ownSlotField otherField otherSlotField formRefusal countsRefusal effectRefusal bidRefusal tickRefusal inRange fieldsRefusal termsRefusal fieldsBelow constraintBelow aboveBefore orderRefusal constraintRefusal refusalOf words quads countBytes bodyBytes sheetOf sheetInTicks listed conditionsInOrder canonicalSheet canonicalRefusal canonicalBuffer F F-version-3 F-in-ticks H H-in-order owners-two-and-four repeated-in-version-1 own-place-falls H-shuffled owners-four-and-two repeat-dropped F-written givenByWriter writings
+unfolding word16At word32At bytes32 firstOver unlessRefused row joined anyBelow tickField effectsStart effectField bidField ownerField ownSlotField otherField otherSlotField formRefusal countsRefusal effectRefusal bidRefusal tickRefusal inRange fieldsRefusal termsRefusal fieldsBelow constraintBelow aboveBefore orderRefusal constraintRefusal refusalOf words quads countBytes bodyBytes sheetOf sheetInTicks hasCondition conditionsInOrder canonicalSheet canonicalRefusal canonicalBuffer F F-version-3 F-in-ticks H H-in-order owners-two-and-four repeated-in-version-1 own-place-falls H-shuffled owners-four-and-two repeat-dropped F-written givenByWriter writings
 writings-hold = refl

@@ -497,14 +497,17 @@ givenByWriter w =
       buffer = unlessRefused number (canonicalBuffer (w .sheet) (w .buffer)) (w .buffer);
     }
 
--- a sheet that is written as these bytes, into a buffer with two bytes more
-abbrev pub writes : List ℕ → List ℕ → WriteAsked
-writes sheet bytes =
+-- a sheet that is written as these bytes, into a buffer with more bytes
+abbrev pub writesBefore : List ℕ → List ℕ → List ℕ → WriteAsked
+writesBefore later sheet bytes =
     record {
       sheet = sheet;
-      buffer = replicate (length bytes) 9 ++ (7 ∷ 8 ∷ []);
-      said = record { number = 0; size = length bytes; buffer = bytes ++ (7 ∷ 8 ∷ []) };
+      buffer = replicate (length bytes) 9 ++ later;
+      said = record { number = 0; size = length bytes; buffer = bytes ++ later };
     }
+
+abbrev pub writes : List ℕ → List ℕ → WriteAsked
+writes = writesBefore (7 ∷ 8 ∷ [])
 
 -- and one that is refused with the number k, with a buffer of so many bytes
 abbrev pub writesNot : List ℕ → ℕ → ℕ → WriteAsked
@@ -515,12 +518,13 @@ writesNot sheet room k =
       said = record { number = k; size = 0; buffer = replicate room 9 };
     }
 
--- F, byte for byte; H, H with its conditions in disorder and two of them twice, and H in version 2: one sheet; conditions from the last to the first, each
+-- F, byte for byte, also into a buffer of just its 25 bytes; H, H with its conditions in disorder and two of them twice, and H in version 2: one sheet; conditions from the last to the first, each
 -- field deciding once; a condition twice; tick 3 stays 3. Then refused calls: a byte less than F's 25, and none; a byte less than the 33 that are written
 -- where one of two conditions is dropped; a byte less than a sheet of version 2 has; and the sheet's own number before 19, and alone.
 unfoldable pub writings : List WriteAsked
 writings =
     writes F F-written
+    ∷ writesBefore [] F F-written
     ∷ writes H H-in-order
     ∷ writes H-shuffled H-in-order
     ∷ writes H-in-order H-in-order
