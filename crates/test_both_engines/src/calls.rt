@@ -114,6 +114,36 @@ pub fn best_by_other(
     test_plain::best(sheet, &mut result[from..end], total)
 }
 
+pub fn canonical_by_library(
+    sheet: &[u8],
+    result: &mut [u8],
+    start: u32,
+    size: u32,
+    written: &mut usize,
+) -> u32 {
+    let from = start as usize;
+    let end = from + size as usize;
+    if result.len() < end {
+        return OUT_OF_ROOM;
+    }
+    pas::pas_canonical(sheet, &mut result[from..end], written)
+}
+
+pub fn canonical_by_other(
+    sheet: &[u8],
+    result: &mut [u8],
+    start: u32,
+    size: u32,
+    written: &mut usize,
+) -> u32 {
+    let from = start as usize;
+    let end = from + size as usize;
+    if result.len() < end {
+        return OUT_OF_ROOM;
+    }
+    test_plain::canonical(sheet, &mut result[from..end], written)
+}
+
 // The bytes to lend where so many are to be written: none, one too few, fewer, just as many or more.
 pub fn result_size(state: &mut u64, written: u32) -> u32 {
     let drawn = number::up_to(state, 9);
@@ -124,6 +154,18 @@ pub fn result_size(state: &mut u64, written: u32) -> u32 {
         3 | 4 | 5 => written,
         _ => more(state, written),
     }
+}
+
+// The same for a sheet, which may be long.
+pub fn sheet_size(state: &mut u64, written: u32) -> u32 {
+    let size = result_size(state, written);
+    if size != written || written < 1000 {
+        return size;
+    }
+    if written < 5000 {
+        return written + number::up_to(state, 12);
+    }
+    size
 }
 
 fn less(written: u32) -> u32 {

@@ -166,3 +166,76 @@ pub fn conditions(part: &[u8]) {
         condition(part, length - 4);
     }
 }
+
+// Two bytes, low byte first.
+fn half(part: &[u8], at: usize) -> u64
+    requires { ⌜ at ≤ 65536 ⌝ }
+    ensures { λ r. ⌜ r ≤ 65535 ⌝ }
+{
+    basis::wide(byte(part, at)) as u64 + 256 * (basis::wide(byte(part, at + 1)) as u64)
+}
+
+// Numbers of four bytes, low byte first, from an offset on.
+fn words(part: &[u8], from: usize, count: u8)
+    requires { ⌜ from ≤ 2000 ⌝ }
+{
+    let mut index: u8 = 0;
+    while index < count {
+        let at = from + 4 * (index as usize);
+        separate(index as usize);
+        line::number(b"", half(part, at) + 65536 * half(part, at + 2));
+        index += 1;
+    }
+}
+
+// All conditions from an offset on.
+fn each_condition(part: &[u8], from: usize) {
+    let mut at = from;
+    while at < part.len() {
+        if 65536 < at {
+            return;
+        }
+        condition(part, at);
+        at += 4;
+    }
+}
+
+// The conditions from an offset on: where they are few each, and else the first and the last.
+fn last_part(part: &[u8], from: usize) {
+    if part.len() < from {
+        line::text(b"; too short");
+        return;
+    }
+    if part.len() - from <= 64 {
+        line::text(b"; conditions");
+        each_condition(part, from);
+        return;
+    }
+    conditions(&part[from..]);
+}
+
+// The mark, the version, n, m, c and the tick.
+fn header(part: &[u8]) {
+    line::text(b"; ");
+    line::text(line::front(part, 3));
+    line::number(b" version ", half(part, 3));
+    line::byte(b", n ", byte(part, 5));
+    line::byte(b", m ", byte(part, 6));
+    line::number(b", c ", half(part, 7));
+    line::text(b", tick");
+    words(part, 9, 1);
+}
+
+// A written sheet, of version 2.
+pub fn sheet(part: &[u8]) {
+    let bidders = byte(part, 5);
+    let slots = byte(part, 6);
+    let bids = 13 + 4 * (basis::wide(slots) as usize);
+    let rest = bids + 4 * (basis::wide(bidders) as usize);
+    header(part);
+    line::text(b"; effects");
+    words(part, 13, slots);
+    line::text(b"; bids");
+    words(part, bids, bidders);
+    last_part(part, rest);
+}

@@ -4,6 +4,7 @@
 ghost use Prim.Native.Nat.{_<_};
 use crate::answers;
 use crate::script;
+use test_edge_sheets::build;
 use test_edge_sheets::line;
 
 // Room for a result, more than 5 x 16 bytes.
@@ -186,4 +187,30 @@ fn before(words: &[u8], sheet: &[u8]) {
     let checked = owner_part::check_part(sheet, script::number(words, 1));
     answers::number(checked.refusal);
     line::number(b"; bytes ", checked.bytes as u64);
+}
+
+// The call with the first `length` bytes of a buffer lent.
+fn write_into(sheet: &[u8], buffer: &mut [u8], length: usize, written: &mut usize) -> u32 {
+    if buffer.len() < length {
+        return OUT_OF_ROOM;
+    }
+    pas::pas_canonical(sheet, &mut buffer[..length], written)
+}
+
+// "one sheet into LENGTH"
+pub fn one_sheet(words: &[u8], sheet: &[u8]) {
+    let mut space = [answers::UNTOUCHED; build::ROOM];
+    let buffer: &mut [u8] = &mut space;
+    let mut written = answers::UNTOUCHED_PLACE;
+    let length = script::number(words, 1) as usize;
+    let refusal = write_into(sheet, buffer, length, &mut written);
+    answers::number(refusal);
+    if refusal != 0 {
+        answers::untouched(b"; every byte", buffer, 0);
+        answers::kept(b", length", written == answers::UNTOUCHED_PLACE);
+        return;
+    }
+    line::number(b"; length ", written as u64);
+    answers::sheet(line::front(buffer, written));
+    answers::untouched(b"; later bytes", buffer, written);
 }

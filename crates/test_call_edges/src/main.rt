@@ -1,5 +1,5 @@
-// The edges of document 01's calls and of document 02's owner part and floors, on sheets of both versions, and the rounds worked by hand: a
-// script comes in, and goes out again with the answer of each call.
+// The edges of document 01's calls and of document 02's owner part, floors and one sheet for one round, on sheets of both versions, and the
+// rounds worked by hand: a script comes in, and goes out again with the answer of each call.
 //
 // The file `stdin` is the script. A line whose first word is one of `sheets` writes on the sheet in hand, "floors" writes the list of floors in
 // hand, a line that begins with words of `calls` makes a call, and any other is there for the reader. Of the rest of a line only its numbers
@@ -37,6 +37,10 @@ fn call_with_floors(words: &[u8], sheet: &[u8], floors: &[u32], truth: &[u8], le
 fn call(words: &[u8], sheet: &[u8], floors: &[u32], truth: &[u8], length: usize) {
     if script::begins(words, b"with floors") {
         call_with_floors(words, sheet, floors, truth, length);
+        return;
+    }
+    if script::begins(words, b"one sheet") {
+        calls::one_sheet(words, sheet);
         return;
     }
     calls::answer(words, sheet, truth);

@@ -10,8 +10,8 @@ pub const TICK_VERSION: u32 = 2;
 
 // The bytes before the first effect in version 1: "its shortest header stays 9 bytes".
 pub const SHORTEST_HEADER: usize = 9;
-// "Sheet version 2 has a 4-byte tick after the condition count, so every length grows by 4"
-const TICK_BYTES: usize = 4;
+// The same in version 2: it "has a 4-byte tick after the condition count, so every length grows by 4".
+pub const LONGER_HEADER: usize = 13;
 // "version 1 means tick 1"
 const FIRST_TICK: u32 = 1;
 // "n, bidders, 1 to 64"
@@ -100,7 +100,7 @@ pub fn header(sheet: &[u8]) -> usize
     ensures { λ r. ⌜ r < 14 ⌝ }
 {
     if version(sheet) == TICK_VERSION {
-        return SHORTEST_HEADER + TICK_BYTES;
+        return LONGER_HEADER;
     }
     SHORTEST_HEADER
 }

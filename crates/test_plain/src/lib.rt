@@ -1,6 +1,6 @@
-// A second engine for document 01 and for document 02's version 2 and floors, written another way on purpose, so that random rounds on
-// which it agrees with the proved engine say something of both. It shares no code with the library, keeps no table and no round in
-// memory, and reads the sheet's bytes where it needs them. It is proved safe and ending, and nothing more.
+// A second engine for document 01 and for document 02's version 2, floors and one sheet for one round, written another way on purpose,
+// so that random rounds on which it agrees with the proved engine say something of both. It shares no code with the library, keeps no
+// table and no round in memory, and reads the sheet's bytes where it needs them. It is proved safe and ending, and nothing more.
 //
 // Each call returns 0 or the number of the first rule that the call breaks, and then nothing lent is written. A sheet's rules are 1 to
 // 13 and 26 to 28, and with a list of floors then 30 and 31.
@@ -12,6 +12,7 @@ mod page;
 mod round;
 mod rules;
 mod search;
+mod writer;
 
 // "v, 0 to 1,000,000,000"
 const MAX_WORTH: u32 = 1000000000;
@@ -262,5 +263,20 @@ pub fn owner_part(sheet: &[u8], bidder: u32, start: &mut usize, length: &mut usi
     }
     *start = owner::start(sheet, narrow(bidder));
     *length = owner::length(sheet, narrow(bidder));
+    0
+}
+
+// A sheet's rules and 19; or the one sheet for the round at the front of the buffer, and its length.
+pub fn canonical(sheet: &[u8], result: &mut [u8], written: &mut usize) -> u32 {
+    let refusal = check(sheet);
+    if refusal != 0 {
+        return refusal;
+    }
+    let length = writer::length(sheet);
+    if result.len() < length {
+        return 19;
+    }
+    writer::write(result, sheet);
+    *written = length;
     0
 }

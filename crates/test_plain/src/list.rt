@@ -2,7 +2,7 @@
 // whole sheet.
 use crate::fields;
 
-fn is_same(one: [u8; 4], two: [u8; 4]) -> bool {
+pub fn is_same(one: [u8; 4], two: [u8; 4]) -> bool {
     one[0] == two[0] && one[1] == two[1] && one[2] == two[2] && one[3] == two[3]
 }
 

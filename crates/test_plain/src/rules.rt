@@ -237,7 +237,7 @@ fn is_out_of_order(sheet: &[u8], index: usize) -> bool {
 }
 
 // "strictly rising order of owner, own place, other bidder, other's place": the first of the four that differs decides.
-fn is_above(constraint: [u8; 4], before: [u8; 4]) -> bool {
+pub fn is_above(constraint: [u8; 4], before: [u8; 4]) -> bool {
     if constraint[fields::OWNER] != before[fields::OWNER] {
         return before[fields::OWNER] < constraint[fields::OWNER];
     }

@@ -375,6 +375,117 @@ fn orders(tally: &[u64]) {
     );
 }
 
+// What is done to a sheet to make it the one for its round.
+fn written_sheets(tally: &[u64]) {
+    test_tally::count_line(
+        tally,
+        b"sheets that are written as they are",
+        counts::COPIED,
+    );
+    test_tally::count_line(
+        tally,
+        b"sheets that are written in another order",
+        counts::ORDERED,
+    );
+    test_tally::count_line(
+        tally,
+        b"sheets that are written with fewer conditions",
+        counts::DROPPED,
+    );
+    test_tally::count_line(
+        tally,
+        b"sheets written into just the room that they take",
+        counts::JUST_ROOM,
+    );
+    test_tally::count_line(tally, b"sheets refused in a byte less", counts::BYTE_SHORT);
+    test_tally::count_line(
+        tally,
+        b"written sheets that are written again as they are",
+        counts::WRITTEN_AGAIN,
+    );
+}
+
+// Other sheets of the same round.
+fn same_rounds(tally: &[u64]) {
+    test_tally::count_line(
+        tally,
+        b"sheets of the same round, shuffled, that are written the same",
+        counts::SHUFFLED,
+    );
+    test_tally::count_line(
+        tally,
+        b"of these with n = 64, m = 16, c = 1024",
+        counts::LONGEST_WRITTEN,
+    );
+    test_tally::count_line(
+        tally,
+        b"sheets of the same round, with repeats, that are written the same",
+        counts::REPEATED,
+    );
+    test_tally::count_line(
+        tally,
+        b"sheets of the same round, in version 2, that are written the same",
+        counts::OTHER_VERSION,
+    );
+}
+
+// Sheets of a round that is nearly the same.
+fn other_rounds(tally: &[u64]) {
+    test_tally::count_line(
+        tally,
+        b"sheets with another bid that are written otherwise",
+        counts::OTHER_BID,
+    );
+    test_tally::count_line(
+        tally,
+        b"sheets with another effect that are written otherwise",
+        counts::OTHER_EFFECT,
+    );
+    test_tally::count_line(
+        tally,
+        b"sheets with another tick that are written otherwise",
+        counts::OTHER_TICK,
+    );
+    test_tally::count_line(
+        tally,
+        b"sheets with a condition fewer that are written otherwise",
+        counts::ONE_FEWER,
+    );
+    test_tally::count_line(
+        tally,
+        b"sheets with another condition that are written otherwise",
+        counts::OTHER_CONDITION,
+    );
+}
+
+// What the sheet and the written one both answer.
+fn same_answers(tally: &[u64]) {
+    test_tally::count_line(
+        tally,
+        b"pages that the written sheet gives too",
+        counts::SAME_PAGES,
+    );
+    test_tally::count_line(
+        tally,
+        b"pages with floors that it gives too",
+        counts::SAME_FLOORED_PAGES,
+    );
+    test_tally::count_line(tally, b"best pages that it gives too", counts::SAME_BEST);
+    test_tally::count_line(
+        tally,
+        b"lists that are downward monotonic or not in it too",
+        counts::SAME_DOWNWARD,
+    );
+    test_tally::count_line(tally, b"gains that it gives too", counts::SAME_GAINS);
+}
+
+fn one_sheet(tally: &[u64]) {
+    written_sheets(tally);
+    same_rounds(tally);
+    other_rounds(tally);
+    same_answers(tally);
+}
+
 fn floors(tally: &[u64]) {
     zero_floors(tally);
     right_floors(tally);
@@ -394,9 +505,11 @@ pub fn all(tally: &[u64]) {
     call_lines(tally, b"play with floors", counts::PLAY_FLOORS);
     call_lines(tally, b"gain with floors", counts::GAIN_FLOORS);
     call_lines(tally, b"best with floors", counts::BEST_FLOORS);
+    call_lines(tally, b"one sheet", counts::CANONICAL);
     answers(tally);
     owner_parts(tally);
     floors(tally);
+    one_sheet(tally);
     small_shapes(tally);
     larger_shapes(tally);
     largest_sizes(tally);

@@ -4,6 +4,7 @@ use test_both_engines::answers;
 use test_both_engines::answers::Form;
 use test_both_engines::bytes;
 use test_both_engines::counts;
+use test_both_engines::one_sheet;
 use test_both_engines::owners;
 use test_chance::floor_lists;
 use test_chance::lists;
@@ -17,6 +18,8 @@ struct Kind {
     shape: u32,
     fault: u32,
 }
+
+const APART: u64 = 11400714819323198485;
 
 // The sheet with a version and a tick drawn anew, with other bids in its ticks, and its length.
 fn retick(state: &mut u64, sheet: &mut [u8]) -> usize {
@@ -206,12 +209,25 @@ fn without_floors(state: &mut u64, tally: &mut [u64], kind: Kind, sheet: &[u8], 
     three_calls(state, tally, kind, sheet, &[], form, truth);
 }
 
+// "One sheet for one round". What is drawn for it is drawn apart, so that the other calls get what they get without it.
+fn one_sheet(drawn: u64, tally: &mut [u64], kind: Kind, sheet: &[u8]) {
+    let mut first = [0u32; floor_lists::ROOM];
+    let space: &mut [u32] = &mut first;
+    let mut state = drawn ^ APART;
+    let fault = lent_floors::any_fault(&mut state);
+    let length = lent_floors::lay(&mut state, sheet, fault, 0, space);
+    let list = floor_lists::part(space, 0, length);
+    let rule = faults::number(kind.fault);
+    one_sheet::compare(&mut state, tally, sheet, rule, list);
+}
+
 fn all_calls(state: &mut u64, tally: &mut [u64], kind: Kind, sheet: &[u8], truth: &[u8]) {
     check(tally, kind, sheet);
     without_floors(state, tally, kind, sheet, truth);
     with_floors(state, tally, kind, sheet, truth);
     answers::downward(state, tally, sheet);
     owners::parts_of(tally, sheet, faults::number(kind.fault));
+    one_sheet(*state, tally, kind, sheet);
 }
 
 fn with_truth(

@@ -16,17 +16,17 @@ returns : tie.Need-returns
 unfolding placeOf
 returns c =
     let args = c .before .before .args in
-    simp (lt-ltb (args .call) 10 (omega arith), lt-ltb (args .number) 32 (omega arith))
+    simp (lt-ltb (args .call) 11 (omega arith), lt-ltb (args .number) 32 (omega arith))
 
 returns-2 : tie.Need-returns-2
 unfolding placeOf
 returns-2 c =
     let args = c .before .before .args in
-    simp (lt-ltb (args .call) 10 (omega arith), le-ltb (args .number) 32 (omega arith))
+    simp (lt-ltb (args .call) 11 (omega arith), le-ltb (args .number) 32 (omega arith))
 
 returns-3 : tie.Need-returns-3
 unfolding placeOf
-returns-3 c = simp (le-ltb (c .before .args .call) 10 (omega arith))
+returns-3 c = simp (le-ltb (c .before .args .call) 11 (omega arith))
 
 pub place-spec : {M : Type 1} → statement M
 place-spec = tie.close (tie.spec mul-result add-result returns returns-2 returns-3)
