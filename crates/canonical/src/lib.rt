@@ -7,7 +7,7 @@ ghost use mathlib.Core.Path.{_≡_};
 ghost use Prim.Native.Nat.{ℕ, _+_, _*_, _<_, _≤_};
 ghost use lib.ListN.{length, getD, take, drop};
 ghost use lib.Seq.{sets};
-ghost use Rattle.sheet.specs.Sheet.{version, bidderCount, slotCount, constraintCount, constraintsStart};
+ghost use Rattle.sheet.specs.Sheet.{version, constraintsStart};
 ghost use Rattle.sheet.specs.Refusal.{Accepted};
 ghost use Rattle.sheet.specs.Accepted.{orderNumber};
 ghost use Rattle.canonical.specs.Canonical.{CanonicalWritten};

@@ -188,7 +188,7 @@ module _ (s : List ℕ) (i start size : ℕ) (b : Bounds) (e : b ≡ boundsOf s 
         sized = answered (partRefusal s i) (b .refusal) (partLength s i) size (b .length) part-number z (λ k. ap (λ (x : Bounds). x .length) (e ∙ given-bounds s i k));
       }
 
-module _ (s out : List ℕ) (before : ℕ) (w : Written) (out′ : List ℕ) (given : CanonicalWritten s out w out′) where
+module _ (s out : List ℕ) (before : ℕ) (w : Rewritten) (out′ : List ℕ) (given : CanonicalWritten s out w out′) where
   pub canonical-refused : (w .refusal ≡ 0 → ⊥) → CanonicalGiven s out before (w .refusal) out′ before
   canonical-refused h =
       record {
