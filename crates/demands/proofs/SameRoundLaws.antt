@@ -14,10 +14,10 @@ use Rattle.sheet.specs.declared.Constraint.{Constraint}
 use Rattle.sheet.specs.declared.Round.{Round}
 use Rattle.sheet.specs.Sheet.{bidderCount, slotCount}
 use Rattle.sheet.specs.Refusal.{refusalOf, Accepted}
-use Rattle.sheet.specs.Round.{roundOf, withFloors, effectOf, Has}
+use Rattle.sheet.specs.Round.{roundOf, withFloors, Has}
 use Rattle.sheet.specs.Proper.{ProperRound}
-use Rattle.sheet.proofs.RoundLaws.{round-bidders, round-slots, round-tick, sheet-round, round-sheet, bids-of, effects-of}
-use Rattle.sheet.proofs.FloorLaws.{floors-bid, floors-effect, floors-slots, floors-bidders, floors-tick, floors-has, has-floors, floors-of}
+use Rattle.sheet.proofs.RoundLaws.{round-slots, sheet-round, round-sheet}
+use Rattle.sheet.proofs.FloorLaws.{floors-has, has-floors, SameTerms, same-terms}
 use Rattle.floors.specs.Floors.{floorsRefusal}
 use Rattle.floors.proofs.FloorLaws.{passed-round}
 use Rattle.auction.specs.Allowed.{total}
@@ -67,21 +67,20 @@ module _ (s t : List ℕ) (ok : Accepted s) (ok′ : Accepted t) (same : SameRou
     abbrev r′ : Round
     r′ = withFloors (roundOf t) f
 
+    terms-same : SameTerms r r′
+    terms-same = same-terms f s t (same .same-n) (same .same-m) (same .same-tick) (same .same-effects) (same .same-bids)
+
     sets-same : SameSets r r′
     sets-same =
         record {
-          bidders = floors-bidders (roundOf s) f ∙ round-bidders s ∙ same .same-n ∙ sym (floors-bidders (roundOf t) f ∙ round-bidders t);
-          slots = floors-slots (roundOf s) f ∙ slots-same ∙ sym (floors-slots (roundOf t) f);
-          ticks = floors-tick (roundOf s) f ∙ round-tick s ∙ same .same-tick ∙ sym (floors-tick (roundOf t) f ∙ round-tick t);
-          floors = floors-of f (roundOf s) (roundOf t) slots-same;
-          bids = λ b. floors-bid (roundOf s) f b ∙ bids-of s t (same .same-n) (same .same-bids) b ∙ sym (floors-bid (roundOf t) f b);
+          bidders = terms-same .bidders;
+          slots = terms-same .slots;
+          ticks = terms-same .ticks;
+          floors = terms-same .floors;
+          bids = terms-same .bids;
           there = λ q h. floors-has (roundOf t) f q (there q (has-floors (roundOf s) f q h));
           back = λ q h. floors-has (roundOf s) f q (back q (has-floors (roundOf t) f q h));
         }
-
-    effects-same : (k : ℕ) → effectOf r k ≡ effectOf r′ k
-    effects-same k =
-        floors-effect (roundOf s) f k ∙ effects-of s t (same .same-m) (same .same-effects) k ∙ sym (floors-effect (roundOf t) f k)
 
     -- floors that a call of no number was given are right for both
     abbrev Unrefused : ℕ → Type 0
@@ -127,7 +126,7 @@ module _ (s t : List ℕ) (ok : Accepted s) (ok′ : Accepted t) (same : SameRou
     gain-floors u i v before number after =
         let e = gain-number u i v in
         let written = left-same (gainFloorsRefusal f s u i v) (gainFloorsRefusal f t u i v) (gainOf r (roundOf u) i v) (gainOf r′ (roundOf u) i v) before e
-        (λ z. gain-sets r r′ sets-same (proper (laterRefusal s u i v) z) (proper′ (laterRefusal s u i v) z) effects-same (roundOf u) i v) in (
+        (λ z. gain-sets r r′ sets-same (proper (laterRefusal s u i v) z) (proper′ (laterRefusal s u i v) z) (terms-same .effects) (roundOf u) i v) in (
           λ g. record { number = g .number ∙ e; written = g .written ∙ written },
           λ g. record { number = g .number ∙ sym e; written = g .written ∙ sym written },
         )
@@ -146,11 +145,11 @@ module _ (s t : List ℕ) (ok : Accepted s) (ok′ : Accepted t) (same : SameRou
     best-floors out out′ before number after =
         let e = best-number out in
         let page : bestFloorsRefusal f s out ≡ 0 → bestPage r ≡ bestPage r′
-        = (λ z. best-page-sets r r′ sets-same effects-same (proper (boundsRefusal s out) z) (proper′ (boundsRefusal s out) z)) in
+        = (λ z. best-page-sets r r′ sets-same (terms-same .effects) (proper (boundsRefusal s out) z) (proper′ (boundsRefusal s out) z)) in
         let buffer = left-same (bestFloorsRefusal f s out) (bestFloorsRefusal f t out) (bestBuffer r out) (bestBuffer r′ out) out e
         (λ z. buffer-same r r′ (sets-same .slots) (page z) out) in
         let sum = left-same (bestFloorsRefusal f s out) (bestFloorsRefusal f t out) (total r (bestPage r)) (total r′ (bestPage r′)) before e
-        (λ z. ap (total r) (page z) ∙ total-sets r r′ sets-same effects-same (bestPage r′)) in (
+        (λ z. ap (total r) (page z) ∙ total-sets r r′ sets-same (terms-same .effects) (bestPage r′)) in (
           λ g. record { number = g .number ∙ e; buffer = g .buffer ∙ buffer; written = g .written ∙ sum },
           λ g. record { number = g .number ∙ sym e; buffer = g .buffer ∙ sym buffer; written = g .written ∙ sym sum },
         )

@@ -10,8 +10,8 @@ use Rattle.sheet.specs.Sheet.{bidderCount, slotCount}
 use Rattle.sheet.specs.Refusal.{refusalOf, Accepted}
 use Rattle.sheet.specs.declared.Round.{Round}
 use Rattle.sheet.specs.Round.{roundOf, withFloors, constraintAt}
-use Rattle.sheet.proofs.RoundLaws.{round-bidders, round-slots, round-tick, round-bid, sheet-round, round-sheet, bids-of, effects-of}
-use Rattle.sheet.proofs.FloorLaws.{floors-bid, floors-effect, floors-slots, floors-bidders, floors-tick, floors-has, has-floors, floors-of}
+use Rattle.sheet.proofs.RoundLaws.{round-bidders, round-bid, sheet-round, round-sheet}
+use Rattle.sheet.proofs.FloorLaws.{floors-bid, floors-bidders, floors-has, has-floors, same-terms}
 use Rattle.floors.specs.Floors.{floorsRefusal}
 use Rattle.floors.proofs.FloorLaws.{passed-round}
 use Rattle.auction.specs.Broken.{breaksOwn}
@@ -68,13 +68,13 @@ module _ (f : List ℕ) where
   rounds-except i s t ok ok′ d =
       let r = roundOf s in
       let r′ = roundOf t in
-      let slots = round-slots s ∙ d .same-m ∙ sym (round-slots t) in
+      let same = same-terms f s t (d .same-n) (d .same-m) (d .same-tick) (d .same-effects) (d .same-bids) in
       record {
-        bidders = floors-bidders r f ∙ round-bidders s ∙ d .same-n ∙ sym (floors-bidders r′ f ∙ round-bidders t);
-        slots = floors-slots r f ∙ slots ∙ sym (floors-slots r′ f);
-        ticks = floors-tick r f ∙ round-tick s ∙ d .same-tick ∙ sym (floors-tick r′ f ∙ round-tick t);
-        floors = floors-of f r r′ slots;
-        bids = λ a e. floors-bid r f a ∙ bids-of s t (d .same-n) (d .same-bids) a ∙ sym (floors-bid r′ f a);
+        bidders = same .bidders;
+        slots = same .slots;
+        ticks = same .ticks;
+        floors = same .floors;
+        bids = λ a e. same .bids a;
         there = λ q e h. floors-has r′ f q (sheet-round t ok′ q (d .there q e (round-sheet s ok q (has-floors r f q h))));
         back = λ q e h. floors-has r f q (sheet-round s ok q (d .back q e (round-sheet t ok′ q (has-floors r′ f q h))));
       }
@@ -89,11 +89,11 @@ honesty f s o i v ok ok′ floored d passed low worth =
     let second = gained-is f o s i v ok′ floored′ (none-later o s i v ok (d .same-n) (d .same-m) (tested .0) (tested .1 .0) worth) in
     let r = withFloors (roundOf s) f in
     let r′ = withFloors (roundOf o) f in
-    let bids = bids-of s o (d .same-n) (d .same-bids) in
+    let terms = same-terms f s o (d .same-n) (d .same-m) (d .same-tick) (d .same-effects) (d .same-bids) in
     let pays : gainOf r′ r i v ≤ℤ gainOf r r i v
     = honest-pays r r′ i v (passed-round s f ok floored) (passed-round o f ok′ floored′) (rounds-except f i s o ok ok′ d)
-    (floors-bid (roundOf s) f i ∙ bids i ∙ sym (floors-bid (roundOf o) f i))
-    (λ k. floors-effect (roundOf s) f k ∙ effects-of s o (d .same-m) (d .same-effects) k ∙ sym (floors-effect (roundOf o) f k))
+    (terms .bids i)
+    (terms .effects)
     (downward-floors (roundOf o) f i ∙ tested .1 .1) (tested .0)
     (let n = round-bidders s in let e = floors-bidders (roundOf s) f in omega arith)
     (subst (λ (a : ℕ). a ≤ v) (sym (floors-bid (roundOf s) f i ∙ round-bid s ok i within)) low) in

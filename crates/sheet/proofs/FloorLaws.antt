@@ -2,7 +2,7 @@
 use Prim.Native.Nat.{ℕ, zero, suc, _<_, _≤_}
 use mathlib.Core.List.{List}
 use mathlib.Core.Logic.{⊎-elim}
-use mathlib.Core.Path.{_≡_, refl, ap}
+use mathlib.Core.Path.{_≡_, refl, sym, _∙_, ap}
 use native.Mathlib.Omega.{arith}
 use lib.ListN.{getD, replicate, length-replicate}
 use Rattle.basis.specs.Rows.{padded}
@@ -10,9 +10,10 @@ use Rattle.basis.proofs.NumberLaws.{below-or-not}
 use Rattle.basis.proofs.RowLaws.{length-padded, getD-padded, getD-padded-after, padded-blanks, zeros}
 use Rattle.sheet.specs.declared.Constraint.{Constraint}
 use Rattle.sheet.specs.declared.Round.{Round}
-use Rattle.sheet.specs.Sheet.{slotCount}
+use Rattle.sheet.specs.Sheet.{bidderCount, slotCount, tickField, effectField, bidField}
 use Rattle.sheet.specs.Round.{roundOf, withFloors, bidOf, effectOf, floorOf, constraintAt, Has}
 use Rattle.sheet.specs.Proper.{ProperRound, ProperFloors}
+use Rattle.sheet.proofs.RoundLaws.{round-bidders, round-slots, round-tick, bids-of, effects-of}
 
 -- The round with floors has these under its slots, and else all that it had.
 module _ (r : Round) (f : List ℕ) where
@@ -85,10 +86,36 @@ module _ (r : Round) (f : List ℕ) where
       }
 
 -- rounds with as many slots have the same floors
-pub floors-of : (f : List ℕ) (r r′ : Round) → r .slots ≡ r′ .slots → (k : ℕ) → floorOf (withFloors r f) k ≡ floorOf (withFloors r′ f) k
+floors-of : (f : List ℕ) (r r′ : Round) → r .slots ≡ r′ .slots → (k : ℕ) → floorOf (withFloors r f) k ≡ floorOf (withFloors r′ f) k
 unfolding withFloors floorOf
 floors-of f r r′ m zero = refl
 floors-of f r r′ m (suc k) = ap (λ (n : ℕ). getD (padded (λ k. getD f k 0) n 16 0) k 0) m
+
+-- Rounds of sheets with the same n, m, tick, effects and bids, under the same floors, have all these the same.
+pub record SameTerms (r r′ : Round) : Type 0 where
+  pub bidders : r .bidders ≡ r′ .bidders
+  pub slots : r .slots ≡ r′ .slots
+  pub ticks : r .tick ≡ r′ .tick
+  pub floors : (k : ℕ) → floorOf r k ≡ floorOf r′ k
+  pub effects : (k : ℕ) → effectOf r k ≡ effectOf r′ k
+  pub bids : (b : ℕ) → bidOf r b ≡ bidOf r′ b
+
+pub same-terms : (f s t : List ℕ) → bidderCount s ≡ bidderCount t → slotCount s ≡ slotCount t → tickField s ≡ tickField t →
+    ((k : ℕ) → 0 < k → k ≤ slotCount s → effectField s k ≡ effectField t k) →
+    ((b : ℕ) → 0 < b → b ≤ bidderCount s → bidField s b ≡ bidField t b) →
+    SameTerms (withFloors (roundOf s) f) (withFloors (roundOf t) f)
+same-terms f s t n m tick effects bids =
+    let r = roundOf s in
+    let r′ = roundOf t in
+    let slots = round-slots s ∙ m ∙ sym (round-slots t) in
+    record {
+      bidders = floors-bidders r f ∙ round-bidders s ∙ n ∙ sym (floors-bidders r′ f ∙ round-bidders t);
+      slots = floors-slots r f ∙ slots ∙ sym (floors-slots r′ f);
+      ticks = floors-tick r f ∙ round-tick s ∙ tick ∙ sym (floors-tick r′ f ∙ round-tick t);
+      floors = floors-of f r r′ slots;
+      effects = λ k. floors-effect r f k ∙ effects-of s t m effects k ∙ sym (floors-effect r′ f k);
+      bids = λ b. floors-bid r f b ∙ bids-of s t n bids b ∙ sym (floors-bid r′ f b);
+    }
 
 -- with a floor of 0 under each slot the round is the sheet's own
 pub without-floors : (s f : List ℕ) → slotCount s ≤ 16 → ((k : ℕ) → k < slotCount s → getD f k 0 ≡ 0) → withFloors (roundOf s) f ≡ roundOf s
