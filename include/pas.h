@@ -330,8 +330,8 @@ uint32_t pas_owner_part(const uint8_t *sheet, size_t sheet_len, uint32_t bidder,
  * version 1), and the conditions in rising order, each once, however often the sheet has it. A sheet of version 2 is
  * that sheet already, and is copied.
  *
- * Two sheets say the same round where n, m, tick, effects and bids are equal and each condition of the one is in the
- * other too. Proved of it, for accepted sheets:
+ * Two sheets say the same round where n, m, tick, effects and bids are equal and each has every condition that the
+ * other has. Proved of it, for accepted sheets:
  *
  * - what is written of two sheets is equal, byte for byte, exactly where they say the same round: so memcmp tells;
  * - what is written is accepted, says the round of the sheet, and is written again as it is;

@@ -146,7 +146,7 @@ pub fn canonical_into(sheet: &[u8], result: &mut [u8]) -> Result<usize, Refusal>
     Ok(written)
 }
 
-/// Whether two sheets say the same round: bidders, slots, tick, effects and bids are equal, and each constraint of the one is in the other too. The
+/// Whether two sheets say the same round: bidders, slots, tick, effects and bids are equal, and each has every constraint that the other has. The
 /// version does not matter, nor the order in which a sheet of version 1 has its constraints and how often it has one. It is told by the canonical
 /// forms, which are equal exactly then. Refused with 1 to 13 or 26 to 28 of the first sheet that is not accepted.
 ///

@@ -1,7 +1,7 @@
 // One sheet for one round: version 2, the constraints in order and each once.
 //
 // An accepted sheet of version 2 has that form and is copied. Of one of version 1 the constraints are read as numbers of their four bytes, the owner
-// the highest, so that the order of the constraints is that of the numbers; these are sorted and repeats dropped. Only then is known how long the
+// the highest, so that the order of the constraints is that of the numbers; these are sorted and repeats dropped. Only then is it known how long the
 // written sheet is, so nothing is written before.
 ghost use mathlib.Core.Path.{_≡_};
 ghost use Prim.Native.Nat.{ℕ, _+_, _*_, _<_, _≤_};

@@ -362,7 +362,7 @@ pub record WrittenRight (s out out′ : List ℕ) (size : ℕ) : Type 0 where
       (number ≡ 0) × (after ≡ size) × (take after into′ ≡ take size out′)
 
 pub record RequestSix : Type 0 where
-  -- any accepted sheet is written, into any buffer of 4 bytes more than it has
+  -- any accepted sheet is written, into any buffer of at least 4 bytes more than it has
   pub any-accepted : (s out out′ : List ℕ) (before number after : ℕ) → Accepted s → length s + 4 ≤ length out → CanonicalGiven s out before number out′ after →
       (number ≡ 0) × WrittenRight s out out′ after
   -- what is written, wherever the call is not refused

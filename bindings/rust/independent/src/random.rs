@@ -201,8 +201,8 @@ pub fn disordered(random: &mut Random, mut round: Round) -> Round {
     round
 }
 
-/// The same round in another shape. In version 1 the constraints are shuffled, and some of them, or none, come up to three times more, as far as
-/// there is room; with tick 1 it may be of either version. In version 2 with another tick there is no other shape.
+/// The same round in another shape. In version 1 the constraints are shuffled, and up to three times as many repeats of them, or none, are added, as
+/// far as there is room; with tick 1 it may be of either version. In version 2 with another tick there is no other shape.
 pub fn reshaped(random: &mut Random, mut round: Round) -> Round {
     let tick = round.tick.unwrap_or(1);
     let all = &mut round.constraints;
