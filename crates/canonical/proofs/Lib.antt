@@ -1,5 +1,4 @@
 -- The laws behind the functions of this crate.
-pub mod EncodedLaws
 pub mod OrderedLaws
 pub mod WrittenLaws
 pub mod PartLaws

@@ -26,14 +26,14 @@ use Rattle.sheet.specs.Sheet.{
   otherSlotField,
 }
 use Rattle.sheet.specs.Refusal.{Accepted}
-use Rattle.sheet.specs.Accepted.{fieldsNumber, orderNumber, AcceptedSheet}
-use Rattle.sheet.specs.Encoded.{Condition, on, quads}
+use Rattle.sheet.specs.Accepted.{fieldsNumber, numberOf, orderNumber, AcceptedSheet}
+use Rattle.sheet.specs.Encoded.{Condition, on, quads, conditionField}
 use Rattle.sheet.proofs.AcceptedLaws.{accepted-sheet}
 use Rattle.sheet.proofs.OrderLaws.{rising-over}
 use Rattle.canonical_sort.specs.EngineSort.{digitOf, DigitsBelow, Among, Sorted, EachOnce}
 use Rattle.canonical.specs.Canonical.{hasCondition, conditionsInOrder}
-use Rattle.canonical.specs.EngineParts.{conditionField, numberOf, blankCondition, numberBytes, numbersBytes, InSheetOrder}
-use Rattle.canonical.proofs.EncodedLaws.{quadBytes, quads-row}
+use Rattle.canonical.specs.EngineParts.{numberBytes, numbersBytes, InSheetOrder}
+use Rattle.sheet.proofs.EncodedLaws.{blankCondition, quadBytes, quads-row}
 
 -- a sheet lists just the conditions that stand in it
 pub has-where : (s : List ℕ) (a b c d : ℕ) → hasCondition s a b c d ≡ true → (i : ℕ) × (i < constraintCount s) × (conditionField s i ≡ on a b c d)

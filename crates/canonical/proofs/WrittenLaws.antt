@@ -37,15 +37,17 @@ use Rattle.sheet.specs.Sheet.{
 use Rattle.sheet.specs.Refusal.{marked, effectBefore, Accepted}
 use Rattle.sheet.specs.Accepted.{Counts, EffectAccepted, BidAccepted, ConstraintAccepted, orderNumber, AcceptedSheet}
 use Rattle.sheet.specs.declared.Constraint.{Constraint}
-use Rattle.sheet.specs.Round.{bidder, kindOf, constraintField, writtenOwn, writtenOther, writtenOthers, SheetHas}
-use Rattle.sheet.specs.Encoded.{Condition, on, words, quads, countBytes, bodyBytes, sheetInTicks}
+use Rattle.sheet.specs.Round.{constraintField, SheetHas}
+use Rattle.sheet.specs.Encoded.{Condition, on, words, quads, countBytes, bodyBytes, sheetInTicks, conditionField}
 use Rattle.sheet.proofs.HeaderLaws.{start-two, tick-two, start-other, tick-other}
 use Rattle.sheet.proofs.AcceptedLaws.{accepted-sheet, sheet-accepted}
-use Rattle.sheet.proofs.RoundLaws.{written-fields}
 use Rattle.canonical.specs.Canonical.{hasCondition, conditionsInOrder, canonicalSheet, SameRound}
-use Rattle.canonical.specs.EngineParts.{headerOf, conditionField, numberOf, blankCondition, numbersBytes, InSheetOrder}
+use Rattle.canonical.specs.EngineParts.{headerOf, numbersBytes, InSheetOrder}
 use Rattle.canonical.proofs.OrderedLaws.{has-where, has-at, few-conditions, condition-from, condition-kept, conditions-rise, conditions-same, conditions-two}
-use Rattle.canonical.proofs.EncodedLaws.{
+use Rattle.sheet.proofs.EncodedLaws.{
+  blankCondition,
+  readBack,
+  field-written,
   words-row,
   quadBytes,
   quads-row,
@@ -278,27 +280,6 @@ module _ (s : List ℕ) where
     written-before zero m = refl
     written-before (suc zero) m = refl
     written-before (suc (suc k)) m = written-effect (suc k) (omega arith) (omega arith)
-
--- a condition in the types of the source,
-unfoldable asConstraint : Condition → Constraint
-asConstraint q = record { owner = bidder (q .owner); kind = kindOf (q .own) (q .other) (q .others) }
-
-field-constraint : (s : List ℕ) (k : ℕ) → constraintField s k ≡ asConstraint (conditionField s k)
-unfolding constraintField conditionField asConstraint
-field-constraint s k = refl
-
--- from which, of an accepted sheet, its fields are read back
-abbrev readBack : Constraint → Condition
-readBack q = on (q .owner .0) (writtenOwn (q .kind)) (writtenOther (q .kind)) (writtenOthers (q .kind))
-
-field-written : (s : List ℕ) → Accepted s → (k : ℕ) → k < constraintCount s → conditionField s k ≡ readBack (constraintField s k)
-unfolding constraintField conditionField
-field-written s ok k l =
-    let fields =
-    written-fields (bidderCount s) (slotCount s) (ownerField s k) (ownSlotField s k) (otherField s k) (otherSlotField s k)
-    (accepted-sheet s ok .constraints k l) in
-    ap (λ (own : ℕ). on (ownerField s k) own (otherField s k) (otherSlotField s k)) (sym (fields .0))
-    ∙ ap₂ (λ (other others : ℕ). on (ownerField s k) (writtenOwn (constraintField s k .kind)) other others) (sym (fields .1 .0)) (sym (fields .1 .1))
 
 -- so a sheet that has all constraints of another lists each condition that the other lists
 listed-there : (s t : List ℕ) → Accepted s → Accepted t → ((q : Constraint) → SheetHas s q → SheetHas t q) → (owner own other others : ℕ) →

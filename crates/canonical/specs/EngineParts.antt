@@ -6,25 +6,12 @@ use mathlib.Core.Path.{_≡_}
 use lib.ListN.{length, getD}
 use Rattle.basis.specs.Bytes.{bytes32}
 use Rattle.basis.specs.Rows.{joined}
-use Rattle.sheet.specs.Sheet.{ownerField, ownSlotField, otherField, otherSlotField}
-use Rattle.sheet.specs.Accepted.{fieldsNumber}
-use Rattle.sheet.specs.Encoded.{Condition, on, quads}
+use Rattle.sheet.specs.Encoded.{quads}
 use Rattle.canonical.specs.Canonical.{conditionsInOrder}
 
 -- the 13 bytes of a header of version 2
 unfoldable pub headerOf : (tick n m c : ℕ) → List ℕ
 headerOf tick n m c = 0x50 ∷ 0x41 ∷ 0x53 ∷ 2 ∷ 0 ∷ n ∷ m ∷ c % 256 ∷ c / 256 ∷ bytes32 tick
-
--- the condition at index k of a sheet, and a condition's number in the order
-unfoldable pub conditionField : List ℕ → ℕ → Condition
-conditionField s k = on (ownerField s k) (ownSlotField s k) (otherField s k) (otherSlotField s k)
-
-unfoldable pub numberOf : Condition → ℕ
-numberOf q = fieldsNumber (q .owner) (q .own) (q .other) (q .others)
-
--- for an index past the end of a list of conditions
-abbrev pub blankCondition : Condition
-blankCondition = on 0 0 0 0
 
 -- a condition's four bytes from its number: the highest first
 unfoldable pub numberBytes : ℕ → List ℕ

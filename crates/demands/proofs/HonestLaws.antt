@@ -3,21 +3,22 @@ use mathlib.Core.Bool.{Bool, true, false}
 use mathlib.Core.List.{List}
 use mathlib.Core.Path.{_≡_, refl, sym, _∙_, ap, subst, subst₂}
 use native.Mathlib.Omega.{arith}
-use Prim.Native.Nat.{ℕ, _≤_}
+use Prim.Native.Nat.{ℕ, _<_, _≤_}
 use lib.IntN.{ℤ}
 use lib.ListN.{replicate}
 use lib.Signed.{_≤ℤ_}
 use Rattle.basis.proofs.FirstLaws.{answered-gives}
-use Rattle.sheet.specs.Sheet.{slotCount, bidField}
+use Rattle.sheet.specs.Sheet.{bidderCount, slotCount, bidField}
 use Rattle.sheet.specs.Refusal.{Accepted}
 use Rattle.sheet.specs.Round.{roundOf, withFloors}
 use Rattle.downward.specs.Downward.{downward}
 use Rattle.downward.specs.Call.{testRefusal, testedFor, testedOf}
 use Rattle.gain.specs.Gain.{gainOf}
 use Rattle.gain.specs.Call.{gainFloorsRefusal, gainedFor, gainedFloorsOf}
+use Rattle.downward.proofs.DownwardLaws.{tested-yes}
 use Rattle.honesty.specs.Honesty.{DifferOnlyInList, Honesty}
 use Rattle.honesty.proofs.Honesty.{honesty}
-use Rattle.pas.specs.Calls.{yesNumber, DownwardGiven, GainFloorsGiven}
+use Rattle.pas.specs.Calls.{yesNumber, DownwardGiven, GainGiven, GainFloorsGiven}
 use Rattle.pas.proofs.AnswerLaws.{gain-number, gain-answer}
 use Rattle.demands.specs.Demands.{noFloors, Floored, DemandThree}
 use Rattle.demands.proofs.FloorsLaws.{passed, none-floored, gain-without}
@@ -49,22 +50,40 @@ gain-given f s t i worth before answer after given none =
           ∙ sym (given .written ∙ sym (answered-gives k (gainOf r (roundOf t) i worth) before number)),
     )
 
--- with floors
-pub honest-with : (f honest other : List ℕ) (i worth : ℕ) → Floored f honest → Accepted other → DifferOnlyInList i honest other →
-    (before : ℕ) → DownwardGiven other i before 0 1 → bidField honest i ≤ worth → worth ≤ 1_000_000_000 →
+-- with floors, whether the list was tested or not
+pub honest-list : (f honest other : List ℕ) (i worth : ℕ) → Floored f honest → Accepted other → DifferOnlyInList i honest other →
+    0 < i → i ≤ bidderCount other → downward (roundOf other) i ≡ true → bidField honest i ≤ worth → worth ≤ 1_000_000_000 →
     (x y : ℤ) (n n′ : ℕ) (g g′ : ℤ) → GainFloorsGiven f honest honest i worth x n g → GainFloorsGiven f other honest i worth y n′ g′ →
     (n ≡ 0) × (n′ ≡ 0) × (g′ ≤ℤ g)
 unfolding Honesty
-honest-with f honest other i worth right ok′ d before test low most x y n n′ g g′ first second =
-    let pays = honesty f honest other i worth (right .accepted) ok′ (passed f honest right) d (answered-yes other i before test) low most in
+honest-list f honest other i worth right ok′ d some most list low high x y n n′ g g′ first second =
+    let pays = honesty f honest other i worth (right .accepted) ok′ (passed f honest right) d some most list low high in
     let one = gain-given f honest honest i worth x n g first (pays .0) in
     let two = gain-given f other honest i worth y n′ g′ second (pays .1) in
     (one .0, two .0, subst₂ (λ (v w : ℤ). v ≤ℤ w) (two .1) (one .1) (pays .2))
 
--- without floors they are 0
-pub honest-demand : DemandThree
-unfolding DemandThree
-honest-demand honest other i worth ok ok′ d before test low most x y n n′ g g′ first second =
-    honest-with (noFloors honest) honest other i worth (none-floored honest ok) ok′ d before test low most x y n n′ g g′
+-- where it was
+pub honest-with : (f honest other : List ℕ) (i worth : ℕ) → Floored f honest → Accepted other → DifferOnlyInList i honest other →
+    (before : ℕ) → DownwardGiven other i before 0 1 → bidField honest i ≤ worth → worth ≤ 1_000_000_000 →
+    (x y : ℤ) (n n′ : ℕ) (g g′ : ℤ) → GainFloorsGiven f honest honest i worth x n g → GainFloorsGiven f other honest i worth y n′ g′ →
+    (n ≡ 0) × (n′ ≡ 0) × (g′ ≤ℤ g)
+honest-with f honest other i worth right ok′ d before test =
+    let tested = tested-yes other i (answered-yes other i before test) in
+    honest-list f honest other i worth right ok′ d (tested .0) (tested .1 .0) (tested .1 .1)
+
+-- without floors they are 0: so of every list
+pub honest-without : (honest other : List ℕ) (i worth : ℕ) → Accepted honest → Accepted other → DifferOnlyInList i honest other →
+    0 < i → i ≤ bidderCount other → downward (roundOf other) i ≡ true → bidField honest i ≤ worth → worth ≤ 1_000_000_000 →
+    (x y : ℤ) (n n′ : ℕ) (g g′ : ℤ) → GainGiven honest honest i worth x n g → GainGiven other honest i worth y n′ g′ →
+    (n ≡ 0) × (n′ ≡ 0) × (g′ ≤ℤ g)
+honest-without honest other i worth ok ok′ d some most list low high x y n n′ g g′ first second =
+    honest-list (noFloors honest) honest other i worth (none-floored honest ok) ok′ d some most list low high x y n n′ g g′
     (gain-without honest honest i worth x n g .0 first)
     (subst (λ (m : ℕ). GainFloorsGiven (replicate m 0) other honest i worth y n′ g′) (sym (d .same-m)) (gain-without other honest i worth y n′ g′ .0 second))
+
+-- and of one that was tested
+pub honest-demand : DemandThree
+unfolding DemandThree
+honest-demand honest other i worth ok ok′ d before test =
+    let tested = tested-yes other i (answered-yes other i before test) in
+    honest-without honest other i worth ok ok′ d (tested .0) (tested .1 .0) (tested .1 .1)

@@ -1,4 +1,4 @@
--- The three demands, over the contracts of the ten calls that programs link (pas/src/lib.rt), and then what the requests of document 02 that have
+-- The three demands, over the contracts of the eleven calls that programs link (pas/src/lib.rt), and then what the requests of document 02 that have
 -- landed add. Each call promises one record or equation, for every input; here is what follows for a reader, and the proofs are in proofs/Demands.antt. Lists of
 -- numbers are bytes; s is a sheet, out and out′ are a result buffer before and after a call, `number` is what a call returns.
 use Prim.Native.Nat.{ℕ, suc, _+_, _*_, _%_, _<_, _≤_}
@@ -15,8 +15,9 @@ use Rattle.basis.specs.Rows.{row}
 use Rattle.sheet.specs.declared.Page.{Page}
 use Rattle.sheet.specs.declared.Round.{Round}
 use Rattle.sheet.specs.Sheet.{version, bidderCount, slotCount, constraintCount, constraintsStart, tickField, bidField, ownerField}
-use Rattle.sheet.specs.Refusal.{constraintBelow, aboveBefore, termsRefusal, constraintRefusal, refusalOf, Accepted}
+use Rattle.sheet.specs.Refusal.{fieldsRefusal, fieldsBelow, constraintBelow, aboveBefore, termsRefusal, constraintRefusal, refusalOf, Accepted}
 use Rattle.sheet.specs.Round.{standsBelow, roundOf, bidOf, withFloors, floorOf, constraintAt}
+use Rattle.sheet.specs.Encoded.{Condition, on, conditionField, conditionIn}
 use Rattle.auction.specs.declared.Eligibility.{Eligibility}
 use Rattle.auction.specs.declared.Eligibility.the-variants.{Eligible, Placed, EarlierWinners, Own, BelowFloor}
 use Rattle.auction.specs.Page.{at, put, placed}
@@ -38,7 +39,8 @@ use Rattle.honesty.specs.Honesty.{DifferOnlyInList}
 use Rattle.owner_part.specs.declared.Before.{Before}
 use Rattle.owner_part.specs.OwnerPart.{partRefusal, bytesBefore, constraintsOf, partLength, beforeOf, PartHanded}
 use Rattle.canonical.specs.Canonical.{canonicalSheet, canonicalRefusal, canonicalBuffer, SameRound}
-use Rattle.pas.specs.Calls.{yesNumber, DownwardGiven, GainGiven, GainFloorsGiven, BestPageGiven, BestFloorsPageGiven, PartGiven, CanonicalGiven}
+use Rattle.slot_terms.specs.SlotTerms.{barFor, slotTerms, slotTermsRefusal, conditionsBuffer}
+use Rattle.pas.specs.Calls.{yesNumber, DownwardGiven, GainGiven, GainFloorsGiven, BestPageGiven, BestFloorsPageGiven, PartGiven, CanonicalGiven, SlotTermsGiven}
 
 -- DEMAND 1. "Every sheet or call that breaks a rule gets the first number that applies, and no lent byte changes; every other gets its full
 -- result."
@@ -83,6 +85,10 @@ pub record DemandOne : Type 0 where
   pub canonical : (s out out′ : List ℕ) (before number after : ℕ) → CanonicalGiven s out before number out′ after →
       Owed number (canonicalRefusal s out) ((out′ ≡ out) × (after ≡ before))
       ((out′ ≡ canonicalBuffer s out) × (after ≡ length (canonicalSheet s)))
+  -- pas_slot_terms, 4, 5, 16, 20 to 22, 19
+  pub slot-terms : (n m owner limit : ℕ) (bars out out′ : List ℕ) (before number after : ℕ) → SlotTermsGiven n m owner limit bars out before number out′ after →
+      Owed number (slotTermsRefusal n m owner limit bars out) ((out′ ≡ out) × (after ≡ before))
+      ((out′ ≡ conditionsBuffer (slotTerms n m owner limit bars) out) × (after ≡ length (slotTerms n m owner limit bars)))
 
 -- DEMAND 2. "The page is the greedy page. A price is the smallest bid with which its winner, all else unchanged, still wins that place. Up to 8
 -- bidders and 8 places, the best page breaks no condition and no other such page has a larger total." With request S-4 "a price becomes the smallest
@@ -382,3 +388,103 @@ pub record RequestSix : Type 0 where
   pub nineteen : (s out : List ℕ) → Accepted s → length out < length (canonicalSheet s) → canonicalRefusal s out ≡ 19
   pub answered : (s out : List ℕ) → Accepted s → length (canonicalSheet s) ≤ length out → canonicalRefusal s out ≡ 0
   pub at-most-longer : (s : List ℕ) → Accepted s → length (canonicalSheet s) ≤ length s + 4
+
+-- REQUEST S-1. "Buyers think in two numbers: the lowest place they accept, and for each rival how many top places it must not have. Add the source's
+-- slot-specific profile: from n, m, an owner, its own limit and a bar for each bidder, write that owner's conditions in rising order of their four bytes and
+-- return how many; later bytes stay. A limit L gives own-place conditions for places L + 1 to m. A bar B gives other's-place conditions for places 1 to B.
+-- Every list written is downward monotonic for that m, so on a sheet with that n and m demand 3 holds for it as the list sent instead, with no test made.
+-- Turned away: after 4, 5 and 16, 20 for a limit of 0 or above m, 21 for a list of bars not n long or a bar above m, 22 for a bar other than 0 against the
+-- owner, and then 19."
+
+-- the condition is one of the first `count` of bytes that are conditions alone, four bytes each
+abbrev pub Among : (bytes : List ℕ) (count : ℕ) → Condition → Type 0
+Among bytes count q = (k : ℕ) × (k < count) × (conditionIn bytes k ≡ q)
+
+-- 01's "downward monotonic" of such a list, for m places: "for every condition with own place k from 1 to m − 1, the list also has the condition with own
+-- place k + 1 and the same other part"
+abbrev pub DownwardFor : (m : ℕ) (bytes : List ℕ) (count : ℕ) → Type 0
+DownwardFor m bytes count =
+    (q : Condition) → Among bytes count q → 0 < q .own → q .own < m → Among bytes count (on (q .owner) (suc (q .own)) (q .other) (q .others))
+
+-- Bidder i's list in a sheet is the one written: the sheet has each of its conditions, in any order and any number of times, and no other that i owns.
+pub record ListSent (s : List ℕ) (i : ℕ) (bytes : List ℕ) (count : ℕ) : Type 0 where
+  pub each : (q : Condition) → Among bytes count q → (k : ℕ) × (k < constraintCount s) × (conditionField s k ≡ q)
+  pub no-other : (k : ℕ) → k < constraintCount s → ownerField s k ≡ i → Among bytes count (conditionField s k)
+
+-- of two conditions the first stands below the second "in rising order of their four bytes"
+abbrev pub Below : Condition → Condition → Type 0
+Below p q = fieldsBelow (p .owner) (p .own) (p .other) (p .others) (q .owner) (q .own) (q .other) (q .others) ≡ true
+
+-- What pas_slot_terms has written, where it is not refused.
+pub record TermsRight (n m owner limit : ℕ) (bars out out′ : List ℕ) (count : ℕ) : Type 0 where
+  -- the own-place conditions for places L + 1 to m, and for each bidder the other's-place conditions for places 1 to its bar, and nothing else
+  pub conditions : (q : Condition) →
+      Exactly (Among out′ count q)
+      ((q .owner ≡ owner)
+      × (((limit < q .own) × (q .own ≤ m) × (q .other ≡ 0) × (q .others ≡ 0))
+      ⊎ ((q .own ≡ 0) × (0 < q .other) × (q .other ≤ n) × (0 < q .others) × (q .others ≤ barFor bars (q .other)))))
+  -- each below the next in the order of their four bytes, so that none is there twice
+  pub rising : (j k : ℕ) → j < k → k < count → Below (conditionIn out′ j) (conditionIn out′ k)
+  -- each passes 10 to 13 of a sheet with that n and m
+  pub pass : (q : Condition) → Among out′ count q → fieldsRefusal n m (q .owner) (q .own) (q .other) (q .others) ≡ 0
+  -- they are never more than 1,023, so they fit on a sheet; there was room for them, and "later bytes stay"
+  pub most : count ≤ 1_023
+  pub room : 4 * count ≤ length out
+  pub later : drop (4 * count) out′ ≡ drop (4 * count) out
+  -- the list is downward monotonic for that m; so in an accepted sheet with that m the test of 01 passes
+  pub downward-for : DownwardFor m out′ count
+  pub downward-on : (s : List ℕ) → Accepted s → slotCount s ≡ m → ListSent s owner out′ count → downward (roundOf s) owner ≡ true
+
+-- n, m and an owner that a sheet can have; then a limit and bars that break none of the call's rules
+pub record OwnerFits (n m owner : ℕ) : Type 0 where
+  pub some-bidders : 0 < n
+  pub most-bidders : n ≤ 64
+  pub some-slots : 0 < m
+  pub most-slots : m ≤ 16
+  pub some-owner : 0 < owner
+  pub most-owner : owner ≤ n
+
+pub record TermsFit (n m owner limit : ℕ) (bars : List ℕ) : Type 0 where
+  pub owner-fits : OwnerFits n m owner
+  pub some-limit : 0 < limit
+  pub most-limit : limit ≤ m
+  pub as-many : length bars ≡ n
+  pub none-above : (j : ℕ) → 0 < j → j ≤ n → barFor bars j ≤ m
+  pub none-against : barFor bars owner ≡ 0
+
+pub record RequestOne : Type 0 where
+  -- what is written, wherever the call is not refused
+  pub written : (n m owner limit : ℕ) (bars out out′ : List ℕ) (before count : ℕ) →
+      SlotTermsGiven n m owner limit bars out before 0 out′ count → TermsRight n m owner limit bars out out′ count
+  -- demand 3 with the list written as the list sent instead, on a sheet with that n and m and with no test made
+  pub honest : (n m i limit : ℕ) (bars out out′ : List ℕ) (before count : ℕ) → SlotTermsGiven n m i limit bars out before 0 out′ count →
+      (honest instead : List ℕ) (worth : ℕ) → Accepted honest → Accepted instead → DifferOnlyInList i honest instead →
+      bidderCount instead ≡ n → slotCount instead ≡ m → ListSent instead i out′ count → bidField honest i ≤ worth → worth ≤ 1_000_000_000 →
+      (before-honest before-instead : ℤ) (number-honest number-instead : ℕ) (gain-honest gain-instead : ℤ) →
+      GainGiven honest honest i worth before-honest number-honest gain-honest →
+      GainGiven instead honest i worth before-instead number-instead gain-instead →
+      (number-honest ≡ 0) × (number-instead ≡ 0) × (gain-instead ≤ℤ gain-honest)
+  -- and with floors, the same for both sheets
+  pub honest-floors : (n m i limit : ℕ) (bars out out′ : List ℕ) (before count : ℕ) → SlotTermsGiven n m i limit bars out before 0 out′ count →
+      (floors honest instead : List ℕ) (worth : ℕ) → Floored floors honest → Accepted instead → DifferOnlyInList i honest instead →
+      bidderCount instead ≡ n → slotCount instead ≡ m → ListSent instead i out′ count → bidField honest i ≤ worth → worth ≤ 1_000_000_000 →
+      (before-honest before-instead : ℤ) (number-honest number-instead : ℕ) (gain-honest gain-instead : ℤ) →
+      GainFloorsGiven floors honest honest i worth before-honest number-honest gain-honest →
+      GainFloorsGiven floors instead honest i worth before-instead number-instead gain-instead →
+      (number-honest ≡ 0) × (number-instead ≡ 0) × (gain-instead ≤ℤ gain-honest)
+  -- the call's numbers: 4, 5 and 16 first,
+  pub four : (n m owner limit : ℕ) (bars out : List ℕ) → (n ≡ 0) ⊎ (64 < n) → slotTermsRefusal n m owner limit bars out ≡ 4
+  pub five : (n m owner limit : ℕ) (bars out : List ℕ) → 0 < n → n ≤ 64 → (m ≡ 0) ⊎ (16 < m) → slotTermsRefusal n m owner limit bars out ≡ 5
+  pub sixteen : (n m owner limit : ℕ) (bars out : List ℕ) → 0 < n → n ≤ 64 → 0 < m → m ≤ 16 → (owner ≡ 0) ⊎ (n < owner) →
+      slotTermsRefusal n m owner limit bars out ≡ 16
+  -- then 20 for the limit, 21 for the list of bars and each bar of it, the owner's own included, and 22 for a bar against the owner,
+  pub twenty : (n m owner limit : ℕ) (bars out : List ℕ) → OwnerFits n m owner → (limit ≡ 0) ⊎ (m < limit) → slotTermsRefusal n m owner limit bars out ≡ 20
+  pub twenty-one : (n m owner limit : ℕ) (bars out : List ℕ) → OwnerFits n m owner → 0 < limit → limit ≤ m →
+      (length bars ≡ n → ⊥) ⊎ ((j : ℕ) × (0 < j) × (j ≤ n) × (m < barFor bars j)) → slotTermsRefusal n m owner limit bars out ≡ 21
+  pub twenty-two : (n m owner limit : ℕ) (bars out : List ℕ) → OwnerFits n m owner → 0 < limit → limit ≤ m → length bars ≡ n →
+      ((j : ℕ) → 0 < j → j ≤ n → barFor bars j ≤ m) → (barFor bars owner ≡ 0 → ⊥) → slotTermsRefusal n m owner limit bars out ≡ 22
+  -- then 19 for a buffer shorter than four bytes for each condition; and none for any other
+  pub nineteen : (n m owner limit : ℕ) (bars out : List ℕ) → TermsFit n m owner limit bars → length out < 4 * length (slotTerms n m owner limit bars) →
+      slotTermsRefusal n m owner limit bars out ≡ 19
+  pub answered : (n m owner limit : ℕ) (bars out : List ℕ) → TermsFit n m owner limit bars → 4 * length (slotTerms n m owner limit bars) ≤ length out →
+      slotTermsRefusal n m owner limit bars out ≡ 0

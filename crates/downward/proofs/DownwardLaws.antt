@@ -1,7 +1,7 @@
 -- What the downward test says of a list: two kinds are the same exactly when they are equal, and a list that passes has each constraint
 -- one lower; that it sees only which constraints there are; and what the call's answer says. Assumes nothing.
 use Prim.Native.Nat.{ℕ, zero, suc, _<_, _≤_}
-use borrow.Author.Tests.{eq-eqb, eqb-true, eqb-false, lt-ltb, ltb-false}
+use borrow.Author.Tests.{eq-eqb, eqb-true, eqb-false, lt-ltb, ltb-true, ltb-false}
 use mathlib.Core.Bool.{Bool, true, false, not, _&&_, _||_, false≢true}
 use mathlib.Core.List.{List}
 use mathlib.Core.Path.{_≡_, refl, sym, _∙_, ap, ap₂}
@@ -9,7 +9,7 @@ use native.Mathlib.Omega.{arith}
 use lib.Dec.{eqb, ltb}
 use Rattle.basis.specs.Tests.{allBelow}
 use Rattle.basis.proofs.FirstLaws.{orElse-none, when-none}
-use Rattle.basis.proofs.TestLaws.{and-holds, and-parts, or-none, any-at, any-where, all-at}
+use Rattle.basis.proofs.TestLaws.{and-holds, and-parts, or-none, any-at, any-where, all-at, at-all}
 use Rattle.sheet.specs.declared.Kind.{Kind}
 use Rattle.sheet.specs.declared.Kind.the-variants.{OwnSlot, OtherSlot, Pair}
 use Rattle.sheet.specs.declared.Constraint.{Constraint}
@@ -101,6 +101,26 @@ downward-lower r i e q h own some less =
     let owner : constraintAt r (w .0) .owner .0 ≡ q .owner .0 = w .2 ∙ sym own in
     let kind : constraintAt r (w .0) .kind ≡ oneLower (q .kind) = w .3 ∙ ap (λ (x : Constraint). oneLower (x .kind)) here in
     (w .0, w .1, λ x. record { owner = bidder (owner x); kind = kind x })
+
+-- and a list that has each of them passes
+pub downward-where : (r : Round) (i : ℕ) →
+    ((q : Constraint) → Has r q → q .owner .0 ≡ i → 0 < ownSlot (q .kind) → ownSlot (q .kind) < r .slots → Has r (record { owner = q .owner; kind = oneLower (q .kind) })) →
+    downward r i ≡ true
+unfolding downward asksLower
+downward-where r i lower =
+    at-all
+    (λ a.
+    not (eqb (constraintAt r a .owner .0) i && asksLower r (constraintAt r a .kind)) || listHas r i (oneLower (constraintAt r a .kind)))
+    (r .used)
+    (λ a l.
+    let q = constraintAt r a in
+    implies (eqb (q .owner .0) i && asksLower r (q .kind)) (listHas r i (oneLower (q .kind)))
+    (λ h.
+    let own = and-parts (eqb (q .owner .0) i) (asksLower r (q .kind)) h in
+    let asks = and-parts (ltb 0 (ownSlot (q .kind))) (ltb (ownSlot (q .kind)) (r .slots)) (own .1) in
+    let mine = eqb-true (q .owner .0) i (own .0) in
+    let w = lower q (a, l, refl) mine (ltb-true 0 (ownSlot (q .kind)) (asks .0)) (ltb-true (ownSlot (q .kind)) (r .slots) (asks .1)) in
+    list-at r i (oneLower (q .kind)) (w .0) (w .1) (ap (λ (x : Constraint). x .owner .0) (w .2) ∙ mine) (ap (λ (x : Constraint). x .kind) (w .2))))
 
 -- the test sees only which constraints the round has, and how many slots
 module _ (r r′ : Round) (i : ℕ) (slots : r .slots ≡ r′ .slots)

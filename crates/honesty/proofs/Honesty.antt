@@ -23,7 +23,6 @@ use Rattle.gain.proofs.CallLaws.{for-gained, left-of-gain, floored-gains}
 use Rattle.downward.specs.Downward.{listHas, asksLower, downward}
 use Rattle.honesty.specs.Honesty.{DifferOnlyInList, Honesty}
 use Rattle.gain.specs.declared.Gained.{Gained}
-use Rattle.downward.proofs.DownwardLaws.{tested-yes}
 use Rattle.honesty.proofs.HonestyLaws.{honest-pays}
 
 -- floors change neither whether a list is downward monotonic nor what a truth sheet's list is
@@ -81,12 +80,11 @@ module _ (f : List ℕ) where
 
 pub honesty : Honesty
 unfolding Honesty
-honesty f s o i v ok ok′ floored d passed low worth =
-    let tested = tested-yes o i passed in
-    let within : i ≤ bidderCount s = (let n = d .same-n in let h = tested .1 .0 in omega arith) in
+honesty f s o i v ok ok′ floored d some most list low worth =
+    let within : i ≤ bidderCount s = (let n = d .same-n in omega arith) in
     let floored′ : floorsRefusal (slotCount o) f ≡ 0 = ap (λ (m : ℕ). floorsRefusal m f) (sym (d .same-m)) ∙ floored in
-    let first = gained-is f s s i v ok floored (none-later s s i v ok refl refl (tested .0) within worth) in
-    let second = gained-is f o s i v ok′ floored′ (none-later o s i v ok (d .same-n) (d .same-m) (tested .0) (tested .1 .0) worth) in
+    let first = gained-is f s s i v ok floored (none-later s s i v ok refl refl some within worth) in
+    let second = gained-is f o s i v ok′ floored′ (none-later o s i v ok (d .same-n) (d .same-m) some most worth) in
     let r = withFloors (roundOf s) f in
     let r′ = withFloors (roundOf o) f in
     let terms = same-terms f s o (d .same-n) (d .same-m) (d .same-tick) (d .same-effects) (d .same-bids) in
@@ -94,7 +92,7 @@ honesty f s o i v ok ok′ floored d passed low worth =
     = honest-pays r r′ i v (passed-round s f ok floored) (passed-round o f ok′ floored′) (rounds-except f i s o ok ok′ d)
     (terms .bids i)
     (terms .effects)
-    (downward-floors (roundOf o) f i ∙ tested .1 .1) (tested .0)
+    (downward-floors (roundOf o) f i ∙ list) some
     (let n = round-bidders s in let e = floors-bidders (roundOf s) f in omega arith)
     (subst (λ (a : ℕ). a ≤ v) (sym (floors-bid (roundOf s) f i ∙ round-bid s ok i within)) low) in
     let same : (q : Round) → gainOf q r i v ≡ gainOf q (roundOf s) i v = (λ q. truth-floors q (roundOf s) f i v) in (

@@ -17,6 +17,7 @@ use Rattle.best_page.specs.BestPage.{bestPage}
 use Rattle.best_search.specs.Call.{bestRefusal, bestFloorsRefusal, bestBuffer}
 use Rattle.owner_part.specs.OwnerPart.{partRefusal, bytesBefore, partLength}
 use Rattle.canonical.specs.Canonical.{canonicalSheet, canonicalRefusal, canonicalBuffer}
+use Rattle.slot_terms.specs.SlotTerms.{slotTerms, slotTermsRefusal, conditionsBuffer}
 
 -- 1 yes, 0 no
 unfoldable pub yesNumber : Bool → ℕ
@@ -60,3 +61,9 @@ pub record CanonicalGiven (s out : List ℕ) (before returned : ℕ) (out′ : L
   pub number : returned ≡ canonicalRefusal s out
   pub buffer : out′ ≡ unlessRefused (canonicalRefusal s out) (canonicalBuffer s out) out
   pub written : after ≡ unlessRefused (canonicalRefusal s out) (length (canonicalSheet s)) before
+
+-- an owner's conditions by its limit and the bars in the buffer, and how many
+pub record SlotTermsGiven (n m owner limit : ℕ) (bars out : List ℕ) (before returned : ℕ) (out′ : List ℕ) (after : ℕ) : Type 0 where
+  pub number : returned ≡ slotTermsRefusal n m owner limit bars out
+  pub buffer : out′ ≡ unlessRefused (slotTermsRefusal n m owner limit bars out) (conditionsBuffer (slotTerms n m owner limit bars) out) out
+  pub written : after ≡ unlessRefused (slotTermsRefusal n m owner limit bars out) (length (slotTerms n m owner limit bars)) before

@@ -1,11 +1,11 @@
-// The ten calls by the C convention, for programs that link the static library (include/pas.h is their manual).
+// The eleven calls by the C convention, for programs that link the static library (include/pas.h is their manual).
 //
 // Each returns 0 or the number of the first rule that the call breaks. On a refusal nothing lent changes, the answer's own memory
 // included.
 ghost use mathlib.Core.Path.{_≡_};
 ghost use Rattle.sheet.specs.Refusal.{refusalOf};
 ghost use Rattle.play.specs.Play.{Played, PlayedFloors};
-ghost use Rattle.pas.specs.Calls.{DownwardGiven, GainGiven, GainFloorsGiven, BestPageGiven, BestFloorsPageGiven, PartGiven, CanonicalGiven, yesNumber};
+ghost use Rattle.pas.specs.Calls.{DownwardGiven, GainGiven, GainFloorsGiven, BestPageGiven, BestFloorsPageGiven, PartGiven, CanonicalGiven, SlotTermsGiven, yesNumber};
 
 // 1 to 13 or 26 to 28, or 0 for an accepted sheet.
 #[no_mangle]
@@ -165,5 +165,28 @@ pub extern "C" fn pas_canonical(sheet: &[u8], result: &mut [u8], written: &mut u
         return refusal;
     }
     *written = given.length;
+    0
+}
+
+// 4, 5, 16, 20 to 22 or 19; or 0, with the owner's constraints by its limit and the bars at the front of the buffer, four bytes each in rising order, every
+// later byte as it was, and how many they are. No sheet is read.
+#[no_mangle]
+pub extern "C" fn pas_slot_terms(
+    n: u32,
+    m: u32,
+    owner: u32,
+    limit: u32,
+    bars: &[u8],
+    result: &mut [u8],
+    count: &mut u32,
+) -> u32
+    ensures { λ r. ⌜ SlotTermsGiven n m owner limit (now (bars .entry)) (now (result .entry)) (now (count .entry)) r (now (result .exit)) (now (count .exit)) ⌝ }
+{
+    let given = slot_terms::write(n, m, owner, limit, bars, result);
+    let refusal = given.refusal;
+    if refusal != 0 {
+        return refusal;
+    }
+    *count = given.count;
     0
 }

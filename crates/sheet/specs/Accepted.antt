@@ -23,6 +23,7 @@ use Rattle.sheet.specs.Sheet.{
   otherSlotField,
 }
 use Rattle.sheet.specs.Refusal.{marked, effectBefore}
+use Rattle.sheet.specs.Encoded.{Condition}
 
 -- 1 to 3, and 1 again: the header's length, the mark and the version
 pub record Form (s : List ℕ) : Type 0 where
@@ -70,6 +71,9 @@ pub record ConstraintAccepted (n m owner own other others : ℕ) : Type 0 where
 -- (proofs/OrderLaws.antt)
 abbrev pub fieldsNumber : (owner own other others : ℕ) → ℕ
 fieldsNumber owner own other others = 16777216 * owner + 65536 * own + 256 * other + others
+
+unfoldable pub numberOf : Condition → ℕ
+numberOf q = fieldsNumber (q .owner) (q .own) (q .other) (q .others)
 
 unfoldable pub orderNumber : List ℕ → ℕ → ℕ
 orderNumber s k = fieldsNumber (ownerField s k) (ownSlotField s k) (otherField s k) (otherSlotField s k)

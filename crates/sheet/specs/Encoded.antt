@@ -1,8 +1,9 @@
 -- The encoder of a sheet: the bytes of bids, effects and conditions. What S-6 writes is said by it, in version 2, and so are the worked rounds.
-use Prim.Native.Nat.{ℕ, _%_, _/_}
+use Prim.Native.Nat.{ℕ, _+_, _*_, _%_, _/_}
 use mathlib.Core.List.{List, [], _∷_, _++_}
 use lib.ListN.{length}
-use Rattle.basis.specs.Bytes.{bytes32}
+use Rattle.basis.specs.Bytes.{byteAt, bytes32}
+use Rattle.sheet.specs.Sheet.{ownerField, ownSlotField, otherField, otherSlotField}
 
 -- numbers of 4 bytes, one after another
 unfoldable pub words : List ℕ → List ℕ
@@ -42,3 +43,10 @@ unfoldable pub sheetInTicks : (tick : ℕ) (bids effects : List ℕ) → List Co
 unfolding countBytes bodyBytes bytes32
 sheetInTicks tick bids effects qs =
     0x50 ∷ 0x41 ∷ 0x53 ∷ 2 ∷ 0 ∷ (countBytes bids effects qs ++ (bytes32 tick ++ bodyBytes bids effects qs))
+
+-- the condition at index k of a sheet, and of bytes that are conditions alone, four bytes each
+unfoldable pub conditionField : List ℕ → ℕ → Condition
+conditionField s k = on (ownerField s k) (ownSlotField s k) (otherField s k) (otherSlotField s k)
+
+unfoldable pub conditionIn : List ℕ → ℕ → Condition
+conditionIn bytes k = on (byteAt bytes (4 * k)) (byteAt bytes (4 * k + 1)) (byteAt bytes (4 * k + 2)) (byteAt bytes (4 * k + 3))

@@ -25,9 +25,17 @@ use Rattle.sheet.specs.Sheet.{
   otherField,
   otherSlotField,
 }
-use Rattle.sheet.specs.Encoded.{Condition, on, words, quads, countBytes, bodyBytes, sheetInTicks}
+use Rattle.sheet.specs.Encoded.{Condition, on, words, quads, countBytes, bodyBytes, sheetInTicks, conditionField, conditionIn}
+use Rattle.sheet.specs.Refusal.{Accepted}
+use Rattle.sheet.specs.Round.{bidder, kindOf, constraintField, writtenOwn, writtenOther, writtenOthers}
+use Rattle.sheet.specs.declared.Constraint.{Constraint}
+use Rattle.sheet.proofs.AcceptedLaws.{accepted-sheet}
+use Rattle.sheet.proofs.RoundLaws.{written-fields}
 use Rattle.sheet.proofs.HeaderLaws.{start-two, tick-two}
-use Rattle.canonical.specs.EngineParts.{conditionField, blankCondition}
+
+-- for an index past the end of a list of conditions
+abbrev pub blankCondition : Condition
+blankCondition = on 0 0 0 0
 
 -- the first of lists one after another, and the others
 joined-front : (f : ℕ → List ℕ) (k : ℕ) → joined f (suc k) ≡ f 0 ++ joined (λ i. f (suc i)) k
@@ -80,7 +88,7 @@ length-quad : (q : Condition) → length (quadBytes q) ≡ 4
 unfolding quadBytes
 length-quad q = refl
 
-length-quads : (qs : List Condition) → length (quads qs) ≡ 4 * length qs
+pub length-quads : (qs : List Condition) → length (quads qs) ≡ 4 * length qs
 length-quads qs = ap length (quads-joined blankCondition qs) ∙ length-joined (λ i. quadBytes (getD qs i blankCondition)) 4 (λ i. length-quad (getD qs i blankCondition)) (length qs)
 
 -- a byte of lists of four, one after another behind a front of a known length
@@ -192,3 +200,41 @@ module _ (tick : ℕ) (bids effects : List ℕ) (qs : List Condition) where
       (ap (byteAt encoded) (sym (add-zero start)) ∙ condition-byte k 0 l (omega arith))
       (condition-byte k 1 l (omega arith))
       ∙ ap₂ (λ (c d : ℕ). on (q .owner) (q .own) c d) (condition-byte k 2 l (omega arith)) (condition-byte k 3 l (omega arith))
+
+-- what is read of conditions alone, with anything after them
+in-byte : (qs : List Condition) (rest : List ℕ) (k j : ℕ) → k < length qs → j < 4 →
+    byteAt (quads qs ++ rest) (4 * k + j) ≡ byteAt (quadBytes (getD qs k blankCondition)) j
+in-byte qs rest k j l b =
+    ap (λ (w : List ℕ). byteAt (w ++ rest) (4 * k + j)) (quads-joined blankCondition qs)
+    ∙ joined-byte (λ i. quadBytes (getD qs i blankCondition)) 4 (λ i. length-quad (getD qs i blankCondition)) (length qs) k j rest l b
+
+pub read-in : (qs : List Condition) (rest : List ℕ) (k : ℕ) → k < length qs → conditionIn (quads qs ++ rest) k ≡ getD qs k blankCondition
+unfolding conditionIn quadBytes
+read-in qs rest k l =
+    let q = getD qs k blankCondition in
+    let out = quads qs ++ rest in
+    ap₂ (λ (a b : ℕ). on a b (byteAt out (4 * k + 2)) (byteAt out (4 * k + 3)))
+    (ap (byteAt out) (sym (add-zero (4 * k))) ∙ in-byte qs rest k 0 l (omega arith))
+    (in-byte qs rest k 1 l (omega arith))
+    ∙ ap₂ (λ (c d : ℕ). on (q .owner) (q .own) c d) (in-byte qs rest k 2 l (omega arith)) (in-byte qs rest k 3 l (omega arith))
+
+-- a condition in the types of the source,
+unfoldable pub asConstraint : Condition → Constraint
+asConstraint q = record { owner = bidder (q .owner); kind = kindOf (q .own) (q .other) (q .others) }
+
+pub field-constraint : (s : List ℕ) (k : ℕ) → constraintField s k ≡ asConstraint (conditionField s k)
+unfolding constraintField conditionField asConstraint
+field-constraint s k = refl
+
+-- from which, of an accepted sheet, its fields are read back
+abbrev pub readBack : Constraint → Condition
+readBack q = on (q .owner .0) (writtenOwn (q .kind)) (writtenOther (q .kind)) (writtenOthers (q .kind))
+
+pub field-written : (s : List ℕ) → Accepted s → (k : ℕ) → k < constraintCount s → conditionField s k ≡ readBack (constraintField s k)
+unfolding constraintField conditionField
+field-written s ok k l =
+    let fields =
+    written-fields (bidderCount s) (slotCount s) (ownerField s k) (ownSlotField s k) (otherField s k) (otherSlotField s k)
+    (accepted-sheet s ok .constraints k l) in
+    ap (λ (own : ℕ). on (ownerField s k) own (otherField s k) (otherSlotField s k)) (sym (fields .0))
+    ∙ ap₂ (λ (other others : ℕ). on (ownerField s k) (writtenOwn (constraintField s k .kind)) other others) (sym (fields .1 .0)) (sym (fields .1 .1))

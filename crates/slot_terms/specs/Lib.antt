@@ -1,0 +1,2 @@
+pub mod SlotTerms
+pub mod EngineTerms
