@@ -216,22 +216,22 @@ module _ (s : List ℕ) (i m : ℕ) (bytes : List ℕ) (count : ℕ) (ok : Accep
             ∙ (λ j. record { owner = bidder (q .owner); kind = sym (lower-of (q .own) (q .other) (q .others) some) j }),
       )
 
+  below-it : (k : ℕ) → k < constraintCount s → (q : Constraint) → constraintField s k ≡ q → q .owner .0 ≡ i → 0 < ownSlot (q .kind) → ownSlot (q .kind) < m →
+      Has (roundOf s) (record { owner = q .owner; kind = oneLower (q .kind) })
+  unfolding constraintField
+  below-it k l q e mine some less =
+      let own : ownSlot (q .kind) ≡ ownSlotField s k
+      = sym (ap (λ (x : Constraint). ownSlot (x .kind)) e) ∙ own-of (ownSlotField s k) (otherField s k) (otherSlotField s k) in
+      sheet-round s ok (record { owner = q .owner; kind = oneLower (q .kind) })
+      (subst (λ (x : Constraint). SheetHas s (record { owner = x .owner; kind = oneLower (x .kind) })) e
+      (one-below k l (ap (λ (x : Constraint). x .owner .0) e ∙ mine) (omega arith) (omega arith)))
+
   pub downward-sent : downward (roundOf s) i ≡ true
   downward-sent =
       downward-where (roundOf s) i
       (λ q h mine some less.
       let w = round-sheet s ok q h in
-      at (w .0) (w .1) q (w .2) mine some (let e = round-slots s in omega arith))
-    where
-      at : (k : ℕ) → k < constraintCount s → (q : Constraint) → constraintField s k ≡ q → q .owner .0 ≡ i → 0 < ownSlot (q .kind) → ownSlot (q .kind) < m →
-          Has (roundOf s) (record { owner = q .owner; kind = oneLower (q .kind) })
-      unfolding constraintField
-      at k l q e mine some less =
-          let own : ownSlot (q .kind) ≡ ownSlotField s k
-          = sym (ap (λ (x : Constraint). ownSlot (x .kind)) e) ∙ own-of (ownSlotField s k) (otherField s k) (otherSlotField s k) in
-          sheet-round s ok (record { owner = q .owner; kind = oneLower (q .kind) })
-          (subst (λ (x : Constraint). SheetHas s (record { owner = x .owner; kind = oneLower (x .kind) })) e
-          (one-below k l (ap (λ (x : Constraint). x .owner .0) e ∙ mine) (omega arith) (omega arith)))
+      below-it (w .0) (w .1) q (w .2) mine some (let e = round-slots s in omega arith))
 
 -- What the call has written.
 module _ (n m owner limit : ℕ) (bars out out′ : List ℕ) (before count : ℕ) (given : SlotTermsGiven n m owner limit bars out before 0 out′ count) where
@@ -269,6 +269,7 @@ module _ (n m owner limit : ℕ) (bars out out′ : List ℕ) (before count : �
     where
       fits : OwnerFits n m owner
       fits = passes .0 .owner-fits
+
       by-kind : ((limit < q .own) × (q .own ≤ m) × (q .other ≡ 0) × (q .others ≡ 0))
           ⊎ ((q .own ≡ 0) × (0 < q .other) × (q .other ≤ n) × (0 < q .others) × (q .others ≤ barFor bars (q .other))) →
           (q .own < 256) × (q .other < 256) × (q .others < 256)
