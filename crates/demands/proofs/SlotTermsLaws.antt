@@ -169,9 +169,9 @@ module _ (n m owner limit : ℕ) (bars out : List ℕ) where
         owner-fits = fits;
         some-limit = limits .0;
         most-limit = limits .1;
-        as-many = eqb-true (length bars) n (not-false (lists .0));
+        as-many = eqb-true (length bars) n (not-false (eqb (length bars) n) (lists .0));
         none-above = low (lists .1);
-        none-against = eqb-true (barFor bars owner) 0 (not-false (third .0));
+        none-against = eqb-true (barFor bars owner) 0 (not-false (eqb (barFor bars owner) 0) (third .0));
       }
     where
       low : anyBelow (λ i. ltb m (barFor bars (suc i))) n ≡ false → (j : ℕ) → 0 < j → j ≤ n → barFor bars j ≤ m
