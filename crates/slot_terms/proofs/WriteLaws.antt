@@ -1,0 +1,112 @@
+-- How many conditions the limit and the bars give, what their bytes are, and what the call answers. Conditions are stored as numbers of four bytes, each
+-- list of them where the one before it ends. Assumes nothing.
+use Prim.Native.Nat.{ℕ, zero, suc, _+_, _-_, _*_, _<_, _≤_}
+use mathlib.Core.Bool.{not, _||_}
+use mathlib.Core.List.{List, [], _∷_, _++_}
+use mathlib.Core.Logic.{⊎-elim}
+use mathlib.Core.Path.{_≡_, refl, sym, _∙_, ap, ap₂}
+use borrow.Author.Tests.{lt-ltb, le-ltb, ltb-false, eqb-true, eqb-false}
+use native.Mathlib.Nat.{mod-eq-of-lt, eq-or-lt-of-le, le-of-suc-le-suc}
+use native.Mathlib.Omega.{arith}
+use lib.Dec.{eqb, ltb}
+use lib.ListN.{length, getD, length-append}
+use lib.Seq.{sets}
+use Rattle.basis.specs.Bytes.{bytes32}
+use Rattle.basis.specs.First.{orElse}
+use Rattle.basis.specs.Rows.{row, joined}
+use Rattle.basis.specs.Tests.{anyBelow}
+use Rattle.basis.proofs.BytesLaws.{length-bytes32, word-bytes}
+use Rattle.basis.proofs.FirstLaws.{when-none, orElse-left, orElse-right, refused-leaves, answered-gives}
+use Rattle.basis.proofs.RowLaws.{length-row, length-joined, joined-same, sets-then, sets-front}
+use Rattle.basis.proofs.TestLaws.{or-none, any-none}
+use Rattle.sheet.specs.Encoded.{Condition, on, quads}
+use Rattle.sheet.proofs.EncodedLaws.{quadBytes, quads-row, length-quads}
+use Rattle.slot_terms.specs.SlotTerms.{
+  barFor,
+  barred,
+  beyond,
+  slotTerms,
+  ownerRefusal,
+  profileRefusal,
+  slotTermsRefusal,
+  conditionsBuffer,
+  SlotTermsWritten,
+}
+use Rattle.slot_terms.specs.EngineTerms.{wordOf, barsTo}
+
+-- a bar of more bidders adds nothing below
+pub bars-within : (bars : List ℕ) (i n : ℕ) → i ≤ n → barsTo bars i ≤ barsTo bars n
+unfolding barsTo
+bars-within bars zero zero l = omega arith
+bars-within bars (suc i) zero l = absurd (omega arith)
+bars-within bars i (suc n) l =
+    ⊎-elim
+    (λ (e : i ≡ suc n). let same = ap (barsTo bars) e in omega arith)
+    (λ (lt : i < suc n). let less = bars-within bars i n (omega arith) in omega arith)
+    (eq-or-lt-of-le l)
+
+-- the bars that are written: one a bidder
+pub bars-next : (bars : List ℕ) (i : ℕ) → barsTo bars (suc i) ≡ barsTo bars i + getD bars i 0
+unfolding barsTo barFor
+bars-next bars i = refl
+
+-- How many conditions there are
+length-all-barred : (owner : ℕ) (bars : List ℕ) (n : ℕ) → length (joined (λ i. barred owner (suc i) (barFor bars (suc i))) n) ≡ barsTo bars n
+unfolding joined barred barsTo
+length-all-barred owner bars zero = refl
+length-all-barred owner bars (suc n) =
+    length-append (joined (λ i. barred owner (suc i) (barFor bars (suc i))) n) (barred owner (suc n) (barFor bars (suc n)))
+    ∙ ap₂ _+_ (length-all-barred owner bars n) (length-row (λ k. on owner 0 (suc n) (suc k)) (barFor bars (suc n)))
+
+length-beyond : (m owner limit : ℕ) → length (beyond m owner limit) ≡ m - limit
+unfolding beyond
+length-beyond m owner limit = length-row (λ k. on owner (limit + suc k) 0 0) (m - limit)
+
+pub terms-count : (n m owner limit : ℕ) (bars : List ℕ) → length (slotTerms n m owner limit bars) ≡ barsTo bars n + (m - limit)
+unfolding slotTerms
+terms-count n m owner limit bars =
+    length-append (joined (λ i. barred owner (suc i) (barFor bars (suc i))) n) (beyond m owner limit)
+    ∙ ap₂ _+_ (length-all-barred owner bars n) (length-beyond m owner limit)
+
+-- a condition's number has its four bytes
+word-quad : (a b c d : ℕ) → a < 256 → b < 256 → c < 256 → d < 256 → bytes32 (wordOf a b c d) ≡ quadBytes (on a b c d)
+unfolding bytes32 quadBytes
+word-quad a b c d ha hb hc hd =
+    let parts = word-bytes a b c d ha hb hc hd in
+    rw (parts .0, parts .1 .0, parts .1 .1 .0, parts .1 .1 .1, mod-eq-of-lt hd)
+
+-- so conditions of a row are numbers, one after another
+words-quads : (word : ℕ → ℕ) (a b c d : ℕ → ℕ) (n : ℕ) →
+    ((k : ℕ) → k < n → (a k < 256) × (b k < 256) × (c k < 256) × (d k < 256) × (word k ≡ wordOf (a k) (b k) (c k) (d k))) →
+    joined (λ k. bytes32 (word k)) n ≡ quads (row (λ k. on (a k) (b k) (c k) (d k)) n)
+words-quads word a b c d n low =
+    joined-same (λ k. bytes32 (word k)) (λ k. quadBytes (on (a k) (b k) (c k) (d k))) n
+    (λ k l. let here = low k l in ap bytes32 (here .4) ∙ word-quad (a k) (b k) (c k) (d k) (here .0) (here .1) (here .2) (here .3))
+    ∙ sym (quads-row (λ k. on (a k) (b k) (c k) (d k)) n)
+
+pub barred-words : (owner other bar : ℕ) → owner ≤ 64 → other ≤ 64 → bar ≤ 16 →
+    joined (λ k. bytes32 (owner + 65536 * other + 16777216 * (k + 1))) bar ≡ quads (barred owner other bar)
+unfolding barred
+barred-words owner other bar ho hj hb =
+    words-quads (λ k. owner + 65536 * other + 16777216 * (k + 1)) (λ k. owner) (λ k. 0) (λ k. other) (λ k. suc k) bar
+    (λ k l. (omega arith, omega arith, omega arith, omega arith, omega arith))
+
+pub beyond-words : (m owner limit : ℕ) → m ≤ 16 → owner ≤ 64 →
+    joined (λ k. bytes32 (owner + 256 * (limit + k + 1))) (m - limit) ≡ quads (beyond m owner limit)
+unfolding beyond
+beyond-words m owner limit hm ho =
+    words-quads (λ k. owner + 256 * (limit + k + 1)) (λ k. owner) (λ k. limit + suc k) (λ k. 0) (λ k. 0) (m - limit)
+    (λ k l. (omega arith, omega arith, omega arith, omega arith, omega arith))
+
+-- One list more is stored where those before it end,
+pub stored-next : (f : ℕ → List ℕ) (out : List ℕ) (at end k : ℕ) → end ≡ at + length (joined f k) →
+    sets (sets out at (joined f k)) end (f k) ≡ sets out at (joined f (suc k))
+unfolding joined
+stored-next f out at end k e = ap (λ (n : ℕ). sets (sets out at (joined f k)) n (f k)) e ∙ sets-then (joined f k) (f k) out at
+
+-- and one number more
+pub word-next : (word : ℕ → ℕ) (out : List ℕ) (at k : ℕ) →
+    sets (sets out at (joined (λ i. bytes32 (word i)) k)) (at + 4 * k) (bytes32 (word k)) ≡ sets out at (joined (λ i. bytes32 (word i)) (suc k))
+word-next word out at k =
+    stored-next (λ i. bytes32 (word i)) out at (at + 4 * k) k
+    (let size = length-joined (λ i. bytes32 (word i)) 4 (λ i. length-bytes32 (word i)) k in omega arith)
