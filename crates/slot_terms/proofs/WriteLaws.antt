@@ -6,7 +6,8 @@ use mathlib.Core.List.{List, [], _∷_, _++_}
 use mathlib.Core.Logic.{⊎-elim}
 use mathlib.Core.Path.{_≡_, refl, sym, _∙_, ap, ap₂}
 use borrow.Author.Tests.{lt-ltb, le-ltb, ltb-false, eqb-true, eqb-false}
-use native.Mathlib.Nat.{mod-eq-of-lt, eq-or-lt-of-le, le-of-suc-le-suc}
+use native.Mathlib.Nat.{le-antisymm, mod-eq-of-lt, eq-or-lt-of-le, le-of-suc-le-suc}
+use native.Mathlib.Numerals.{add-one}
 use native.Mathlib.Omega.{arith}
 use lib.Dec.{eqb, ltb}
 use lib.ListN.{length, getD, length-append}
@@ -104,9 +105,43 @@ pub stored-next : (f : ℕ → List ℕ) (out : List ℕ) (at end k : ℕ) → e
 unfolding joined
 stored-next f out at end k e = ap (λ (n : ℕ). sets (sets out at (joined f k)) n (f k)) e ∙ sets-then (joined f k) (f k) out at
 
--- and one number more
-pub word-next : (word : ℕ → ℕ) (out : List ℕ) (at k : ℕ) →
-    sets (sets out at (joined (λ i. bytes32 (word i)) k)) (at + 4 * k) (bytes32 (word k)) ≡ sets out at (joined (λ i. bytes32 (word i)) (suc k))
-word-next word out at k =
-    stored-next (λ i. bytes32 (word i)) out at (at + 4 * k) k
-    (let size = length-joined (λ i. bytes32 (word i)) 4 (λ i. length-bytes32 (word i)) k in omega arith)
+-- and so one number more: after k turns the first k of them stand at the offset.
+pub record WordsPut (word : ℕ → ℕ) (count : ℕ) (out : List ℕ) (at : ℕ) (result : List ℕ) (k : ℕ) : Type 0 where
+  pub some : k ≤ count
+  pub size : length result ≡ length out
+  pub run : result ≡ sets out at (joined (λ i. bytes32 (word i)) k)
+
+module _ (word : ℕ → ℕ) (count : ℕ) (out : List ℕ) (at : ℕ) where
+  pub words-none : WordsPut word count out at out 0
+  unfolding joined
+  words-none = record { some = omega arith; size = refl; run = refl }
+
+  pub words-next : (result stored : List ℕ) (k : ℕ) → WordsPut word count out at result k → k < count → length stored ≡ length result →
+      stored ≡ sets result (at + 4 * k) (bytes32 (word k)) → WordsPut word count out at stored (k + 1)
+  words-next result stored k put less same e =
+      record {
+        some = omega arith;
+        size = same ∙ put .size;
+        run =
+            e
+            ∙ ap (λ (l : List ℕ). sets l (at + 4 * k) (bytes32 (word k))) (put .run)
+            ∙ stored-next (λ i. bytes32 (word i)) out at (at + 4 * k) k
+            (let size = length-joined (λ i. bytes32 (word i)) 4 (λ i. length-bytes32 (word i)) k in omega arith)
+            ∙ ap (λ (n : ℕ). sets out at (joined (λ i. bytes32 (word i)) n)) (sym (add-one k));
+      }
+
+  pub words-whole : (result : List ℕ) (k : ℕ) → WordsPut word count out at result k → count ≤ k →
+      (qs : List Condition) → joined (λ i. bytes32 (word i)) count ≡ quads qs → result ≡ sets out at (quads qs)
+  words-whole result k put done qs e =
+      put .run ∙ ap (sets out at) (ap (joined (λ i. bytes32 (word i))) (le-antisymm (put .some) done) ∙ e)
+
+-- The bytes of conditions one after another are theirs, one after another.
+quads-append : (xs ys : List Condition) → quads (xs ++ ys) ≡ quads xs ++ quads ys
+unfolding quads
+quads-append [] ys = refl
+quads-append (x ∷ xs) ys = ap (λ (l : List ℕ). x .owner ∷ x .own ∷ x .other ∷ x .others ∷ l) (quads-append xs ys)
+
+quads-lists : (f : ℕ → List Condition) (n : ℕ) → joined (λ i. quads (f i)) n ≡ quads (joined f n)
+unfolding joined quads
+quads-lists f zero = refl
+quads-lists f (suc n) = ap (λ (l : List ℕ). l ++ quads (f n)) (quads-lists f n) ∙ sym (quads-append (joined f n) (f n))

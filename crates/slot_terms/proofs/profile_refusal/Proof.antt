@@ -30,23 +30,34 @@ bar-at bars zero l = absurd (omega arith)
 returns : tie.Need-returns
 unfolding profileRefusal
 returns c =
-    let a = c .before .args in
+    let a = c .before .before .args in
     simp (eq-eqb (a .limit) 0 (omega arith))
 
 returns-2 : tie.Need-returns-2
 unfolding profileRefusal
 returns-2 c =
-    let a = c .before .before .args in
+    let a = c .before .before .before .args in
     simp (ne-eqb (a .limit) 0 (omega arith), lt-ltb (a .m) (a .limit) (omega arith))
 
 returns-3 : tie.Need-returns-3
-returns-3 c = ?
+unfolding profileRefusal
+returns-3 c =
+    let a = c .before .before .before .before .args in
+    simp (ne-eqb (a .limit) 0 (omega arith), le-ltb (a .m) (a .limit) (omega arith), ne-eqb (length (a .bars .now)) (a .n) (c .if3 .taken))
 
 some-above-requires : tie.Need-some-above-requires
 some-above-requires c κs = search needs
 
 returns-4 : tie.Need-returns-4
-returns-4 c = ?
+unfolding profileRefusal
+returns-4 c =
+    let a = c .before .before .before .before .before .before .args in
+    let all = c .before .before .if3 .left in
+    simp
+    (ne-eqb (a .limit) 0 (omega arith),
+    le-ltb (a .m) (a .limit) (omega arith),
+    eq-eqb (length (a .bars .now)) (a .n) all,
+    above-tested (a .m) (a .bars .now) all (sym (c .if4 .taken) ∙ c .before .some-above .ensures))
 
 sub-if5 : tie.Need-sub-if5
 sub-if5 c = search needs
@@ -55,10 +66,30 @@ shared-slice-read-if5 : tie.Need-shared-slice-read-if5
 shared-slice-read-if5 c = search needs
 
 returns-5 : tie.Need-returns-5
-returns-5 c = ?
+unfolding profileRefusal
+returns-5 c =
+    let a = c .before .before .before .before .before .before .before .before .args in
+    let some = c .before .before .before .before .before .before .before .before .pre .0 in
+    let all = c .before .before .before .before .if3 .left in
+    simp
+    (ne-eqb (a .limit) 0 (omega arith),
+    le-ltb (a .m) (a .limit) (omega arith),
+    eq-eqb (length (a .bars .now)) (a .n) all,
+    above-tested (a .m) (a .bars .now) all (sym (c .before .before .if4 .left) ∙ c .before .before .before .some-above .ensures),
+    ne-eqb (barFor (a .bars .now) (a .owner)) 0 (λ z. c .if5 .taken (sym (bar-at (a .bars .now) (a .owner) some) ∙ z)))
 
 returns-6 : tie.Need-returns-6
-returns-6 c = ?
+unfolding profileRefusal
+returns-6 c =
+    let a = c .before .before .before .before .before .before .before .before .args in
+    let some = c .before .before .before .before .before .before .before .before .pre .0 in
+    let all = c .before .before .before .before .if3 .left in
+    simp
+    (ne-eqb (a .limit) 0 (omega arith),
+    le-ltb (a .m) (a .limit) (omega arith),
+    eq-eqb (length (a .bars .now)) (a .n) all,
+    above-tested (a .m) (a .bars .now) all (sym (c .before .before .if4 .left) ∙ c .before .before .before .some-above .ensures),
+    eq-eqb (barFor (a .bars .now) (a .owner)) 0 (bar-at (a .bars .now) (a .owner) some ∙ c .if5 .left))
 
 pub profile-refusal-spec : {M : Type 1} → statement M
 profile-refusal-spec =

@@ -11,7 +11,7 @@ use lib.Seq.{sets}
 use Rattle.basis.specs.Bytes.{bytes32}
 use Rattle.basis.specs.Rows.{joined}
 use Rattle.sheet.specs.declared.Slot.{Slot}
-use Rattle.slot_terms.proofs.WriteLaws.{barred-words, word-next}
+use Rattle.slot_terms.proofs.WriteLaws.{WordsPut, words-none, words-next, words-whole, barred-words}
 use Rattle.slot_terms.proofs.put_barred.Statement.{statement}
 use Rattle.slot_terms.proofs.put_barred.Tie as tie
 use Rattle.slot_terms.proofs.put_barred.Reads as reads
@@ -22,13 +22,8 @@ use Rattle.basis.proofs.put_word32.Reads as put-word32-reads
 abbrev word : ℕ → ℕ → ℕ
 word pair k = pair + 16777216 * (k + 1)
 
-record Put (result₀ : List ℕ) (at bar pair : ℕ) (result : List ℕ) (k : ℕ) : Type 0 where
-  some : k ≤ bar
-  size : length result ≡ length result₀
-  run : result ≡ sets result₀ at (joined (λ i. bytes32 (word pair i)) k)
-
 abbrev Inv-loop : tie.InvT-loop
-Inv-loop result₀ at bar pair k₀ result k = Put result₀ at (bar .0) pair result k
+Inv-loop result₀ at bar pair k₀ result k = WordsPut (word pair) (bar .0) result₀ at result k
 
 abbrev μ-loop : tie.MeasureT-loop
 μ-loop result₀ at bar pair k₀ result k = bar .0 - k
@@ -46,8 +41,7 @@ add-pair : tie.Need-add-pair Inv-loop μ-loop
 add-pair c = omega arith
 
 loop-holds : tie.Need-loop-holds Inv-loop μ-loop
-unfolding joined
-loop-holds c = record { some = omega arith; size = refl; run = refl }
+loop-holds c = words-none _ _ _ _
 
 cast-if1 : tie.Need-cast-if1 Inv-loop μ-loop
 cast-if1 c = omega arith
@@ -71,7 +65,7 @@ add-put-word32-3 : tie.Need-add-put-word32-3 Inv-loop μ-loop
 add-put-word32-3 c = omega arith
 
 put-word32-requires : tie.Need-put-word32-requires Inv-loop μ-loop
-put-word32-requires c κs = ?
+put-word32-requires c κs = let size = c .before .before .before .loop .inv .size in omega arith
 
 add-k : tie.Need-add-k Inv-loop μ-loop
 add-k c = omega arith
@@ -80,13 +74,21 @@ loop-less : tie.Need-loop-less Inv-loop μ-loop
 loop-less c = omega arith
 
 loop-again : tie.Need-loop-again Inv-loop μ-loop
-loop-again c = ?
+loop-again c =
+    let done = c .before .before in
+    let turn = done .before .before .before .before .loop in
+    words-next _ _ _ _ (turn .result) _ (turn .k) (turn .inv) (done .before .before .if1 .taken) (done .put-word32 .kept .0) (done .put-word32 .ensures)
 
 same-length : tie.Need-same-length Inv-loop μ-loop
-same-length c = c .before .loop .inv .size
+same-length c = c .before .before .loop .inv .size
 
 returns : tie.Need-returns Inv-loop μ-loop
-returns c = ?
+returns c =
+    let turn = c .before .before .loop in
+    let first = c .before .before .before .before .before .before in
+    let a = first .args in
+    let p = first .pre in
+    words-whole _ _ _ _ (turn .result) (turn .k) (turn .inv) (c .if1 .left) _ (barred-words (a .owner .0) (a .other .0) (a .bar .0) (p .1) (p .2) (p .3))
 
 pub put-barred-spec : {M : Type 1} → statement M
 put-barred-spec =
