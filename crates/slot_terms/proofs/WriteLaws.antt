@@ -51,12 +51,16 @@ pub bars-next : (bars : List ℕ) (i : ℕ) → barsTo bars (suc i) ≡ barsTo b
 unfolding barsTo barFor
 bars-next bars i = refl
 
+-- the conditions of the bars for bidders 1 to n
+abbrev pub allBarred : ℕ → List ℕ → ℕ → List Condition
+allBarred owner bars n = joined (λ i. barred owner (suc i) (barFor bars (suc i))) n
+
 -- How many conditions there are
-length-all-barred : (owner : ℕ) (bars : List ℕ) (n : ℕ) → length (joined (λ i. barred owner (suc i) (barFor bars (suc i))) n) ≡ barsTo bars n
+length-all-barred : (owner : ℕ) (bars : List ℕ) (n : ℕ) → length (allBarred owner bars n) ≡ barsTo bars n
 unfolding joined barred barsTo
 length-all-barred owner bars zero = refl
 length-all-barred owner bars (suc n) =
-    length-append (joined (λ i. barred owner (suc i) (barFor bars (suc i))) n) (barred owner (suc n) (barFor bars (suc n)))
+    length-append (allBarred owner bars n) (barred owner (suc n) (barFor bars (suc n)))
     ∙ ap₂ _+_ (length-all-barred owner bars n) (length-row (λ k. on owner 0 (suc n) (suc k)) (barFor bars (suc n)))
 
 length-beyond : (m owner limit : ℕ) → length (beyond m owner limit) ≡ m - limit
@@ -66,7 +70,7 @@ length-beyond m owner limit = length-row (λ k. on owner (limit + suc k) 0 0) (m
 pub terms-count : (n m owner limit : ℕ) (bars : List ℕ) → length (slotTerms n m owner limit bars) ≡ barsTo bars n + (m - limit)
 unfolding slotTerms
 terms-count n m owner limit bars =
-    length-append (joined (λ i. barred owner (suc i) (barFor bars (suc i))) n) (beyond m owner limit)
+    length-append (allBarred owner bars n) (beyond m owner limit)
     ∙ ap₂ _+_ (length-all-barred owner bars n) (length-beyond m owner limit)
 
 -- a condition's number has its four bytes
@@ -135,13 +139,25 @@ module _ (word : ℕ → ℕ) (count : ℕ) (out : List ℕ) (at : ℕ) where
   words-whole result k put done qs e =
       put .run ∙ ap (sets out at) (ap (joined (λ i. bytes32 (word i))) (le-antisymm (put .some) done) ∙ e)
 
--- The bytes of conditions one after another are theirs, one after another.
+-- The bytes of conditions are stored where those before them end,
 quads-append : (xs ys : List Condition) → quads (xs ++ ys) ≡ quads xs ++ quads ys
 unfolding quads
 quads-append [] ys = refl
 quads-append (x ∷ xs) ys = ap (λ (l : List ℕ). x .owner ∷ x .own ∷ x .other ∷ x .others ∷ l) (quads-append xs ys)
 
-quads-lists : (f : ℕ → List Condition) (n : ℕ) → joined (λ i. quads (f i)) n ≡ quads (joined f n)
-unfolding joined quads
-quads-lists f zero = refl
-quads-lists f (suc n) = ap (λ (l : List ℕ). l ++ quads (f n)) (quads-lists f n) ∙ sym (quads-append (joined f n) (f n))
+quads-then : (xs ys : List Condition) (out : List ℕ) (end : ℕ) → end ≡ 4 * length xs →
+    sets (sets out 0 (quads xs)) end (quads ys) ≡ sets out 0 (quads (xs ++ ys))
+quads-then xs ys out end e =
+    let place : end ≡ 0 + length (quads xs) = (let size = length-quads xs in omega arith) in
+    ap (λ (n : ℕ). sets (sets out 0 (quads xs)) n (quads ys)) place
+    ∙ sets-then (quads xs) (quads ys) out 0
+    ∙ ap (sets out 0) (sym (quads-append xs ys))
+
+-- those of one bar more,
+pub barred-next : (owner : ℕ) (bars out : List ℕ) (at i : ℕ) → at ≡ 4 * barsTo bars i →
+    sets (sets out 0 (quads (allBarred owner bars i))) at (quads (barred owner (i + 1) (getD bars i 0))) ≡ sets out 0 (quads (allBarred owner bars (i + 1)))
+unfolding joined barFor
+barred-next owner bars out at i e =
+    ap (λ (j : ℕ). sets (sets out 0 (quads (allBarred owner bars i))) at (quads (barred owner j (getD bars i 0)))) (add-one i)
+    ∙ quads-then (allBarred owner bars i) (barred owner (suc i) (getD bars i 0)) out at (let size = length-all-barred owner bars i in omega arith)
+    ∙ ap (λ (n : ℕ). sets out 0 (quads (allBarred owner bars n))) (sym (add-one i))

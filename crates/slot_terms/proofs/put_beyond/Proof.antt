@@ -51,7 +51,7 @@ add-put-word32-4 : tie.Need-add-put-word32-4 Inv-loop μ-loop
 add-put-word32-4 c = omega arith
 
 put-word32-requires : tie.Need-put-word32-requires Inv-loop μ-loop
-put-word32-requires c κs = ?
+put-word32-requires c κs = let size = c .before .before .loop .inv .size in omega arith
 
 add-k : tie.Need-add-k Inv-loop μ-loop
 add-k c = omega arith
@@ -60,13 +60,21 @@ loop-less : tie.Need-loop-less Inv-loop μ-loop
 loop-less c = omega arith
 
 loop-again : tie.Need-loop-again Inv-loop μ-loop
-loop-again c = ?
+loop-again c =
+    let done = c .before .before in
+    let turn = done .before .before .before .loop in
+    words-next _ _ _ _ (turn .result) _ (turn .k) (turn .inv) (done .before .before .loop-test .taken) (done .put-word32 .kept .0) (done .put-word32 .ensures)
 
 same-length : tie.Need-same-length Inv-loop μ-loop
 same-length c = c .before .loop .inv .size
 
 returns : tie.Need-returns Inv-loop μ-loop
-returns c = ?
+returns c =
+    let turn = c .before .loop in
+    let first = c .before .before .before .before in
+    let a = first .args in
+    let p = first .pre in
+    words-whole _ _ _ _ (turn .result) (turn .k) (turn .inv) (c .loop-test .left) _ (beyond-words (a .slots) (a .owner .0) (a .limit) (p .2) (p .0))
 
 pub put-beyond-spec : {M : Type 1} → statement M
 put-beyond-spec =
