@@ -1,7 +1,7 @@
 -- How many conditions the limit and the bars give, what their bytes are, and what the call answers. Conditions are stored as numbers of four bytes, each
 -- list of them where the one before it ends. Assumes nothing.
 use Prim.Native.Nat.{ℕ, zero, suc, _+_, _-_, _*_, _<_, _≤_}
-use mathlib.Core.Bool.{not, _||_}
+use mathlib.Core.Bool.{Bool, true, false, not, _||_}
 use mathlib.Core.List.{List, [], _∷_, _++_}
 use mathlib.Core.Logic.{⊎-elim}
 use mathlib.Core.Path.{_≡_, refl, sym, _∙_, ap, ap₂}
@@ -10,10 +10,10 @@ use native.Mathlib.Nat.{le-antisymm, mod-eq-of-lt, eq-or-lt-of-le, le-of-suc-le-
 use native.Mathlib.Numerals.{add-one}
 use native.Mathlib.Omega.{arith}
 use lib.Dec.{eqb, ltb}
-use lib.ListN.{length, getD, length-append}
+use lib.ListN.{length, getD, drop, length-append}
 use lib.Seq.{sets}
 use Rattle.basis.specs.Bytes.{bytes32}
-use Rattle.basis.specs.First.{orElse}
+use Rattle.basis.specs.First.{_when_otherwise_, orElse}
 use Rattle.basis.specs.Rows.{row, joined}
 use Rattle.basis.specs.Tests.{anyBelow}
 use Rattle.basis.proofs.BytesLaws.{length-bytes32, word-bytes}
@@ -33,6 +33,7 @@ use Rattle.slot_terms.specs.SlotTerms.{
   conditionsBuffer,
   SlotTermsWritten,
 }
+use Rattle.slot_terms.specs.declared.Terms.{Terms}
 use Rattle.slot_terms.specs.EngineTerms.{wordOf, barsTo}
 
 -- a bar of more bidders adds nothing below
@@ -50,6 +51,12 @@ bars-within bars i (suc n) l =
 pub bars-next : (bars : List ℕ) (i : ℕ) → barsTo bars (suc i) ≡ barsTo bars i + getD bars i 0
 unfolding barsTo barFor
 bars-next bars i = refl
+
+-- bars of at most 16 each
+pub bars-most : (bars : List ℕ) (n : ℕ) → ((i : ℕ) → i < n → getD bars i 0 ≤ 16) → barsTo bars n ≤ 16 * n
+unfolding barsTo barFor
+bars-most bars zero low = omega arith
+bars-most bars (suc n) low = omega (arith, bars-most bars n (λ i l. low i (omega arith)), low n (omega arith))
 
 -- the conditions of the bars for bidders 1 to n
 abbrev pub allBarred : ℕ → List ℕ → ℕ → List Condition
@@ -161,3 +168,120 @@ barred-next owner bars out at i e =
     ap (λ (j : ℕ). sets (sets out 0 (quads (allBarred owner bars i))) at (quads (barred owner j (getD bars i 0)))) (add-one i)
     ∙ quads-then (allBarred owner bars i) (barred owner (suc i) (getD bars i 0)) out at (let size = length-all-barred owner bars i in omega arith)
     ∙ ap (λ (n : ℕ). sets out 0 (quads (allBarred owner bars n))) (sym (add-one i))
+
+-- What the call knows where it gives no number:
+pub record OwnerKnown (n m owner : ℕ) : Type 0 where
+  pub bidders : n ≤ 64
+  pub slots : m ≤ 16
+  pub some : 0 < owner
+  pub known : owner ≤ n
+
+pub owner-known : (n m owner : ℕ) → ownerRefusal n m owner ≡ 0 → OwnerKnown n m owner
+unfolding ownerRefusal
+owner-known n m owner none =
+    let first = when-none 3 (eqb n 0 || ltb 64 n) _ none in
+    let second = when-none 4 (eqb m 0 || ltb 16 m) _ (first .1) in
+    let third = when-none 15 (eqb owner 0 || ltb n owner) _ (second .1) in
+    let somebody = eqb-false owner 0 (or-none (eqb owner 0) (ltb n owner) (third .0) .0) in
+    record {
+      bidders = ltb-false 64 n (or-none (eqb n 0) (ltb 64 n) (first .0) .1);
+      slots = ltb-false 16 m (or-none (eqb m 0) (ltb 16 m) (second .0) .1);
+      some = omega arith;
+      known = ltb-false n owner (or-none (eqb owner 0) (ltb n owner) (third .0) .1);
+    }
+
+pub record ProfileKnown (n m limit : ℕ) (bars : List ℕ) : Type 0 where
+  pub limited : limit ≤ m
+  pub all : length bars ≡ n
+  pub low : (i : ℕ) → i < n → getD bars i 0 ≤ m
+
+pub profile-known : (n m owner limit : ℕ) (bars : List ℕ) → profileRefusal n m owner limit bars ≡ 0 → ProfileKnown n m limit bars
+unfolding profileRefusal barFor
+profile-known n m owner limit bars none =
+    let above : ℕ → Bool = λ i. ltb m (barFor bars (suc i)) in
+    let first = when-none 19 (eqb limit 0 || ltb m limit) _ none in
+    let second = when-none 20 (not (eqb (length bars) n) || anyBelow above n) _ (first .1) in
+    let tests = or-none (not (eqb (length bars) n)) (anyBelow above n) (second .0) in
+    record {
+      limited = ltb-false m limit (or-none (eqb limit 0) (ltb m limit) (first .0) .1);
+      all = eqb-true (length bars) n (not-none (eqb (length bars) n) (tests .0));
+      low = λ i l. ltb-false m (getD bars i 0) (any-none above n (tests .1) i l);
+    }
+  where
+    not-none : (t : Bool) → not t ≡ false → t ≡ true
+    not-none true e = refl
+    not-none false e = sym e
+
+-- The call's ways out: a number, and the conditions.
+module _ (n m owner limit : ℕ) (bars out : List ℕ) where
+  abbrev number : ℕ
+  number = slotTermsRefusal n m owner limit bars out
+
+  abbrev terms : List Condition
+  terms = slotTerms n m owner limit bars
+
+  left : (returned : Terms) (k : ℕ) → returned ≡ record { refusal = k; count = 0 } → k ≡ number → (k ≡ 0 → ⊥) →
+      SlotTermsWritten n m owner limit bars out returned out
+  left returned k e same h =
+      record {
+        number = ap (λ (t : Terms). t .refusal) e ∙ same;
+        count = ap (λ (t : Terms). t .count) e ∙ refused-leaves number k (length terms) 0 same h;
+        buffer = refused-leaves number k (conditionsBuffer terms out) out same h;
+      }
+
+  pub owner-refused : (returned : Terms) (k : ℕ) → returned ≡ record { refusal = k; count = 0 } → k ≡ ownerRefusal n m owner → (k ≡ 0 → ⊥) →
+      SlotTermsWritten n m owner limit bars out returned out
+  unfolding slotTermsRefusal
+  owner-refused returned k e same h = left returned k e (same ∙ sym (orElse-left (ownerRefusal n m owner) _ (λ z. h (same ∙ z)))) h
+
+  module _ (owned : ownerRefusal n m owner ≡ 0) where
+    pub profile-refused : (returned : Terms) (k : ℕ) → returned ≡ record { refusal = k; count = 0 } → k ≡ profileRefusal n m owner limit bars → (k ≡ 0 → ⊥) →
+        SlotTermsWritten n m owner limit bars out returned out
+    unfolding slotTermsRefusal
+    profile-refused returned k e same h =
+        left returned k e
+        (same
+        ∙ sym (orElse-right (ownerRefusal n m owner) _ owned ∙ orElse-left (profileRefusal n m owner limit bars) _ (λ z. h (same ∙ z))))
+        h
+
+    module _ (proper : profileRefusal n m owner limit bars ≡ 0) where
+      many : barsTo bars (length bars) + (m - limit) ≡ length terms
+      many =
+          ap (λ (k : ℕ). barsTo bars k + (m - limit)) (profile-known n m owner limit bars proper .all)
+          ∙ sym (terms-count n m owner limit bars)
+
+      last-test : number ≡ (19 when ltb (length out) (4 * length terms) otherwise 0)
+      unfolding slotTermsRefusal
+      last-test = orElse-right (ownerRefusal n m owner) _ owned ∙ orElse-right (profileRefusal n m owner limit bars) _ proper
+
+      pub buffer-short : (returned : Terms) → returned ≡ record { refusal = 19; count = 0 } → length out < 4 * (barsTo bars (length bars) + (m - limit)) →
+          SlotTermsWritten n m owner limit bars out returned out
+      buffer-short returned e less =
+          let size = many in
+          left returned 19 e
+          (sym (last-test ∙ simp (lt-ltb (length out) (4 * length terms) (omega arith))))
+          (λ z. absurd (omega arith))
+
+      pub terms-written : (front whole : List ℕ) (at count : ℕ) → count ≡ barsTo bars (length bars) + (m - limit) → 4 * count ≤ length out →
+          at ≡ 4 * barsTo bars (length bars) → front ≡ sets out 0 (quads (allBarred owner bars (length bars))) →
+          whole ≡ sets front at (quads (beyond m owner limit)) →
+          SlotTermsWritten n m owner limit bars out (record { refusal = 0; count = count }) whole
+      unfolding conditionsBuffer slotTerms
+      terms-written front whole at count e room place f w =
+          let size = many in
+          let all = profile-known n m owner limit bars proper .all in
+          let none : number ≡ 0 = last-test ∙ simp (le-ltb (length out) (4 * length terms) (omega arith)) in
+          let long = length-quads terms in
+          record {
+            number = sym none;
+            count = e ∙ size ∙ answered-gives number (length terms) 0 none;
+            buffer =
+                w
+                ∙ ap (λ (l : List ℕ). sets l at (quads (beyond m owner limit))) f
+                ∙ quads-then (allBarred owner bars (length bars)) (beyond m owner limit) out at
+                (let bars-many = length-all-barred owner bars (length bars) in omega arith)
+                ∙ ap (λ (k : ℕ). sets out 0 (quads (allBarred owner bars k ++ beyond m owner limit))) all
+                ∙ sets-front (quads terms) out (omega arith)
+                ∙ ap (λ (k : ℕ). quads terms ++ drop k out) long
+                ∙ answered-gives number (conditionsBuffer terms out) out none;
+          }

@@ -12,7 +12,7 @@ use Rattle.basis.specs.Rows.{joined}
 use Rattle.sheet.specs.Encoded.{quads}
 use Rattle.slot_terms.specs.SlotTerms.{barred}
 use Rattle.slot_terms.specs.EngineTerms.{barsTo}
-use Rattle.slot_terms.proofs.WriteLaws.{allBarred, bars-next, bars-within, barred-next}
+use Rattle.slot_terms.proofs.WriteLaws.{allBarred, bars-next, bars-within, bars-most, barred-next}
 use Rattle.slot_terms.proofs.put_all_barred.Statement.{statement}
 use Rattle.slot_terms.proofs.put_all_barred.Tie as tie
 use Rattle.slot_terms.proofs.put_all_barred.Reads as reads
@@ -49,19 +49,40 @@ shared-slice-read-at : tie.Need-shared-slice-read-at Inv-loop μ-loop
 shared-slice-read-at c = omega arith
 
 put-barred-requires : tie.Need-put-barred-requires Inv-loop μ-loop
-put-barred-requires c κs = ?
+put-barred-requires c κs =
+    let turn = c .before .before .before .loop in
+    let first = c .before .before .before .before .before .before in
+    let inside = c .before .before .loop-test .taken in
+    let more = next-within (first .args .bars .now) (turn .i) inside in
+    (omega arith, first .pre .1, omega arith, first .pre .2 (turn .i) inside)
 
 shared-slice-read-at-2 : tie.Need-shared-slice-read-at-2 Inv-loop μ-loop
 shared-slice-read-at-2 c = omega arith
 
 cast-at : tie.Need-cast-at Inv-loop μ-loop
-cast-at c = ?
+cast-at c =
+    let turn = c .before .before .before .before .before .before .before .loop in
+    let first = c .before .before .before .before .before .before .before .before .before .before in
+    let low = first .pre .2 (turn .i) (c .before .before .before .before .before .before .loop-test .taken) in
+    omega arith
 
 mul-at : tie.Need-mul-at Inv-loop μ-loop
-mul-at c = ?
+mul-at c =
+    let turn = c .before .before .before .before .before .before .before .loop in
+    let first = c .before .before .before .before .before .before .before .before .before .before in
+    let low = first .pre .2 (turn .i) (c .before .before .before .before .before .before .loop-test .taken) in
+    omega arith
 
 add-at : tie.Need-add-at Inv-loop μ-loop
-add-at c = ?
+add-at c =
+    let turn = c .before .before .before .before .before .before .before .loop in
+    let first = c .before .before .before .before .before .before .before .before .before .before in
+    let bars = first .args .bars .now in
+    let end = turn .inv .end in
+    let more = next-within bars (turn .i) (c .before .before .before .before .before .before .loop-test .taken) in
+    let most = bars-most bars (length bars) (first .pre .2) in
+    let few = first .pre .0 in
+    omega arith
 
 add-i : tie.Need-add-i Inv-loop μ-loop
 add-i c = omega arith
@@ -70,13 +91,34 @@ loop-less : tie.Need-loop-less Inv-loop μ-loop
 loop-less c = omega arith
 
 loop-again : tie.Need-loop-again Inv-loop μ-loop
-loop-again c = ?
+loop-again c =
+    let done = c .before .before .before in
+    let turn = done .before .before .before .before .loop in
+    let a = done .before .before .before .before .before .before .before .args in
+    let bars = a .bars .now in
+    record {
+      some = omega arith;
+      size = done .put-barred .kept .0 ∙ turn .inv .size;
+      end =
+          (let next = ap (barsTo bars) (add-one (turn .i)) ∙ bars-next bars (turn .i) in
+          let end = turn .inv .end in
+          omega arith);
+      run =
+          done .put-barred .ensures
+          ∙ ap (λ (l : List ℕ). sets l (turn .at) (quads (barred (a .owner .0) (turn .i + 1) (getD bars (turn .i) 0)))) (turn .inv .run)
+          ∙ barred-next (a .owner .0) bars (a .result .now) (turn .at) (turn .i) (turn .inv .end);
+    }
 
 same-length : tie.Need-same-length Inv-loop μ-loop
 same-length c = c .before .loop .inv .size
 
 returns : tie.Need-returns Inv-loop μ-loop
-returns c = ?
+returns c =
+    let v = c .before .loop .inv in
+    let a = c .before .before .before .before .args in
+    let bars = a .bars .now in
+    let all = le-antisymm (v .some) (c .loop-test .left) in
+    (v .end ∙ ap (λ (n : ℕ). 4 * barsTo bars n) all, v .run ∙ ap (λ (n : ℕ). sets (a .result .now) 0 (quads (allBarred (a .owner .0) bars n))) all)
 
 pub put-all-barred-spec : {M : Type 1} → statement M
 put-all-barred-spec =
