@@ -1,0 +1,287 @@
+-- How many conditions the limit and the bars give, what their bytes are, and what the call answers. Conditions are stored as numbers of four bytes, each
+-- list of them where the one before it ends. Assumes nothing.
+use Prim.Native.Nat.{ℕ, zero, suc, _+_, _-_, _*_, _<_, _≤_}
+use mathlib.Core.Bool.{Bool, true, false, not, _||_}
+use mathlib.Core.List.{List, [], _∷_, _++_}
+use mathlib.Core.Logic.{⊎-elim}
+use mathlib.Core.Path.{_≡_, refl, sym, _∙_, ap, ap₂}
+use borrow.Author.Tests.{lt-ltb, le-ltb, ltb-false, eqb-true, eqb-false}
+use native.Mathlib.Nat.{le-antisymm, mod-eq-of-lt, eq-or-lt-of-le, le-of-suc-le-suc}
+use native.Mathlib.Numerals.{add-one}
+use native.Mathlib.Omega.{arith}
+use lib.Dec.{eqb, ltb}
+use lib.ListN.{length, getD, drop, length-append}
+use lib.Seq.{sets}
+use Rattle.basis.specs.Bytes.{bytes32}
+use Rattle.basis.specs.First.{_when_otherwise_, orElse}
+use Rattle.basis.specs.Rows.{row, joined}
+use Rattle.basis.specs.Tests.{anyBelow}
+use Rattle.basis.proofs.BytesLaws.{length-bytes32, word-bytes}
+use Rattle.basis.proofs.FirstLaws.{when-none, orElse-left, orElse-right, refused-leaves, answered-gives}
+use Rattle.basis.proofs.RowLaws.{length-row, length-joined, joined-same, sets-then, sets-front}
+use Rattle.basis.proofs.TestLaws.{or-none, any-none}
+use Rattle.sheet.specs.Encoded.{Condition, on, quads}
+use Rattle.sheet.proofs.EncodedLaws.{quadBytes, quads-row, length-quads}
+use Rattle.slot_terms.specs.SlotTerms.{
+  barFor,
+  barred,
+  beyond,
+  slotTerms,
+  ownerRefusal,
+  profileRefusal,
+  slotTermsRefusal,
+  conditionsBuffer,
+  SlotTermsWritten,
+}
+use Rattle.slot_terms.specs.declared.Terms.{Terms}
+use Rattle.slot_terms.specs.EngineTerms.{wordOf, barsTo}
+
+-- a bar of more bidders adds nothing below
+pub bars-within : (bars : List ℕ) (i n : ℕ) → i ≤ n → barsTo bars i ≤ barsTo bars n
+unfolding barsTo
+bars-within bars zero zero l = omega arith
+bars-within bars (suc i) zero l = absurd (omega arith)
+bars-within bars i (suc n) l =
+    ⊎-elim
+    (λ (e : i ≡ suc n). let same = ap (barsTo bars) e in omega arith)
+    (λ (lt : i < suc n). let less = bars-within bars i n (omega arith) in omega arith)
+    (eq-or-lt-of-le l)
+
+-- the bars that are written: one a bidder
+pub bars-next : (bars : List ℕ) (i : ℕ) → barsTo bars (suc i) ≡ barsTo bars i + getD bars i 0
+unfolding barsTo barFor
+bars-next bars i = refl
+
+-- bars of at most 16 each
+pub bars-most : (bars : List ℕ) (n : ℕ) → ((i : ℕ) → i < n → getD bars i 0 ≤ 16) → barsTo bars n ≤ 16 * n
+unfolding barsTo barFor
+bars-most bars zero low = omega arith
+bars-most bars (suc n) low = omega (arith, bars-most bars n (λ i l. low i (omega arith)), low n (omega arith))
+
+-- the conditions of the bars for bidders 1 to n
+abbrev pub allBarred : ℕ → List ℕ → ℕ → List Condition
+allBarred owner bars n = joined (λ i. barred owner (suc i) (barFor bars (suc i))) n
+
+-- How many conditions there are
+length-all-barred : (owner : ℕ) (bars : List ℕ) (n : ℕ) → length (allBarred owner bars n) ≡ barsTo bars n
+unfolding joined barred barsTo
+length-all-barred owner bars zero = refl
+length-all-barred owner bars (suc n) =
+    length-append (allBarred owner bars n) (barred owner (suc n) (barFor bars (suc n)))
+    ∙ ap₂ _+_ (length-all-barred owner bars n) (length-row (λ k. on owner 0 (suc n) (suc k)) (barFor bars (suc n)))
+
+length-beyond : (m owner limit : ℕ) → length (beyond m owner limit) ≡ m - limit
+unfolding beyond
+length-beyond m owner limit = length-row (λ k. on owner (limit + suc k) 0 0) (m - limit)
+
+pub terms-count : (n m owner limit : ℕ) (bars : List ℕ) → length (slotTerms n m owner limit bars) ≡ barsTo bars n + (m - limit)
+unfolding slotTerms
+terms-count n m owner limit bars =
+    length-append (allBarred owner bars n) (beyond m owner limit)
+    ∙ ap₂ _+_ (length-all-barred owner bars n) (length-beyond m owner limit)
+
+-- a condition's number has its four bytes
+word-quad : (a b c d : ℕ) → a < 256 → b < 256 → c < 256 → d < 256 → bytes32 (wordOf a b c d) ≡ quadBytes (on a b c d)
+unfolding bytes32 quadBytes
+word-quad a b c d ha hb hc hd =
+    let parts = word-bytes a b c d ha hb hc hd in
+    rw (parts .0, parts .1 .0, parts .1 .1 .0, parts .1 .1 .1, mod-eq-of-lt hd)
+
+-- so conditions of a row are numbers, one after another
+words-quads : (word : ℕ → ℕ) (a b c d : ℕ → ℕ) (n : ℕ) →
+    ((k : ℕ) → k < n → (a k < 256) × (b k < 256) × (c k < 256) × (d k < 256) × (word k ≡ wordOf (a k) (b k) (c k) (d k))) →
+    joined (λ k. bytes32 (word k)) n ≡ quads (row (λ k. on (a k) (b k) (c k) (d k)) n)
+words-quads word a b c d n low =
+    joined-same (λ k. bytes32 (word k)) (λ k. quadBytes (on (a k) (b k) (c k) (d k))) n
+    (λ k l. let here = low k l in ap bytes32 (here .4) ∙ word-quad (a k) (b k) (c k) (d k) (here .0) (here .1) (here .2) (here .3))
+    ∙ sym (quads-row (λ k. on (a k) (b k) (c k) (d k)) n)
+
+pub barred-words : (owner other bar : ℕ) → owner ≤ 64 → other ≤ 64 → bar ≤ 16 →
+    joined (λ k. bytes32 (owner + 65536 * other + 16777216 * (k + 1))) bar ≡ quads (barred owner other bar)
+unfolding barred
+barred-words owner other bar ho hj hb =
+    words-quads (λ k. owner + 65536 * other + 16777216 * (k + 1)) (λ k. owner) (λ k. 0) (λ k. other) (λ k. suc k) bar
+    (λ k l. (omega arith, omega arith, omega arith, omega arith, omega arith))
+
+pub beyond-words : (m owner limit : ℕ) → m ≤ 16 → owner ≤ 64 →
+    joined (λ k. bytes32 (owner + 256 * (limit + k + 1))) (m - limit) ≡ quads (beyond m owner limit)
+unfolding beyond
+beyond-words m owner limit hm ho =
+    words-quads (λ k. owner + 256 * (limit + k + 1)) (λ k. owner) (λ k. limit + suc k) (λ k. 0) (λ k. 0) (m - limit)
+    (λ k l. (omega arith, omega arith, omega arith, omega arith, omega arith))
+
+-- One list more is stored where those before it end,
+pub stored-next : (f : ℕ → List ℕ) (out : List ℕ) (at end k : ℕ) → end ≡ at + length (joined f k) →
+    sets (sets out at (joined f k)) end (f k) ≡ sets out at (joined f (suc k))
+unfolding joined
+stored-next f out at end k e = ap (λ (n : ℕ). sets (sets out at (joined f k)) n (f k)) e ∙ sets-then (joined f k) (f k) out at
+
+-- and so one number more: after k turns the first k of them stand at the offset.
+pub record WordsPut (word : ℕ → ℕ) (count : ℕ) (out : List ℕ) (at : ℕ) (result : List ℕ) (k : ℕ) : Type 0 where
+  pub some : k ≤ count
+  pub size : length result ≡ length out
+  pub run : result ≡ sets out at (joined (λ i. bytes32 (word i)) k)
+
+module _ (word : ℕ → ℕ) (count : ℕ) (out : List ℕ) (at : ℕ) where
+  pub words-none : WordsPut word count out at out 0
+  unfolding joined
+  words-none = record { some = omega arith; size = refl; run = refl }
+
+  pub words-next : (result stored : List ℕ) (k : ℕ) → WordsPut word count out at result k → k < count → length stored ≡ length result →
+      stored ≡ sets result (at + 4 * k) (bytes32 (word k)) → WordsPut word count out at stored (k + 1)
+  words-next result stored k put less same e =
+      record {
+        some = omega arith;
+        size = same ∙ put .size;
+        run =
+            e
+            ∙ ap (λ (l : List ℕ). sets l (at + 4 * k) (bytes32 (word k))) (put .run)
+            ∙ stored-next (λ i. bytes32 (word i)) out at (at + 4 * k) k
+            (let size = length-joined (λ i. bytes32 (word i)) 4 (λ i. length-bytes32 (word i)) k in omega arith)
+            ∙ ap (λ (n : ℕ). sets out at (joined (λ i. bytes32 (word i)) n)) (sym (add-one k));
+      }
+
+  pub words-whole : (result : List ℕ) (k : ℕ) → WordsPut word count out at result k → count ≤ k →
+      (qs : List Condition) → joined (λ i. bytes32 (word i)) count ≡ quads qs → result ≡ sets out at (quads qs)
+  words-whole result k put done qs e =
+      put .run ∙ ap (sets out at) (ap (joined (λ i. bytes32 (word i))) (le-antisymm (put .some) done) ∙ e)
+
+-- The bytes of conditions are stored where those before them end,
+quads-append : (xs ys : List Condition) → quads (xs ++ ys) ≡ quads xs ++ quads ys
+unfolding quads
+quads-append [] ys = refl
+quads-append (x ∷ xs) ys = ap (λ (l : List ℕ). x .owner ∷ x .own ∷ x .other ∷ x .others ∷ l) (quads-append xs ys)
+
+quads-then : (xs ys : List Condition) (out : List ℕ) (end : ℕ) → end ≡ 4 * length xs →
+    sets (sets out 0 (quads xs)) end (quads ys) ≡ sets out 0 (quads (xs ++ ys))
+quads-then xs ys out end e =
+    let place : end ≡ 0 + length (quads xs) = (let size = length-quads xs in omega arith) in
+    ap (λ (n : ℕ). sets (sets out 0 (quads xs)) n (quads ys)) place
+    ∙ sets-then (quads xs) (quads ys) out 0
+    ∙ ap (sets out 0) (sym (quads-append xs ys))
+
+-- those of one bar more,
+pub barred-next : (owner : ℕ) (bars out : List ℕ) (at i : ℕ) → at ≡ 4 * barsTo bars i →
+    sets (sets out 0 (quads (allBarred owner bars i))) at (quads (barred owner (i + 1) (getD bars i 0))) ≡ sets out 0 (quads (allBarred owner bars (i + 1)))
+unfolding joined barFor
+barred-next owner bars out at i e =
+    ap (λ (j : ℕ). sets (sets out 0 (quads (allBarred owner bars i))) at (quads (barred owner j (getD bars i 0)))) (add-one i)
+    ∙ quads-then (allBarred owner bars i) (barred owner (suc i) (getD bars i 0)) out at (let size = length-all-barred owner bars i in omega arith)
+    ∙ ap (λ (n : ℕ). sets out 0 (quads (allBarred owner bars n))) (sym (add-one i))
+
+-- What the call knows where it gives no number:
+pub record OwnerKnown (n m owner : ℕ) : Type 0 where
+  pub bidders : n ≤ 64
+  pub slots : m ≤ 16
+  pub some : 0 < owner
+  pub known : owner ≤ n
+
+pub owner-known : (n m owner : ℕ) → ownerRefusal n m owner ≡ 0 → OwnerKnown n m owner
+unfolding ownerRefusal
+owner-known n m owner none =
+    let first = when-none 3 (eqb n 0 || ltb 64 n) _ none in
+    let second = when-none 4 (eqb m 0 || ltb 16 m) _ (first .1) in
+    let third = when-none 15 (eqb owner 0 || ltb n owner) _ (second .1) in
+    let somebody = eqb-false owner 0 (or-none (eqb owner 0) (ltb n owner) (third .0) .0) in
+    record {
+      bidders = ltb-false 64 n (or-none (eqb n 0) (ltb 64 n) (first .0) .1);
+      slots = ltb-false 16 m (or-none (eqb m 0) (ltb 16 m) (second .0) .1);
+      some = omega arith;
+      known = ltb-false n owner (or-none (eqb owner 0) (ltb n owner) (third .0) .1);
+    }
+
+pub record ProfileKnown (n m limit : ℕ) (bars : List ℕ) : Type 0 where
+  pub limited : limit ≤ m
+  pub all : length bars ≡ n
+  pub low : (i : ℕ) → i < n → getD bars i 0 ≤ m
+
+pub profile-known : (n m owner limit : ℕ) (bars : List ℕ) → profileRefusal n m owner limit bars ≡ 0 → ProfileKnown n m limit bars
+unfolding profileRefusal barFor
+profile-known n m owner limit bars none =
+    let above : ℕ → Bool = λ i. ltb m (barFor bars (suc i)) in
+    let first = when-none 19 (eqb limit 0 || ltb m limit) _ none in
+    let second = when-none 20 (not (eqb (length bars) n) || anyBelow above n) _ (first .1) in
+    let tests = or-none (not (eqb (length bars) n)) (anyBelow above n) (second .0) in
+    record {
+      limited = ltb-false m limit (or-none (eqb limit 0) (ltb m limit) (first .0) .1);
+      all = eqb-true (length bars) n (not-none (eqb (length bars) n) (tests .0));
+      low = λ i l. ltb-false m (getD bars i 0) (any-none above n (tests .1) i l);
+    }
+  where
+    not-none : (t : Bool) → not t ≡ false → t ≡ true
+    not-none true e = refl
+    not-none false e = sym e
+
+-- The call's ways out: a number, and the conditions.
+module _ (n m owner limit : ℕ) (bars out : List ℕ) where
+  abbrev number : ℕ
+  number = slotTermsRefusal n m owner limit bars out
+
+  abbrev terms : List Condition
+  terms = slotTerms n m owner limit bars
+
+  left : (returned : Terms) (k : ℕ) → returned ≡ record { refusal = k; count = 0 } → k ≡ number → (k ≡ 0 → ⊥) →
+      SlotTermsWritten n m owner limit bars out returned out
+  left returned k e same h =
+      record {
+        number = ap (λ (t : Terms). t .refusal) e ∙ same;
+        count = ap (λ (t : Terms). t .count) e ∙ refused-leaves number k (length terms) 0 same h;
+        buffer = refused-leaves number k (conditionsBuffer terms out) out same h;
+      }
+
+  pub owner-refused : (returned : Terms) (k : ℕ) → returned ≡ record { refusal = k; count = 0 } → k ≡ ownerRefusal n m owner → (k ≡ 0 → ⊥) →
+      SlotTermsWritten n m owner limit bars out returned out
+  unfolding slotTermsRefusal
+  owner-refused returned k e same h = left returned k e (same ∙ sym (orElse-left (ownerRefusal n m owner) _ (λ z. h (same ∙ z)))) h
+
+  module _ (owned : ownerRefusal n m owner ≡ 0) where
+    pub profile-refused : (returned : Terms) (k : ℕ) → returned ≡ record { refusal = k; count = 0 } → k ≡ profileRefusal n m owner limit bars → (k ≡ 0 → ⊥) →
+        SlotTermsWritten n m owner limit bars out returned out
+    unfolding slotTermsRefusal
+    profile-refused returned k e same h =
+        left returned k e
+        (same
+        ∙ sym (orElse-right (ownerRefusal n m owner) _ owned ∙ orElse-left (profileRefusal n m owner limit bars) _ (λ z. h (same ∙ z))))
+        h
+
+    module _ (proper : profileRefusal n m owner limit bars ≡ 0) where
+      many : barsTo bars (length bars) + (m - limit) ≡ length terms
+      many =
+          ap (λ (k : ℕ). barsTo bars k + (m - limit)) (profile-known n m owner limit bars proper .all)
+          ∙ sym (terms-count n m owner limit bars)
+
+      last-test : number ≡ (19 when ltb (length out) (4 * length terms) otherwise 0)
+      unfolding slotTermsRefusal
+      last-test = orElse-right (ownerRefusal n m owner) _ owned ∙ orElse-right (profileRefusal n m owner limit bars) _ proper
+
+      pub buffer-short : (returned : Terms) → returned ≡ record { refusal = 19; count = 0 } → length out < 4 * (barsTo bars (length bars) + (m - limit)) →
+          SlotTermsWritten n m owner limit bars out returned out
+      buffer-short returned e less =
+          let size = many in
+          left returned 19 e
+          (sym (last-test ∙ simp (lt-ltb (length out) (4 * length terms) (omega arith))))
+          (λ z. absurd (omega arith))
+
+      pub terms-written : (front whole : List ℕ) (at count : ℕ) → count ≡ barsTo bars (length bars) + (m - limit) → 4 * count ≤ length out →
+          at ≡ 4 * barsTo bars (length bars) → front ≡ sets out 0 (quads (allBarred owner bars (length bars))) →
+          whole ≡ sets front at (quads (beyond m owner limit)) →
+          SlotTermsWritten n m owner limit bars out (record { refusal = 0; count = count }) whole
+      unfolding conditionsBuffer slotTerms
+      terms-written front whole at count e room place f w =
+          let size = many in
+          let all = profile-known n m owner limit bars proper .all in
+          let none : number ≡ 0 = last-test ∙ simp (le-ltb (length out) (4 * length terms) (omega arith)) in
+          let long = length-quads terms in
+          record {
+            number = sym none;
+            count = e ∙ size ∙ answered-gives number (length terms) 0 none;
+            buffer =
+                w
+                ∙ ap (λ (l : List ℕ). sets l at (quads (beyond m owner limit))) f
+                ∙ quads-then (allBarred owner bars (length bars)) (beyond m owner limit) out at
+                (let bars-many = length-all-barred owner bars (length bars) in omega arith)
+                ∙ ap (λ (k : ℕ). sets out 0 (quads (allBarred owner bars k ++ beyond m owner limit))) all
+                ∙ sets-front (quads terms) out (omega arith)
+                ∙ ap (λ (k : ℕ). quads terms ++ drop k out) long
+                ∙ answered-gives number (conditionsBuffer terms out) out none;
+          }

@@ -1,0 +1,208 @@
+-- `slot_terms::write` meets its contract: each refusal comes before anything is written, and what is written are the conditions of the bars and, where they
+-- end, those of the limit. Assumes nothing.
+use Prim.Native.Nat.{ℕ, _+_, _-_, _*_, _<_, _≤_}
+use borrow.Author.Needs.{needs}
+use mathlib.Core.Path.{_≡_, sym, _∙_, ap}
+use native.Mathlib.Omega.{arith}
+use lib.ListN.{length, getD}
+use Rattle.slot_terms.specs.SlotTerms.{ownerRefusal, profileRefusal}
+use Rattle.slot_terms.specs.EngineTerms.{barsTo}
+use Rattle.slot_terms.proofs.WriteLaws.{
+  bars-most,
+  OwnerKnown,
+  owner-known,
+  ProfileKnown,
+  profile-known,
+  owner-refused,
+  profile-refused,
+  buffer-short,
+  terms-written,
+}
+use Rattle.slot_terms.proofs.write.Statement.{statement}
+use Rattle.slot_terms.proofs.write.Tie as tie
+use Rattle.slot_terms.proofs.write.Reads as reads
+use Rattle.slot_terms.proofs.write.Lts as lts
+use Rattle.slot_terms.proofs.owner_refusal.Reads as owner-refusal-reads
+use Rattle.slot_terms.proofs.profile_refusal.Reads as profile-refusal-reads
+use Rattle.slot_terms.proofs.put_all_barred.Reads as put-all-barred-reads
+use Rattle.slot_terms.proofs.put_beyond.Reads as put-beyond-reads
+use Rattle.slot_terms.proofs.refused.Reads as refused-reads
+use Rattle.slot_terms.proofs.sum_bars.Reads as sum-bars-reads
+
+-- where the call started, and what is known past each of its tests
+abbrev start : tie.After-owner-refusal → tie.Start
+start c = c .before .before .before
+
+abbrev first : tie.Else2 → tie.Start
+first c = start (c .before .before .before)
+
+owned : (c : tie.Else1) → ownerRefusal (start (c .before) .args .n) (start (c .before) .args .m) (start (c .before) .args .owner) ≡ 0
+owned c = sym (c .before .owner-refusal .ensures) ∙ c .if1 .left
+
+known : (c : tie.Else1) → OwnerKnown (start (c .before) .args .n) (start (c .before) .args .m) (start (c .before) .args .owner)
+known c = owner-known _ _ _ (owned c)
+
+proper : (c : tie.Else2) → profileRefusal (first c .args .n) (first c .args .m) (first c .args .owner) (first c .args .limit) (first c .args .bars .now) ≡ 0
+proper c = sym (c .before .profile-refusal .ensures) ∙ c .if2 .left
+
+given : (c : tie.Else2) → ProfileKnown (first c .args .n) (first c .args .m) (first c .args .limit) (first c .args .bars .now)
+given c = profile-known _ _ (first c .args .owner) _ _ (proper c)
+
+low : (c : tie.Else2) (i : ℕ) → i < length (first c .args .bars .now) → getD (first c .args .bars .now) i 0 ≤ 16
+low c i l =
+    let slots = known (c .before .before) .slots in
+    let all = given c .all in
+    let here = given c .low i (omega arith) in
+    omega arith
+
+few : (c : tie.Else2) → barsTo (first c .args .bars .now) (length (first c .args .bars .now)) ≤ 1024
+few c =
+    let bidders = known (c .before .before) .bidders in
+    let all = given c .all in
+    let most = bars-most (first c .args .bars .now) _ (low c) in
+    omega arith
+
+owner-refusal-requires : tie.Need-owner-refusal-requires
+owner-refusal-requires c κs = search needs
+
+refused-requires : tie.Need-refused-requires
+refused-requires c κs = search needs
+
+returns : tie.Need-returns
+returns c =
+    let tested = c .before .before in
+    let a = start tested .args in
+    owner-refused (a .n) (a .m) (a .owner) (a .limit) (a .bars .now) (a .result .now) _ _ (c .refused .ensures) (tested .owner-refusal .ensures)
+    (c .before .if1 .taken)
+
+profile-refusal-requires : tie.Need-profile-refusal-requires
+profile-refusal-requires c κs = (known c .some, known c .known)
+
+refused-requires-2 : tie.Need-refused-requires-2
+refused-requires-2 c κs = search needs
+
+returns-2 : tie.Need-returns-2
+returns-2 c =
+    let tested = c .before .before in
+    let a = start (tested .before .before) .args in
+    profile-refused (a .n) (a .m) (a .owner) (a .limit) (a .bars .now) (a .result .now) (owned (tested .before)) _ _ (c .refused2 .ensures)
+    (tested .profile-refusal .ensures)
+    (c .before .if2 .taken)
+
+sum-bars-requires : tie.Need-sum-bars-requires
+sum-bars-requires c κs =
+    let bidders = known (c .before .before) .bidders in
+    let all = given c .all in
+    omega arith
+
+sub-count : tie.Need-sub-count
+sub-count c = let limited = given (c .before) .limited in omega arith
+
+cast-count : tie.Need-cast-count
+cast-count c = search needs
+
+add-count : tie.Need-add-count
+add-count c =
+    let most = few (c .before) in
+    let sum = c .sum-bars .ensures in
+    let slots = known (c .before .before .before) .slots in
+    omega arith
+
+mul-if3 : tie.Need-mul-if3
+mul-if3 c =
+    let most = few (c .before) in
+    let sum = c .sum-bars .ensures in
+    let slots = known (c .before .before .before) .slots in
+    omega arith
+
+refused-requires-3 : tie.Need-refused-requires-3
+refused-requires-3 c κs = search needs
+
+returns-3 : tie.Need-returns-3
+returns-3 c =
+    let summed = c .before .before in
+    let past = summed .before in
+    let a = first past .args in
+    buffer-short (a .n) (a .m) (a .owner) (a .limit) (a .bars .now) (a .result .now) (owned (past .before .before)) (proper past) _ (c .refused3 .ensures)
+    (let sum = summed .sum-bars .ensures in let less = c .before .if3 .taken in omega arith)
+
+cast-t16 : tie.Need-cast-t16
+cast-t16 c =
+    let is = known (c .before .before .before .before) in
+    let bidders = is .bidders in
+    let someone = is .known in
+    omega arith
+
+put-all-barred-requires : tie.Need-put-all-barred-requires
+put-all-barred-requires c κs =
+    let summed = c .before .before in
+    let past = summed .before in
+    let is = known (past .before .before) in
+    let bidders = is .bidders in
+    let someone = is .known in
+    let all = given past .all in
+    (omega arith, omega arith, low past, (let sum = summed .sum-bars .ensures in let room = c .before .if3 .left in omega arith))
+
+put-beyond-requires : tie.Need-put-beyond-requires
+put-beyond-requires c κs =
+    let barred-put = c .before .before .before in
+    let room = barred-put .before .before in
+    let past = room .before .before in
+    let is = known (past .before .before) in
+    let bidders = is .bidders in
+    let someone = is .known in
+    (omega arith, given past .limited, is .slots,
+    (let sum = room .before .sum-bars .ensures in
+    let enough = room .if3 .left in
+    let end = barred-put .put-all-barred .ensures .0 in
+    let same = barred-put .put-all-barred .kept .0 in
+    omega arith))
+
+cast-t14 : tie.Need-cast-t14
+cast-t14 c =
+    let summed = c .before .before .before .before .before .before .before .before .before in
+    let most = few (summed .before) in
+    let sum = summed .sum-bars .ensures in
+    let slots = known (summed .before .before .before) .slots in
+    omega arith
+
+same-length : tie.Need-same-length
+same-length c = search needs
+
+returns-4 : tie.Need-returns-4
+returns-4 c =
+    let beyond-put = c .before .before in
+    let barred-put = beyond-put .before .before .before .before in
+    let room = barred-put .before .before in
+    let past = room .before .before in
+    let a = first past .args in
+    terms-written (a .n) (a .m) (a .owner) (a .limit) (a .bars .now) (a .result .now) (owned (past .before .before)) (proper past) _ _ _ _
+    (ap (λ (sum : ℕ). sum + (a .m - a .limit)) (room .before .sum-bars .ensures))
+    (room .if3 .left)
+    (barred-put .put-all-barred .ensures .0)
+    (barred-put .put-all-barred .ensures .1)
+    (beyond-put .put-beyond .ensures)
+
+pub write-spec : {M : Type 1} → statement M
+write-spec =
+    tie.close
+    (tie.spec
+    owner-refusal-requires
+    refused-requires
+    returns
+    profile-refusal-requires
+    refused-requires-2
+    returns-2
+    sum-bars-requires
+    sub-count
+    cast-count
+    add-count
+    mul-if3
+    refused-requires-3
+    returns-3
+    cast-t16
+    put-all-barred-requires
+    put-beyond-requires
+    cast-t14
+    same-length
+    returns-4)
