@@ -1,14 +1,14 @@
 -- The conditions that a limit and bars give: which they are, that they rise, pass 10 to 13 and are downward monotonic, and that they are few. Assumes nothing.
 use Prim.Native.Nat.{ℕ, zero, suc, _+_, _-_, _*_, _<_, _≤_}
-use mathlib.Core.List.{List, _++_, List·Memᴰ, Memᴰ·append-left, Memᴰ·append-right, List·Memᴰ·append-cases}
+use mathlib.Core.List.{List, List·Memᴰ, Memᴰ·append-left, Memᴰ·append-right, List·Memᴰ·append-cases}
 use mathlib.Core.Logic.{_⊎_, inl, inr, ⊎-elim}
 use mathlib.Core.Path.{_≡_, refl, sym, ap, subst}
 use native.Mathlib.Nat.{eq-or-lt-of-le, le-of-suc-le-suc}
 use native.Mathlib.Omega.{arith}
 use lib.ListN.{length, getD}
-use Rattle.basis.specs.Rows.{row, joined}
+use Rattle.basis.specs.Rows.{row}
 use Rattle.basis.specs.Rising.{Rising}
-use Rattle.basis.proofs.RisingLaws.{mem-row, row-mem, mem-joined, joined-mem, at-mem, rising-lower, rising-higher, rising-append, rising-joined, rising-steps, rising-next}
+use Rattle.basis.proofs.RisingLaws.{mem-row, row-mem, mem-joined, joined-mem, rising-lower, rising-higher, rising-append, rising-joined, rising-steps, rising-next}
 use Rattle.sheet.specs.Refusal.{fieldsRefusal}
 use Rattle.sheet.specs.Accepted.{fieldsNumber, numberOf}
 use Rattle.sheet.specs.Encoded.{Condition, on}
@@ -17,6 +17,7 @@ use Rattle.sheet.proofs.EncodedLaws.{blankCondition}
 use Rattle.sheet.proofs.OrderLaws.{rising-over}
 use Rattle.slot_terms.specs.SlotTerms.{barFor, barred, beyond, slotTerms}
 use Rattle.slot_terms.specs.EngineTerms.{barsTo}
+use Rattle.slot_terms.proofs.WriteLaws.{allBarred, bars-most}
 
 module _ (n m owner limit : ℕ) (bars : List ℕ) where
   -- an own-place condition for a place after the limit, or an other's-place condition for a place up to the other's bar
@@ -26,15 +27,12 @@ module _ (n m owner limit : ℕ) (bars : List ℕ) where
       × (((limit < q .own) × (q .own ≤ m) × (q .other ≡ 0) × (q .others ≡ 0))
       ⊎ ((q .own ≡ 0) × (0 < q .other) × (q .other ≤ n) × (0 < q .others) × (q .others ≤ barFor bars (q .other))))
 
-  abbrev allBarred : List Condition
-  allBarred = joined (λ i. barred owner (suc i) (barFor bars (suc i))) n
-
   -- the list has these
   pub terms-where : (q : Condition) → List·Memᴰ q (slotTerms n m owner limit bars) → GivenBy q
   unfolding slotTerms barred beyond
   terms-where q at =
       ⊎-elim
-      (λ (h : List·Memᴰ q allBarred).
+      (λ (h : List·Memᴰ q (allBarred owner bars n)).
       let w = mem-joined (λ i. barred owner (suc i) (barFor bars (suc i))) n q h in
       let v = mem-row (λ k. on owner 0 (suc (w .0)) (suc k)) (barFor bars (suc (w .0))) q (w .2) in
       let inside = w .1 in
@@ -44,7 +42,7 @@ module _ (n m owner limit : ℕ) (bars : List ℕ) where
       let v = mem-row (λ k. on owner (limit + suc k) 0 0) (m - limit) q h in
       let below = v .1 in
       subst GivenBy (sym (v .2)) (refl, inl (omega arith, omega arith, refl, refl)))
-      (List·Memᴰ·append-cases allBarred at)
+      (List·Memᴰ·append-cases (allBarred owner bars n) at)
 
   -- and no others
   barred-there : (other others : ℕ) → 0 < other → other ≤ n → 0 < others → others ≤ barFor bars other →
@@ -61,7 +59,7 @@ module _ (n m owner limit : ℕ) (bars : List ℕ) where
   unfolding slotTerms beyond
   beyond-there own low high =
       let place : limit + suc (own - suc limit) ≡ own = omega arith in
-      Memᴰ·append-right allBarred
+      Memᴰ·append-right (allBarred owner bars n)
       (subst (λ (k : ℕ). List·Memᴰ (on owner k 0 0) (row (λ k. on owner (limit + suc k) 0 0) (m - limit))) place
       (row-mem (λ k. on owner (limit + suc k) 0 0) (m - limit) (own - suc limit) (omega arith)))
 
@@ -102,7 +100,7 @@ module _ (n m owner limit : ℕ) (bars : List ℕ) where
     unfolding slotTerms beyond numberOf
     terms-rise =
         let top = fieldsNumber owner (limit + suc (m - limit)) 0 0 in
-        rising-append numberOf (fieldsNumber owner 0 1 0) (fieldsNumber owner 0 (suc n) 0) top allBarred (beyond m owner limit)
+        rising-append numberOf (fieldsNumber owner 0 1 0) (fieldsNumber owner 0 (suc n) 0) top (allBarred owner bars n) (beyond m owner limit)
         (rising-joined numberOf (λ i. barred owner (suc i) (barFor bars (suc i))) (λ i. fieldsNumber owner 0 (suc i) 0) n barred-rises)
         (rising-lower numberOf (fieldsNumber owner (limit + 1) 0 0) (fieldsNumber owner 0 (suc n) 0) top (beyond m owner limit) (omega arith)
         (rising-steps numberOf (λ k. on owner (limit + suc k) 0 0) (λ k. fieldsNumber owner (limit + suc k) 0 0) (m - limit) (λ k b. (omega arith, omega arith))))
@@ -148,17 +146,16 @@ module _ (n m owner limit : ℕ) (bars : List ℕ) where
           })
 
       -- the bars of the first k bidders: 16 places each, and none for the owner
-      bars-low : (k : ℕ) → k ≤ n → barsTo bars k ≤ 16 * k
-      unfolding barsTo
-      bars-low zero l = omega arith
-      bars-low (suc k) l = let rest = bars-low k (omega arith) in let bar = low (suc k) (omega arith) l in omega arith
+      small : (i : ℕ) → i < n → getD bars i 0 ≤ 16
+      unfolding barFor
+      small i l = let bar = low (suc i) (omega arith) l in omega arith
 
       bars-lower : (k : ℕ) → k ≤ n → owner ≤ k → barsTo bars k + 16 ≤ 16 * k
       unfolding barsTo
       bars-lower zero l h = absurd (omega arith)
       bars-lower (suc k) l h =
           ⊎-elim
-          (λ (e : owner ≡ suc k). let rest = bars-low k (omega arith) in let own : barFor bars (suc k) ≡ 0 = subst (λ (j : ℕ). barFor bars j ≡ 0) e none in omega arith)
+          (λ (e : owner ≡ suc k). let rest = bars-most bars k (λ i b. small i (omega arith)) in let own : barFor bars (suc k) ≡ 0 = subst (λ (j : ℕ). barFor bars j ≡ 0) e none in omega arith)
           (λ (b : owner < suc k).
           let rest = bars-lower k (omega arith) (le-of-suc-le-suc b) in
           let bar = low (suc k) (omega arith) l in

@@ -1,25 +1,22 @@
 -- How many conditions the limit and the bars give, what their bytes are, and what the call answers. Conditions are stored as numbers of four bytes, each
 -- list of them where the one before it ends. Assumes nothing.
 use Prim.Native.Nat.{ℕ, zero, suc, _+_, _-_, _*_, _<_, _≤_}
-use mathlib.Core.Bool.{Bool, true, false, not, _||_}
 use mathlib.Core.List.{List, [], _∷_, _++_}
 use mathlib.Core.Logic.{⊎-elim}
 use mathlib.Core.Path.{_≡_, refl, sym, _∙_, ap, ap₂}
-use borrow.Author.Tests.{lt-ltb, le-ltb, ltb-false, eqb-true, eqb-false}
-use native.Mathlib.Nat.{le-antisymm, mod-eq-of-lt, eq-or-lt-of-le, le-of-suc-le-suc}
+use borrow.Author.Tests.{lt-ltb, le-ltb}
+use native.Mathlib.Nat.{le-antisymm, mod-eq-of-lt, eq-or-lt-of-le}
 use native.Mathlib.Numerals.{add-one}
 use native.Mathlib.Omega.{arith}
-use lib.Dec.{eqb, ltb}
+use lib.Dec.{ltb}
 use lib.ListN.{length, getD, drop, length-append}
 use lib.Seq.{sets}
 use Rattle.basis.specs.Bytes.{bytes32}
-use Rattle.basis.specs.First.{_when_otherwise_, orElse}
+use Rattle.basis.specs.First.{_when_otherwise_}
 use Rattle.basis.specs.Rows.{row, joined}
-use Rattle.basis.specs.Tests.{anyBelow}
 use Rattle.basis.proofs.BytesLaws.{length-bytes32, word-bytes}
-use Rattle.basis.proofs.FirstLaws.{when-none, orElse-left, orElse-right, refused-leaves, answered-gives}
+use Rattle.basis.proofs.FirstLaws.{orElse-left, orElse-right, refused-leaves, answered-gives}
 use Rattle.basis.proofs.RowLaws.{length-row, length-joined, joined-same, sets-then, sets-front}
-use Rattle.basis.proofs.TestLaws.{or-none, any-none}
 use Rattle.sheet.specs.Encoded.{Condition, on, quads}
 use Rattle.sheet.proofs.EncodedLaws.{quadBytes, quads-row, length-quads}
 use Rattle.slot_terms.specs.SlotTerms.{
@@ -34,6 +31,7 @@ use Rattle.slot_terms.specs.SlotTerms.{
   SlotTermsWritten,
 }
 use Rattle.slot_terms.specs.declared.Terms.{Terms}
+use Rattle.slot_terms.proofs.RefusalLaws.{fits-owner, fits-terms}
 use Rattle.slot_terms.specs.EngineTerms.{wordOf, barsTo}
 
 -- a bar of more bidders adds nothing below
@@ -152,65 +150,23 @@ unfolding quads
 quads-append [] ys = refl
 quads-append (x ∷ xs) ys = ap (λ (l : List ℕ). x .owner ∷ x .own ∷ x .other ∷ x .others ∷ l) (quads-append xs ys)
 
-quads-then : (xs ys : List Condition) (out : List ℕ) (end : ℕ) → end ≡ 4 * length xs →
-    sets (sets out 0 (quads xs)) end (quads ys) ≡ sets out 0 (quads (xs ++ ys))
-quads-then xs ys out end e =
-    let place : end ≡ 0 + length (quads xs) = (let size = length-quads xs in omega arith) in
-    ap (λ (n : ℕ). sets (sets out 0 (quads xs)) n (quads ys)) place
-    ∙ sets-then (quads xs) (quads ys) out 0
-    ∙ ap (sets out 0) (sym (quads-append xs ys))
+quads-then : (xs ys : List Condition) (out : List ℕ) (start end : ℕ) → end ≡ start + 4 * length xs →
+    sets (sets out start (quads xs)) end (quads ys) ≡ sets out start (quads (xs ++ ys))
+quads-then xs ys out start end e =
+    let place : end ≡ start + length (quads xs) = (let size = length-quads xs in omega arith) in
+    ap (λ (n : ℕ). sets (sets out start (quads xs)) n (quads ys)) place
+    ∙ sets-then (quads xs) (quads ys) out start
+    ∙ ap (sets out start) (sym (quads-append xs ys))
 
 -- those of one bar more,
-pub barred-next : (owner : ℕ) (bars out : List ℕ) (at i : ℕ) → at ≡ 4 * barsTo bars i →
-    sets (sets out 0 (quads (allBarred owner bars i))) at (quads (barred owner (i + 1) (getD bars i 0))) ≡ sets out 0 (quads (allBarred owner bars (i + 1)))
+pub barred-next : (owner : ℕ) (bars out : List ℕ) (start at i : ℕ) → at ≡ start + 4 * barsTo bars i →
+    sets (sets out start (quads (allBarred owner bars i))) at (quads (barred owner (i + 1) (getD bars i 0)))
+    ≡ sets out start (quads (allBarred owner bars (i + 1)))
 unfolding joined barFor
-barred-next owner bars out at i e =
-    ap (λ (j : ℕ). sets (sets out 0 (quads (allBarred owner bars i))) at (quads (barred owner j (getD bars i 0)))) (add-one i)
-    ∙ quads-then (allBarred owner bars i) (barred owner (suc i) (getD bars i 0)) out at (let size = length-all-barred owner bars i in omega arith)
-    ∙ ap (λ (n : ℕ). sets out 0 (quads (allBarred owner bars n))) (sym (add-one i))
-
--- What the call knows where it gives no number:
-pub record OwnerKnown (n m owner : ℕ) : Type 0 where
-  pub bidders : n ≤ 64
-  pub slots : m ≤ 16
-  pub some : 0 < owner
-  pub known : owner ≤ n
-
-pub owner-known : (n m owner : ℕ) → ownerRefusal n m owner ≡ 0 → OwnerKnown n m owner
-unfolding ownerRefusal
-owner-known n m owner none =
-    let first = when-none 3 (eqb n 0 || ltb 64 n) _ none in
-    let second = when-none 4 (eqb m 0 || ltb 16 m) _ (first .1) in
-    let third = when-none 15 (eqb owner 0 || ltb n owner) _ (second .1) in
-    let somebody = eqb-false owner 0 (or-none (eqb owner 0) (ltb n owner) (third .0) .0) in
-    record {
-      bidders = ltb-false 64 n (or-none (eqb n 0) (ltb 64 n) (first .0) .1);
-      slots = ltb-false 16 m (or-none (eqb m 0) (ltb 16 m) (second .0) .1);
-      some = omega arith;
-      known = ltb-false n owner (or-none (eqb owner 0) (ltb n owner) (third .0) .1);
-    }
-
-pub record ProfileKnown (n m limit : ℕ) (bars : List ℕ) : Type 0 where
-  pub limited : limit ≤ m
-  pub all : length bars ≡ n
-  pub low : (i : ℕ) → i < n → getD bars i 0 ≤ m
-
-pub profile-known : (n m owner limit : ℕ) (bars : List ℕ) → profileRefusal n m owner limit bars ≡ 0 → ProfileKnown n m limit bars
-unfolding profileRefusal barFor
-profile-known n m owner limit bars none =
-    let above : ℕ → Bool = λ i. ltb m (barFor bars (suc i)) in
-    let first = when-none 19 (eqb limit 0 || ltb m limit) _ none in
-    let second = when-none 20 (not (eqb (length bars) n) || anyBelow above n) _ (first .1) in
-    let tests = or-none (not (eqb (length bars) n)) (anyBelow above n) (second .0) in
-    record {
-      limited = ltb-false m limit (or-none (eqb limit 0) (ltb m limit) (first .0) .1);
-      all = eqb-true (length bars) n (not-none (eqb (length bars) n) (tests .0));
-      low = λ i l. ltb-false m (getD bars i 0) (any-none above n (tests .1) i l);
-    }
-  where
-    not-none : (t : Bool) → not t ≡ false → t ≡ true
-    not-none true e = refl
-    not-none false e = sym e
+barred-next owner bars out start at i e =
+    ap (λ (j : ℕ). sets (sets out start (quads (allBarred owner bars i))) at (quads (barred owner j (getD bars i 0)))) (add-one i)
+    ∙ quads-then (allBarred owner bars i) (barred owner (suc i) (getD bars i 0)) out start at (let size = length-all-barred owner bars i in omega arith)
+    ∙ ap (λ (n : ℕ). sets out start (quads (allBarred owner bars n))) (sym (add-one i))
 
 -- The call's ways out: a number, and the conditions.
 module _ (n m owner limit : ℕ) (bars out : List ℕ) where
@@ -245,9 +201,12 @@ module _ (n m owner limit : ℕ) (bars out : List ℕ) where
         h
 
     module _ (proper : profileRefusal n m owner limit bars ≡ 0) where
+      as-many : length bars ≡ n
+      as-many = fits-terms n m owner limit bars (fits-owner n m owner owned) proper .as-many
+
       many : barsTo bars (length bars) + (m - limit) ≡ length terms
       many =
-          ap (λ (k : ℕ). barsTo bars k + (m - limit)) (profile-known n m owner limit bars proper .all)
+          ap (λ (k : ℕ). barsTo bars k + (m - limit)) as-many
           ∙ sym (terms-count n m owner limit bars)
 
       last-test : number ≡ (19 when ltb (length out) (4 * length terms) otherwise 0)
@@ -269,7 +228,7 @@ module _ (n m owner limit : ℕ) (bars out : List ℕ) where
       unfolding conditionsBuffer slotTerms
       terms-written front whole at count e room place f w =
           let size = many in
-          let all = profile-known n m owner limit bars proper .all in
+          let all = as-many in
           let none : number ≡ 0 = last-test ∙ simp (le-ltb (length out) (4 * length terms) (omega arith)) in
           let long = length-quads terms in
           record {
@@ -278,7 +237,7 @@ module _ (n m owner limit : ℕ) (bars out : List ℕ) where
             buffer =
                 w
                 ∙ ap (λ (l : List ℕ). sets l at (quads (beyond m owner limit))) f
-                ∙ quads-then (allBarred owner bars (length bars)) (beyond m owner limit) out at
+                ∙ quads-then (allBarred owner bars (length bars)) (beyond m owner limit) out 0 at
                 (let bars-many = length-all-barred owner bars (length bars) in omega arith)
                 ∙ ap (λ (k : ℕ). sets out 0 (quads (allBarred owner bars k ++ beyond m owner limit))) all
                 ∙ sets-front (quads terms) out (omega arith)

@@ -110,19 +110,18 @@ fn put_barred(result: &mut [u8], at: usize, owner: Bidder, other: Bidder, bar: S
     }
 }
 
-// The constraints of all bars are written at the front; how many bytes they are.
-fn put_all_barred(result: &mut [u8], owner: Bidder, bars: &[u8]) -> usize
-    requires { ⌜ (length (now bars) ≤ 64) × (owner .0 ≤ 64) × ((i : ℕ) → i < length (now bars) → getD (now bars) i 0 ≤ 16) × (4 * barsTo (now bars) (length (now bars)) ≤ length (now result)) ⌝ }
-    ensures { λ r. ⌜ (r ≡ 4 * barsTo (now (bars .entry)) (length (now (bars .entry)))) × (now (result .exit) ≡ sets (now (result .entry)) 0 (quads (joined (λ i. barred (owner .0) (suc i) (barFor (now (bars .entry)) (suc i))) (length (now (bars .entry)))))) ⌝ }
+// The constraints of all bars are written at an offset.
+fn put_all_barred(result: &mut [u8], start: usize, owner: Bidder, bars: &[u8])
+    requires { ⌜ (length (now bars) ≤ 64) × (owner .0 ≤ 64) × ((i : ℕ) → i < length (now bars) → getD (now bars) i 0 ≤ 16) × (start + 4 * barsTo (now bars) (length (now bars)) ≤ length (now result)) ⌝ }
+    ensures { λ r. ⌜ now (result .exit) ≡ sets (now (result .entry)) start (quads (joined (λ i. barred (owner .0) (suc i) (barFor (now (bars .entry)) (suc i))) (length (now (bars .entry))))) ⌝ }
 {
-    let mut at: usize = 0;
+    let mut at = start;
     let mut i: usize = 0;
     while i < bars.len() {
         put_barred(result, at, owner, Bidder(i as u16 + 1), Slot(bars[i]));
         at += 4 * bars[i] as usize;
         i += 1;
     }
-    at
 }
 
 // The constraints of the limit are written at an offset: the owner at the slots below it.
@@ -151,13 +150,15 @@ pub fn write(n: u32, m: u32, owner: u32, limit: u32, bars: &[u8], result: &mut [
     if wrong != 0 {
         return refused(wrong);
     }
-    let count = sum_bars(bars) + (m - limit) as usize;
+    let barred = sum_bars(bars);
+    let beyond = (m - limit) as usize;
+    let count = barred + beyond;
     if result.len() < 4 * count {
         return refused(19);
     }
     let owner = Bidder(owner as u16);
-    let at = put_all_barred(result, owner, bars);
-    put_beyond(result, at, owner, limit, m);
+    put_all_barred(result, 0, owner, bars);
+    put_beyond(result, 4 * barred, owner, limit, m);
     Terms {
         refusal: 0,
         count: count as u32,

@@ -33,36 +33,39 @@ returns-5 : tie.Need-returns-5
 unfolding ownerRefusal
 returns-5 c =
     let a = c .before .before .before .before .before .args in
-    simp
-    (ne-eqb (a .n) 0 (omega arith),
-    le-ltb 64 (a .n) (omega arith),
-    ne-eqb (a .m) 0 (omega arith),
-    le-ltb 16 (a .m) (omega arith),
-    eq-eqb (a .owner) 0 (omega arith))
+    simp (
+      ne-eqb (a .n) 0 (omega arith),
+      le-ltb 64 (a .n) (omega arith),
+      ne-eqb (a .m) 0 (omega arith),
+      le-ltb 16 (a .m) (omega arith),
+      eq-eqb (a .owner) 0 (omega arith),
+    )
 
 returns-6 : tie.Need-returns-6
 unfolding ownerRefusal
 returns-6 c =
     let a = c .before .before .before .before .before .before .args in
-    simp
-    (ne-eqb (a .n) 0 (omega arith),
-    le-ltb 64 (a .n) (omega arith),
-    ne-eqb (a .m) 0 (omega arith),
-    le-ltb 16 (a .m) (omega arith),
-    ne-eqb (a .owner) 0 (omega arith),
-    lt-ltb (a .n) (a .owner) (omega arith))
+    simp (
+      ne-eqb (a .n) 0 (omega arith),
+      le-ltb 64 (a .n) (omega arith),
+      ne-eqb (a .m) 0 (omega arith),
+      le-ltb 16 (a .m) (omega arith),
+      ne-eqb (a .owner) 0 (omega arith),
+      lt-ltb (a .n) (a .owner) (omega arith),
+    )
 
 returns-7 : tie.Need-returns-7
 unfolding ownerRefusal
 returns-7 c =
     let a = c .before .before .before .before .before .before .args in
-    simp
-    (ne-eqb (a .n) 0 (omega arith),
-    le-ltb 64 (a .n) (omega arith),
-    ne-eqb (a .m) 0 (omega arith),
-    le-ltb 16 (a .m) (omega arith),
-    ne-eqb (a .owner) 0 (omega arith),
-    le-ltb (a .n) (a .owner) (omega arith))
+    simp (
+      ne-eqb (a .n) 0 (omega arith),
+      le-ltb 64 (a .n) (omega arith),
+      ne-eqb (a .m) 0 (omega arith),
+      le-ltb 16 (a .m) (omega arith),
+      ne-eqb (a .owner) 0 (omega arith),
+      le-ltb (a .n) (a .owner) (omega arith),
+    )
 
 pub owner-refusal-spec : {M : Type 1} → statement M
 owner-refusal-spec = tie.close (tie.spec returns returns-2 returns-3 returns-4 returns-5 returns-6 returns-7)

@@ -53,11 +53,12 @@ unfolding profileRefusal
 returns-4 c =
     let a = c .before .before .before .before .before .before .args in
     let all = c .before .before .if3 .left in
-    simp
-    (ne-eqb (a .limit) 0 (omega arith),
-    le-ltb (a .m) (a .limit) (omega arith),
-    eq-eqb (length (a .bars .now)) (a .n) all,
-    above-tested (a .m) (a .bars .now) all (sym (c .if4 .taken) ∙ c .before .some-above .ensures))
+    simp (
+      ne-eqb (a .limit) 0 (omega arith),
+      le-ltb (a .m) (a .limit) (omega arith),
+      eq-eqb (length (a .bars .now)) (a .n) all,
+      above-tested (a .m) (a .bars .now) all (sym (c .if4 .taken) ∙ c .before .some-above .ensures),
+    )
 
 sub-if5 : tie.Need-sub-if5
 sub-if5 c = search needs
@@ -71,12 +72,13 @@ returns-5 c =
     let a = c .before .before .before .before .before .before .before .before .args in
     let some = c .before .before .before .before .before .before .before .before .pre .0 in
     let all = c .before .before .before .before .if3 .left in
-    simp
-    (ne-eqb (a .limit) 0 (omega arith),
-    le-ltb (a .m) (a .limit) (omega arith),
-    eq-eqb (length (a .bars .now)) (a .n) all,
-    above-tested (a .m) (a .bars .now) all (sym (c .before .before .if4 .left) ∙ c .before .before .before .some-above .ensures),
-    ne-eqb (barFor (a .bars .now) (a .owner)) 0 (λ z. c .if5 .taken (sym (bar-at (a .bars .now) (a .owner) some) ∙ z)))
+    simp (
+      ne-eqb (a .limit) 0 (omega arith),
+      le-ltb (a .m) (a .limit) (omega arith),
+      eq-eqb (length (a .bars .now)) (a .n) all,
+      above-tested (a .m) (a .bars .now) all (sym (c .before .before .if4 .left) ∙ c .before .before .before .some-above .ensures),
+      ne-eqb (barFor (a .bars .now) (a .owner)) 0 (λ z. c .if5 .taken (sym (bar-at (a .bars .now) (a .owner) some) ∙ z)),
+    )
 
 returns-6 : tie.Need-returns-6
 unfolding profileRefusal
@@ -84,12 +86,13 @@ returns-6 c =
     let a = c .before .before .before .before .before .before .before .before .args in
     let some = c .before .before .before .before .before .before .before .before .pre .0 in
     let all = c .before .before .before .before .if3 .left in
-    simp
-    (ne-eqb (a .limit) 0 (omega arith),
-    le-ltb (a .m) (a .limit) (omega arith),
-    eq-eqb (length (a .bars .now)) (a .n) all,
-    above-tested (a .m) (a .bars .now) all (sym (c .before .before .if4 .left) ∙ c .before .before .before .some-above .ensures),
-    eq-eqb (barFor (a .bars .now) (a .owner)) 0 (bar-at (a .bars .now) (a .owner) some ∙ c .if5 .left))
+    simp (
+      ne-eqb (a .limit) 0 (omega arith),
+      le-ltb (a .m) (a .limit) (omega arith),
+      eq-eqb (length (a .bars .now)) (a .n) all,
+      above-tested (a .m) (a .bars .now) all (sym (c .before .before .if4 .left) ∙ c .before .before .before .some-above .ensures),
+      eq-eqb (barFor (a .bars .now) (a .owner)) 0 (bar-at (a .bars .now) (a .owner) some ∙ c .if5 .left),
+    )
 
 pub profile-refusal-spec : {M : Type 1} → statement M
 profile-refusal-spec =

@@ -1,8 +1,8 @@
--- `slot_terms::put_all_barred` meets its contract: after i turns the conditions of the first i bars stand at the front, and those of the next are stored
+-- `slot_terms::put_all_barred` meets its contract: after i turns the conditions of the first i bars stand at the offset, and those of the next are stored
 -- where they end. Assumes nothing.
 use Prim.Native.Nat.{ℕ, suc, _+_, _-_, _*_, _<_, _≤_}
 use mathlib.Core.List.{List}
-use mathlib.Core.Path.{_≡_, refl, sym, _∙_, ap}
+use mathlib.Core.Path.{_≡_, refl, _∙_, ap}
 use native.Mathlib.Nat.{le-antisymm}
 use native.Mathlib.Numerals.{add-one}
 use native.Mathlib.Omega.{arith}
@@ -19,17 +19,17 @@ use Rattle.slot_terms.proofs.put_all_barred.Reads as reads
 use Rattle.slot_terms.proofs.put_all_barred.Lts as lts
 use Rattle.slot_terms.proofs.put_barred.Reads as put-barred-reads
 
-record Put (result₀ : List ℕ) (owner : ℕ) (bars result : List ℕ) (at i : ℕ) : Type 0 where
+record Put (result₀ : List ℕ) (start owner : ℕ) (bars result : List ℕ) (at i : ℕ) : Type 0 where
   some : i ≤ length bars
   size : length result ≡ length result₀
-  end : at ≡ 4 * barsTo bars i
-  run : result ≡ sets result₀ 0 (quads (allBarred owner bars i))
+  end : at ≡ start + 4 * barsTo bars i
+  run : result ≡ sets result₀ start (quads (allBarred owner bars i))
 
 abbrev Inv-loop : tie.InvT-loop
-Inv-loop result₀ owner bars at₀ i₀ result at i = Put result₀ (owner .0) bars result at i
+Inv-loop result₀ start owner bars at₀ i₀ result at i = Put result₀ start (owner .0) bars result at i
 
 abbrev μ-loop : tie.MeasureT-loop
-μ-loop result₀ owner bars at₀ i₀ result at i = length bars - i
+μ-loop result₀ start owner bars at₀ i₀ result at i = length bars - i
 
 -- the bars up to the next are no more than all
 next-within : (bars : List ℕ) (i : ℕ) → i < length bars → barsTo bars i + getD bars i 0 ≤ barsTo bars (length bars)
@@ -37,13 +37,13 @@ next-within bars i l = omega (arith, bars-next bars i, bars-within bars (suc i) 
 
 loop-holds : tie.Need-loop-holds Inv-loop μ-loop
 unfolding barsTo joined quads
-loop-holds c = record { some = omega arith; size = refl; end = refl; run = refl }
+loop-holds c = record { some = omega arith; size = refl; end = omega arith; run = refl }
 
-cast-t11 : tie.Need-cast-t11 Inv-loop μ-loop
-cast-t11 c = omega arith
+cast-t12 : tie.Need-cast-t12 Inv-loop μ-loop
+cast-t12 c = omega arith
 
-add-t12 : tie.Need-add-t12 Inv-loop μ-loop
-add-t12 c = omega arith
+add-t13 : tie.Need-add-t13 Inv-loop μ-loop
+add-t13 c = omega arith
 
 shared-slice-read-at : tie.Need-shared-slice-read-at Inv-loop μ-loop
 shared-slice-read-at c = omega arith
@@ -106,7 +106,7 @@ loop-again c =
       run =
           done .put-barred .ensures
           ∙ ap (λ (l : List ℕ). sets l (turn .at) (quads (barred (a .owner .0) (turn .i + 1) (getD bars (turn .i) 0)))) (turn .inv .run)
-          ∙ barred-next (a .owner .0) bars (a .result .now) (turn .at) (turn .i) (turn .inv .end);
+          ∙ barred-next (a .owner .0) bars (a .result .now) (a .start) (turn .at) (turn .i) (turn .inv .end);
     }
 
 same-length : tie.Need-same-length Inv-loop μ-loop
@@ -118,7 +118,7 @@ returns c =
     let a = c .before .before .before .before .args in
     let bars = a .bars .now in
     let all = le-antisymm (v .some) (c .loop-test .left) in
-    (v .end ∙ ap (λ (n : ℕ). 4 * barsTo bars n) all, v .run ∙ ap (λ (n : ℕ). sets (a .result .now) 0 (quads (allBarred (a .owner .0) bars n))) all)
+    v .run ∙ ap (λ (n : ℕ). sets (a .result .now) (a .start) (quads (allBarred (a .owner .0) bars n))) all
 
 pub put-all-barred-spec : {M : Type 1} → statement M
 put-all-barred-spec =
@@ -127,8 +127,8 @@ put-all-barred-spec =
     Inv-loop
     μ-loop
     loop-holds
-    cast-t11
-    add-t12
+    cast-t12
+    add-t13
     shared-slice-read-at
     put-barred-requires
     shared-slice-read-at-2

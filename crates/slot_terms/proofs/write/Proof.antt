@@ -1,23 +1,20 @@
 -- `slot_terms::write` meets its contract: each refusal comes before anything is written, and what is written are the conditions of the bars and, where they
 -- end, those of the limit. Assumes nothing.
-use Prim.Native.Nat.{ℕ, _+_, _-_, _*_, _<_, _≤_}
+use Prim.Native.Nat.{ℕ, suc, _+_, _-_, _<_, _≤_}
 use borrow.Author.Needs.{needs}
 use mathlib.Core.Path.{_≡_, sym, _∙_, ap}
 use native.Mathlib.Omega.{arith}
 use lib.ListN.{length, getD}
-use Rattle.slot_terms.specs.SlotTerms.{ownerRefusal, profileRefusal}
+use Rattle.slot_terms.specs.SlotTerms.{barFor, ownerRefusal, profileRefusal, OwnerFits, TermsFit}
 use Rattle.slot_terms.specs.EngineTerms.{barsTo}
 use Rattle.slot_terms.proofs.WriteLaws.{
   bars-most,
-  OwnerKnown,
-  owner-known,
-  ProfileKnown,
-  profile-known,
   owner-refused,
   profile-refused,
   buffer-short,
   terms-written,
 }
+use Rattle.slot_terms.proofs.RefusalLaws.{fits-owner, fits-terms}
 use Rattle.slot_terms.proofs.write.Statement.{statement}
 use Rattle.slot_terms.proofs.write.Tie as tie
 use Rattle.slot_terms.proofs.write.Reads as reads
@@ -39,26 +36,27 @@ first c = start (c .before .before .before)
 owned : (c : tie.Else1) → ownerRefusal (start (c .before) .args .n) (start (c .before) .args .m) (start (c .before) .args .owner) ≡ 0
 owned c = sym (c .before .owner-refusal .ensures) ∙ c .if1 .left
 
-known : (c : tie.Else1) → OwnerKnown (start (c .before) .args .n) (start (c .before) .args .m) (start (c .before) .args .owner)
-known c = owner-known _ _ _ (owned c)
+known : (c : tie.Else1) → OwnerFits (start (c .before) .args .n) (start (c .before) .args .m) (start (c .before) .args .owner)
+known c = fits-owner _ _ _ (owned c)
 
 proper : (c : tie.Else2) → profileRefusal (first c .args .n) (first c .args .m) (first c .args .owner) (first c .args .limit) (first c .args .bars .now) ≡ 0
 proper c = sym (c .before .profile-refusal .ensures) ∙ c .if2 .left
 
-given : (c : tie.Else2) → ProfileKnown (first c .args .n) (first c .args .m) (first c .args .limit) (first c .args .bars .now)
-given c = profile-known _ _ (first c .args .owner) _ _ (proper c)
+given : (c : tie.Else2) → TermsFit (first c .args .n) (first c .args .m) (first c .args .owner) (first c .args .limit) (first c .args .bars .now)
+given c = fits-terms _ _ (first c .args .owner) _ _ (known (c .before .before)) (proper c)
 
 low : (c : tie.Else2) (i : ℕ) → i < length (first c .args .bars .now) → getD (first c .args .bars .now) i 0 ≤ 16
+unfolding barFor
 low c i l =
-    let slots = known (c .before .before) .slots in
-    let all = given c .all in
-    let here = given c .low i (omega arith) in
+    let slots = known (c .before .before) .most-slots in
+    let all = given c .as-many in
+    let here = given c .none-above (suc i) (omega arith) (omega arith) in
     omega arith
 
 few : (c : tie.Else2) → barsTo (first c .args .bars .now) (length (first c .args .bars .now)) ≤ 1024
 few c =
-    let bidders = known (c .before .before) .bidders in
-    let all = given c .all in
+    let bidders = known (c .before .before) .most-bidders in
+    let all = given c .as-many in
     let most = bars-most (first c .args .bars .now) _ (low c) in
     omega arith
 
@@ -76,7 +74,7 @@ returns c =
     (c .before .if1 .taken)
 
 profile-refusal-requires : tie.Need-profile-refusal-requires
-profile-refusal-requires c κs = (known c .some, known c .known)
+profile-refusal-requires c κs = (known c .some-owner, known c .most-owner)
 
 refused-requires-2 : tie.Need-refused-requires-2
 refused-requires-2 c κs = search needs
@@ -91,28 +89,28 @@ returns-2 c =
 
 sum-bars-requires : tie.Need-sum-bars-requires
 sum-bars-requires c κs =
-    let bidders = known (c .before .before) .bidders in
-    let all = given c .all in
+    let bidders = known (c .before .before) .most-bidders in
+    let all = given c .as-many in
     omega arith
 
-sub-count : tie.Need-sub-count
-sub-count c = let limited = given (c .before) .limited in omega arith
+sub-beyond : tie.Need-sub-beyond
+sub-beyond c = let limited = given (c .before) .most-limit in omega arith
 
-cast-count : tie.Need-cast-count
-cast-count c = search needs
+cast-beyond : tie.Need-cast-beyond
+cast-beyond c = search needs
 
 add-count : tie.Need-add-count
 add-count c =
     let most = few (c .before) in
     let sum = c .sum-bars .ensures in
-    let slots = known (c .before .before .before) .slots in
+    let slots = known (c .before .before .before) .most-slots in
     omega arith
 
 mul-if3 : tie.Need-mul-if3
 mul-if3 c =
     let most = few (c .before) in
     let sum = c .sum-bars .ensures in
-    let slots = known (c .before .before .before) .slots in
+    let slots = known (c .before .before .before) .most-slots in
     omega arith
 
 refused-requires-3 : tie.Need-refused-requires-3
@@ -126,11 +124,11 @@ returns-3 c =
     buffer-short (a .n) (a .m) (a .owner) (a .limit) (a .bars .now) (a .result .now) (owned (past .before .before)) (proper past) _ (c .refused3 .ensures)
     (let sum = summed .sum-bars .ensures in let less = c .before .if3 .taken in omega arith)
 
-cast-t16 : tie.Need-cast-t16
-cast-t16 c =
+cast-t17 : tie.Need-cast-t17
+cast-t17 c =
     let is = known (c .before .before .before .before) in
-    let bidders = is .bidders in
-    let someone = is .known in
+    let bidders = is .most-bidders in
+    let someone = is .most-owner in
     omega arith
 
 put-all-barred-requires : tie.Need-put-all-barred-requires
@@ -138,10 +136,17 @@ put-all-barred-requires c κs =
     let summed = c .before .before in
     let past = summed .before in
     let is = known (past .before .before) in
-    let bidders = is .bidders in
-    let someone = is .known in
-    let all = given past .all in
+    let bidders = is .most-bidders in
+    let someone = is .most-owner in
+    let all = given past .as-many in
     (omega arith, omega arith, low past, (let sum = summed .sum-bars .ensures in let room = c .before .if3 .left in omega arith))
+
+mul-put-beyond : tie.Need-mul-put-beyond
+mul-put-beyond c =
+    let summed = c .before .before .before .before .before .before in
+    let most = few (summed .before) in
+    let sum = summed .sum-bars .ensures in
+    omega arith
 
 put-beyond-requires : tie.Need-put-beyond-requires
 put-beyond-requires c κs =
@@ -149,21 +154,23 @@ put-beyond-requires c κs =
     let room = barred-put .before .before in
     let past = room .before .before in
     let is = known (past .before .before) in
-    let bidders = is .bidders in
-    let someone = is .known in
-    (omega arith, given past .limited, is .slots,
-    (let sum = room .before .sum-bars .ensures in
-    let enough = room .if3 .left in
-    let end = barred-put .put-all-barred .ensures .0 in
-    let same = barred-put .put-all-barred .kept .0 in
-    omega arith))
+    let bidders = is .most-bidders in
+    let someone = is .most-owner in (
+      omega arith,
+      given past .most-limit,
+      is .most-slots,
+      (let sum = room .before .sum-bars .ensures in
+          let enough = room .if3 .left in
+          let same = barred-put .put-all-barred .kept .0 in
+          omega arith),
+    )
 
 cast-t14 : tie.Need-cast-t14
 cast-t14 c =
     let summed = c .before .before .before .before .before .before .before .before .before in
     let most = few (summed .before) in
     let sum = summed .sum-bars .ensures in
-    let slots = known (summed .before .before .before) .slots in
+    let slots = known (summed .before .before .before) .most-slots in
     omega arith
 
 same-length : tie.Need-same-length
@@ -179,8 +186,8 @@ returns-4 c =
     terms-written (a .n) (a .m) (a .owner) (a .limit) (a .bars .now) (a .result .now) (owned (past .before .before)) (proper past) _ _ _ _
     (ap (λ (sum : ℕ). sum + (a .m - a .limit)) (room .before .sum-bars .ensures))
     (room .if3 .left)
-    (barred-put .put-all-barred .ensures .0)
-    (barred-put .put-all-barred .ensures .1)
+    (let sum = room .before .sum-bars .ensures in omega arith)
+    (barred-put .put-all-barred .ensures)
     (beyond-put .put-beyond .ensures)
 
 pub write-spec : {M : Type 1} → statement M
@@ -194,14 +201,15 @@ write-spec =
     refused-requires-2
     returns-2
     sum-bars-requires
-    sub-count
-    cast-count
+    sub-beyond
+    cast-beyond
     add-count
     mul-if3
     refused-requires-3
     returns-3
-    cast-t16
+    cast-t17
     put-all-barred-requires
+    mul-put-beyond
     put-beyond-requires
     cast-t14
     same-length
