@@ -39,7 +39,7 @@ module _ (n m owner limit : ℕ) (bars : List ℕ) where
       let below = v .1 in
       subst GivenBy (sym (v .2)) (refl, inr (refl, omega arith, omega arith, omega arith, below)))
       (λ (h : List·Memᴰ q (beyond m owner limit)).
-      let v = mem-row (λ k. on owner (limit + suc k) 0 0) (m - limit) q h in
+      let v = mem-row (λ k. on owner (limit + 1 + k) 0 0) (m - limit) q h in
       let below = v .1 in
       subst GivenBy (sym (v .2)) (refl, inl (omega arith, omega arith, refl, refl)))
       (List·Memᴰ·append-cases (allBarred owner bars n) at)
@@ -58,10 +58,10 @@ module _ (n m owner limit : ℕ) (bars : List ℕ) where
   beyond-there : (own : ℕ) → limit < own → own ≤ m → List·Memᴰ (on owner own 0 0) (slotTerms n m owner limit bars)
   unfolding slotTerms beyond
   beyond-there own low high =
-      let place : limit + suc (own - suc limit) ≡ own = omega arith in
+      let place : limit + 1 + (own - suc limit) ≡ own = omega arith in
       Memᴰ·append-right (allBarred owner bars n)
-      (subst (λ (k : ℕ). List·Memᴰ (on owner k 0 0) (row (λ k. on owner (limit + suc k) 0 0) (m - limit))) place
-      (row-mem (λ k. on owner (limit + suc k) 0 0) (m - limit) (own - suc limit) (omega arith)))
+      (subst (λ (k : ℕ). List·Memᴰ (on owner k 0 0) (row (λ k. on owner (limit + 1 + k) 0 0) (m - limit))) place
+      (row-mem (λ k. on owner (limit + 1 + k) 0 0) (m - limit) (own - suc limit) (omega arith)))
 
   pub terms-there : (q : Condition) → GivenBy q → List·Memᴰ q (slotTerms n m owner limit bars)
   terms-there q (mine, inl (low, high, none, nowhere)) =
@@ -96,14 +96,14 @@ module _ (n m owner limit : ℕ) (bars : List ℕ) where
         (rising-higher numberOf (fieldsNumber owner 0 (suc i) 1) (fieldsNumber owner 0 (suc i) (suc bar)) (fieldsNumber owner 0 (suc (suc i)) 0) list (omega arith)
         (rising-steps numberOf (λ k. on owner 0 (suc i) (suc k)) (λ k. fieldsNumber owner 0 (suc i) (suc k)) bar (λ k b. (omega arith, omega arith))))
 
-    terms-rise : Rising numberOf (fieldsNumber owner 0 1 0) (fieldsNumber owner (limit + suc (m - limit)) 0 0) (slotTerms n m owner limit bars)
+    terms-rise : Rising numberOf (fieldsNumber owner 0 1 0) (fieldsNumber owner (limit + 1 + (m - limit)) 0 0) (slotTerms n m owner limit bars)
     unfolding slotTerms beyond numberOf
     terms-rise =
-        let top = fieldsNumber owner (limit + suc (m - limit)) 0 0 in
+        let top = fieldsNumber owner (limit + 1 + (m - limit)) 0 0 in
         rising-append numberOf (fieldsNumber owner 0 1 0) (fieldsNumber owner 0 (suc n) 0) top (allBarred owner bars n) (beyond m owner limit)
         (rising-joined numberOf (λ i. barred owner (suc i) (barFor bars (suc i))) (λ i. fieldsNumber owner 0 (suc i) 0) n barred-rises)
-        (rising-lower numberOf (fieldsNumber owner (limit + 1) 0 0) (fieldsNumber owner 0 (suc n) 0) top (beyond m owner limit) (omega arith)
-        (rising-steps numberOf (λ k. on owner (limit + suc k) 0 0) (λ k. fieldsNumber owner (limit + suc k) 0 0) (m - limit) (λ k b. (omega arith, omega arith))))
+        (rising-lower numberOf (fieldsNumber owner (limit + 1 + 0) 0 0) (fieldsNumber owner 0 (suc n) 0) top (beyond m owner limit) (omega arith)
+        (rising-steps numberOf (λ k. on owner (limit + 1 + k) 0 0) (λ k. fieldsNumber owner (limit + 1 + k) 0 0) (m - limit) (λ k b. (omega arith, omega arith))))
 
     -- each is above every one before it
     pub terms-rising : (j k : ℕ) → j < k → k < length (slotTerms n m owner limit bars) →
@@ -111,7 +111,7 @@ module _ (n m owner limit : ℕ) (bars : List ℕ) where
     terms-rising =
         let qs = slotTerms n m owner limit bars in
         rising-over (λ k. numberOf (getD qs k blankCondition)) (length qs)
-        (rising-next numberOf (fieldsNumber owner 0 1 0) (fieldsNumber owner (limit + suc (m - limit)) 0 0) qs blankCondition terms-rise)
+        (rising-next numberOf (fieldsNumber owner 0 1 0) (fieldsNumber owner (limit + 1 + (m - limit)) 0 0) qs blankCondition terms-rise)
 
     -- where the owner is one of the bidders, and nothing is barred against it
     module _ (some : 0 < owner) (within : owner ≤ n) (none : barFor bars owner ≡ 0) where

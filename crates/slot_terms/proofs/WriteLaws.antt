@@ -70,7 +70,7 @@ length-all-barred owner bars (suc n) =
 
 length-beyond : (m owner limit : ℕ) → length (beyond m owner limit) ≡ m - limit
 unfolding beyond
-length-beyond m owner limit = length-row (λ k. on owner (limit + suc k) 0 0) (m - limit)
+length-beyond m owner limit = length-row (λ k. on owner (limit + 1 + k) 0 0) (m - limit)
 
 pub terms-count : (n m owner limit : ℕ) (bars : List ℕ) → length (slotTerms n m owner limit bars) ≡ barsTo bars n + (m - limit)
 unfolding slotTerms
@@ -95,54 +95,29 @@ words-quads word a b c d n low =
     ∙ sym (quads-row (λ k. on (a k) (b k) (c k) (d k)) n)
 
 pub barred-words : (owner other bar : ℕ) → owner ≤ 64 → other ≤ 64 → bar ≤ 16 →
-    joined (λ k. bytes32 (owner + 65536 * other + 16777216 * (k + 1))) bar ≡ quads (barred owner other bar)
+    joined (λ k. bytes32 (wordOf owner 0 other 1 + 16777216 * k)) bar ≡ quads (barred owner other bar)
 unfolding barred
 barred-words owner other bar ho hj hb =
-    words-quads (λ k. owner + 65536 * other + 16777216 * (k + 1)) (λ k. owner) (λ k. 0) (λ k. other) (λ k. suc k) bar
+    words-quads (λ k. wordOf owner 0 other 1 + 16777216 * k) (λ k. owner) (λ k. 0) (λ k. other) (λ k. suc k) bar
     (λ k l. (omega arith, omega arith, omega arith, omega arith, omega arith))
 
 pub beyond-words : (m owner limit : ℕ) → m ≤ 16 → owner ≤ 64 →
-    joined (λ k. bytes32 (owner + 256 * (limit + k + 1))) (m - limit) ≡ quads (beyond m owner limit)
+    joined (λ k. bytes32 (wordOf owner (limit + 1) 0 0 + 256 * k)) (m - limit) ≡ quads (beyond m owner limit)
 unfolding beyond
 beyond-words m owner limit hm ho =
-    words-quads (λ k. owner + 256 * (limit + k + 1)) (λ k. owner) (λ k. limit + suc k) (λ k. 0) (λ k. 0) (m - limit)
+    words-quads (λ k. wordOf owner (limit + 1) 0 0 + 256 * k) (λ k. owner) (λ k. limit + 1 + k) (λ k. 0) (λ k. 0) (m - limit)
     (λ k l. (omega arith, omega arith, omega arith, omega arith, omega arith))
 
--- One list more is stored where those before it end,
-pub stored-next : (f : ℕ → List ℕ) (out : List ℕ) (at end k : ℕ) → end ≡ at + length (joined f k) →
-    sets (sets out at (joined f k)) end (f k) ≡ sets out at (joined f (suc k))
+-- One number more is stored where those before it end.
+pub word-next : (word : ℕ → ℕ) (out : List ℕ) (at k : ℕ) →
+    sets (sets out at (joined (λ i. bytes32 (word i)) k)) (at + 4 * k) (bytes32 (word k)) ≡ sets out at (joined (λ i. bytes32 (word i)) (k + 1))
 unfolding joined
-stored-next f out at end k e = ap (λ (n : ℕ). sets (sets out at (joined f k)) n (f k)) e ∙ sets-then (joined f k) (f k) out at
-
--- and so one number more: after k turns the first k of them stand at the offset.
-pub record WordsPut (word : ℕ → ℕ) (count : ℕ) (out : List ℕ) (at : ℕ) (result : List ℕ) (k : ℕ) : Type 0 where
-  pub some : k ≤ count
-  pub size : length result ≡ length out
-  pub run : result ≡ sets out at (joined (λ i. bytes32 (word i)) k)
-
-module _ (word : ℕ → ℕ) (count : ℕ) (out : List ℕ) (at : ℕ) where
-  pub words-none : WordsPut word count out at out 0
-  unfolding joined
-  words-none = record { some = omega arith; size = refl; run = refl }
-
-  pub words-next : (result stored : List ℕ) (k : ℕ) → WordsPut word count out at result k → k < count → length stored ≡ length result →
-      stored ≡ sets result (at + 4 * k) (bytes32 (word k)) → WordsPut word count out at stored (k + 1)
-  words-next result stored k put less same e =
-      record {
-        some = omega arith;
-        size = same ∙ put .size;
-        run =
-            e
-            ∙ ap (λ (l : List ℕ). sets l (at + 4 * k) (bytes32 (word k))) (put .run)
-            ∙ stored-next (λ i. bytes32 (word i)) out at (at + 4 * k) k
-            (let size = length-joined (λ i. bytes32 (word i)) 4 (λ i. length-bytes32 (word i)) k in omega arith)
-            ∙ ap (λ (n : ℕ). sets out at (joined (λ i. bytes32 (word i)) n)) (sym (add-one k));
-      }
-
-  pub words-whole : (result : List ℕ) (k : ℕ) → WordsPut word count out at result k → count ≤ k →
-      (qs : List Condition) → joined (λ i. bytes32 (word i)) count ≡ quads qs → result ≡ sets out at (quads qs)
-  words-whole result k put done qs e =
-      put .run ∙ ap (sets out at) (ap (joined (λ i. bytes32 (word i))) (le-antisymm (put .some) done) ∙ e)
+word-next word out at k =
+    let f : ℕ → List ℕ = λ i. bytes32 (word i) in
+    let place : at + 4 * k ≡ at + length (joined f k) = (let size = length-joined f 4 (λ i. length-bytes32 (word i)) k in omega arith) in
+    ap (λ (n : ℕ). sets (sets out at (joined f k)) n (f k)) place
+    ∙ sets-then (joined f k) (f k) out at
+    ∙ ap (λ (n : ℕ). sets out at (joined f n)) (sym (add-one k))
 
 -- The bytes of conditions are stored where those before them end,
 quads-append : (xs ys : List Condition) → quads (xs ++ ys) ≡ quads xs ++ quads ys

@@ -23,7 +23,7 @@ barred owner other bar = row (λ k. on owner 0 other (suc k)) bar
 
 -- "A limit L gives own-place conditions for places L + 1 to m."
 unfoldable pub beyond : (m owner limit : ℕ) → List Condition
-beyond m owner limit = row (λ k. on owner (limit + suc k) 0 0) (m - limit)
+beyond m owner limit = row (λ k. on owner (limit + 1 + k) 0 0) (m - limit)
 
 -- all of them, "in rising order of their four bytes": own place 0, which stands for any, comes before the others, and bidder 1's bar before the next one's
 unfoldable pub slotTerms : (n m owner limit : ℕ) → List ℕ → List Condition
