@@ -5,7 +5,7 @@ use mathlib.Core.List.{List, [], _∷_, _++_}
 use mathlib.Core.Logic.{⊎-elim}
 use mathlib.Core.Path.{_≡_, refl, sym, _∙_, ap, ap₂}
 use borrow.Author.Tests.{lt-ltb, le-ltb}
-use native.Mathlib.Nat.{le-antisymm, mod-eq-of-lt, eq-or-lt-of-le}
+use native.Mathlib.Nat.{mod-eq-of-lt, eq-or-lt-of-le}
 use native.Mathlib.Numerals.{add-one}
 use native.Mathlib.Omega.{arith}
 use lib.Dec.{ltb}
@@ -196,12 +196,13 @@ module _ (n m owner limit : ℕ) (bars out : List ℕ) where
           (sym (last-test ∙ simp (lt-ltb (length out) (4 * length terms) (omega arith))))
           (λ z. absurd (omega arith))
 
-      pub terms-written : (front whole : List ℕ) (at count : ℕ) → count ≡ barsTo bars (length bars) + (m - limit) → 4 * count ≤ length out →
+      pub terms-written : (front whole : List ℕ) (at count word runs : ℕ) → count ≡ barsTo bars (length bars) + (m - limit) → 4 * count ≤ length out →
           at ≡ 4 * barsTo bars (length bars) → front ≡ sets out 0 (quads (allBarred owner bars (length bars))) →
-          whole ≡ sets front at (quads (beyond m owner limit)) →
+          word ≡ wordOf owner (limit + 1) 0 0 → runs ≡ m - limit → whole ≡ sets front at (joined (λ k. bytes32 (word + 256 * k)) runs) →
           SlotTermsWritten n m owner limit bars out (record { refusal = 0; count = count }) whole
       unfolding conditionsBuffer slotTerms
-      terms-written front whole at count e room place f w =
+      terms-written front whole at count word runs e room place f g h w =
+          let fits = fits-owner n m owner owned in
           let size = many in
           let all = as-many in
           let none : number ≡ 0 = last-test ∙ simp (le-ltb (length out) (4 * length terms) (omega arith)) in
@@ -211,7 +212,8 @@ module _ (n m owner limit : ℕ) (bars out : List ℕ) where
             count = e ∙ size ∙ answered-gives number (length terms) 0 none;
             buffer =
                 w
-                ∙ ap (λ (l : List ℕ). sets l at (quads (beyond m owner limit))) f
+                ∙ ap₂ (λ (x k : ℕ). sets front at (joined (λ i. bytes32 (x + 256 * i)) k)) g h
+                ∙ ap₂ (λ (l run : List ℕ). sets l at run) f (beyond-words m owner limit (fits .most-slots) (let most = fits .most-bidders in let own = fits .most-owner in omega arith))
                 ∙ quads-then (allBarred owner bars (length bars)) (beyond m owner limit) out 0 at
                 (let bars-many = length-all-barred owner bars (length bars) in omega arith)
                 ∙ ap (λ (k : ℕ). sets out 0 (quads (allBarred owner bars k ++ beyond m owner limit))) all

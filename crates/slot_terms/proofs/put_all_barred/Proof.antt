@@ -2,22 +2,23 @@
 -- where they end. Assumes nothing.
 use Prim.Native.Nat.{ℕ, suc, _+_, _-_, _*_, _<_, _≤_}
 use mathlib.Core.List.{List}
-use mathlib.Core.Path.{_≡_, refl, _∙_, ap}
+use mathlib.Core.Path.{_≡_, refl, _∙_, ap, ap₂}
 use native.Mathlib.Nat.{le-antisymm}
 use native.Mathlib.Numerals.{add-one}
 use native.Mathlib.Omega.{arith}
 use lib.ListN.{length, getD}
 use lib.Seq.{sets}
+use Rattle.basis.specs.Bytes.{bytes32}
 use Rattle.basis.specs.Rows.{joined}
 use Rattle.sheet.specs.Encoded.{quads}
-use Rattle.slot_terms.specs.SlotTerms.{barred}
 use Rattle.slot_terms.specs.EngineTerms.{barsTo}
-use Rattle.slot_terms.proofs.WriteLaws.{allBarred, bars-next, bars-within, bars-most, barred-next}
+use Rattle.slot_terms.proofs.WriteLaws.{allBarred, bars-next, bars-within, barred-words, barred-next}
 use Rattle.slot_terms.proofs.put_all_barred.Statement.{statement}
 use Rattle.slot_terms.proofs.put_all_barred.Tie as tie
 use Rattle.slot_terms.proofs.put_all_barred.Reads as reads
 use Rattle.slot_terms.proofs.put_all_barred.Lts as lts
-use Rattle.slot_terms.proofs.put_barred.Reads as put-barred-reads
+use Rattle.slot_terms.proofs.put_run.Reads as put-run-reads
+use Rattle.slot_terms.proofs.word_of.Reads as word-of-reads
 
 record Put (result₀ : List ℕ) (start owner : ℕ) (bars result : List ℕ) (at i : ℕ) : Type 0 where
   some : i ≤ length bars
@@ -35,77 +36,92 @@ abbrev μ-loop : tie.MeasureT-loop
 next-within : (bars : List ℕ) (i : ℕ) → i < length bars → barsTo bars i + getD bars i 0 ≤ barsTo bars (length bars)
 next-within bars i l = omega (arith, bars-next bars i, bars-within bars (suc i) (length bars) l)
 
+-- where the call started, and the bar of a turn
+abbrev start-of : tie.In-loop Inv-loop μ-loop → tie.Start Inv-loop μ-loop
+start-of c = c .before .before .before .before
+
+low-bar : (c : tie.In-loop Inv-loop μ-loop) → getD (start-of c .args .bars .now) (c .before .loop .i) 0 ≤ 16
+low-bar c = start-of c .pre .2 (c .before .loop .i) (c .loop-test .taken)
+
 loop-holds : tie.Need-loop-holds Inv-loop μ-loop
 unfolding barsTo joined quads
 loop-holds c = record { some = omega arith; size = refl; end = omega arith; run = refl }
 
-cast-t12 : tie.Need-cast-t12 Inv-loop μ-loop
-cast-t12 c = omega arith
+shared-slice-read-bar : tie.Need-shared-slice-read-bar Inv-loop μ-loop
+shared-slice-read-bar c = omega arith
 
-add-t13 : tie.Need-add-t13 Inv-loop μ-loop
-add-t13 c = omega arith
-
-shared-slice-read-at : tie.Need-shared-slice-read-at Inv-loop μ-loop
-shared-slice-read-at c = omega arith
-
-put-barred-requires : tie.Need-put-barred-requires Inv-loop μ-loop
-put-barred-requires c κs =
-    let turn = c .before .before .before .loop in
-    let first = c .before .before .before .before .before .before in
-    let inside = c .before .before .loop-test .taken in
-    let more = next-within (first .args .bars .now) (turn .i) inside in
-    (omega arith, first .pre .1, omega arith, first .pre .2 (turn .i) inside)
-
-shared-slice-read-at-2 : tie.Need-shared-slice-read-at-2 Inv-loop μ-loop
-shared-slice-read-at-2 c = omega arith
-
-cast-at : tie.Need-cast-at Inv-loop μ-loop
-cast-at c =
-    let turn = c .before .before .before .before .before .before .before .loop in
-    let first = c .before .before .before .before .before .before .before .before .before .before in
-    let low = first .pre .2 (turn .i) (c .before .before .before .before .before .before .loop-test .taken) in
+cast-bar : tie.Need-cast-bar Inv-loop μ-loop
+cast-bar c =
+    let low = low-bar (c .before) in
     omega arith
+
+cast-t14 : tie.Need-cast-t14 Inv-loop μ-loop
+cast-t14 c = let few = start-of (c .before) .pre .0 in omega arith
+
+add-t15 : tie.Need-add-t15 Inv-loop μ-loop
+add-t15 c = let few = start-of (c .before) .pre .0 in omega arith
+
+word-of-requires : tie.Need-word-of-requires Inv-loop μ-loop
+word-of-requires c κs =
+    let few = start-of (c .before) .pre .0 in
+    let own = start-of (c .before) .pre .1 in
+    (omega arith, omega arith, omega arith, omega arith)
+
+put-run-requires : tie.Need-put-run-requires Inv-loop μ-loop
+put-run-requires c κs =
+    let tested = c .before .before .before in
+    let first = start-of tested in
+    let more = next-within (first .args .bars .now) (tested .before .loop .i) (tested .loop-test .taken) in
+    let low = low-bar tested in
+    let few = first .pre .0 in
+    let own = first .pre .1 in
+    let size = tested .before .loop .inv .size in
+    let end = tested .before .loop .inv .end in
+    let word = c .before .word-of .ensures in
+    let room = first .pre .3 in
+    (omega arith, omega arith)
 
 mul-at : tie.Need-mul-at Inv-loop μ-loop
-mul-at c =
-    let turn = c .before .before .before .before .before .before .before .loop in
-    let first = c .before .before .before .before .before .before .before .before .before .before in
-    let low = first .pre .2 (turn .i) (c .before .before .before .before .before .before .loop-test .taken) in
-    omega arith
+mul-at c = let low = low-bar (c .before .before .before .before .before .before) in omega arith
 
 add-at : tie.Need-add-at Inv-loop μ-loop
 add-at c =
-    let turn = c .before .before .before .before .before .before .before .loop in
-    let first = c .before .before .before .before .before .before .before .before .before .before in
-    let bars = first .args .bars .now in
-    let end = turn .inv .end in
-    let more = next-within bars (turn .i) (c .before .before .before .before .before .before .loop-test .taken) in
-    let most = bars-most bars (length bars) (first .pre .2) in
-    let few = first .pre .0 in
+    let tested = c .before .before .before .before .before .before in
+    let first = start-of tested in
+    let more = next-within (first .args .bars .now) (tested .before .loop .i) (tested .loop-test .taken) in
+    let end = tested .before .loop .inv .end in
+    let room = first .pre .3 in
     omega arith
 
 add-i : tie.Need-add-i Inv-loop μ-loop
-add-i c = omega arith
+add-i c = let few = start-of (c .before .before .before .before .before .before) .pre .0 in omega arith
 
 loop-less : tie.Need-loop-less Inv-loop μ-loop
 loop-less c = omega arith
 
 loop-again : tie.Need-loop-again Inv-loop μ-loop
 loop-again c =
-    let done = c .before .before .before in
-    let turn = done .before .before .before .before .loop in
-    let a = done .before .before .before .before .before .before .before .args in
+    let done = c .before .before in
+    let tested = done .before .before .before .before in
+    let turn = tested .before .loop in
+    let first = start-of tested in
+    let a = first .args in
     let bars = a .bars .now in
+    let bar = getD bars (turn .i) 0 in
+    let few = first .pre .0 in
+    let inside = tested .loop-test .taken in
     record {
       some = omega arith;
-      size = done .put-barred .kept .0 ∙ turn .inv .size;
+      size = done .put-run .kept .0 ∙ turn .inv .size;
       end =
           (let next = ap (barsTo bars) (add-one (turn .i)) ∙ bars-next bars (turn .i) in
           let end = turn .inv .end in
           omega arith);
       run =
-          done .put-barred .ensures
-          ∙ ap (λ (l : List ℕ). sets l (turn .at) (quads (barred (a .owner .0) (turn .i + 1) (getD bars (turn .i) 0)))) (turn .inv .run)
+          done .put-run .ensures
+          ∙ ap₂ (λ (l : List ℕ) (w : ℕ). sets l (turn .at) (joined (λ k. bytes32 (w + 16777216 * k)) bar)) (turn .inv .run) (done .before .before .word-of .ensures)
+          ∙ ap (sets (sets (a .result .now) (a .start) (quads (allBarred (a .owner .0) bars (turn .i)))) (turn .at))
+          (barred-words (a .owner .0) (turn .i + 1) bar (first .pre .1) (omega arith) (low-bar tested))
           ∙ barred-next (a .owner .0) bars (a .result .now) (a .start) (turn .at) (turn .i) (turn .inv .end);
     }
 
@@ -127,12 +143,12 @@ put-all-barred-spec =
     Inv-loop
     μ-loop
     loop-holds
-    cast-t12
-    add-t13
-    shared-slice-read-at
-    put-barred-requires
-    shared-slice-read-at-2
-    cast-at
+    shared-slice-read-bar
+    cast-bar
+    cast-t14
+    add-t15
+    word-of-requires
+    put-run-requires
     mul-at
     add-at
     add-i

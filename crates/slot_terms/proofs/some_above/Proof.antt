@@ -1,14 +1,13 @@
 -- `slot_terms::some_above` meets its contract: no bar before the turn's is above m. Assumes nothing.
 use Prim.Native.Nat.{ℕ, suc, _-_, _<_, _≤_}
 use borrow.Author.Count.{below-more}
-use borrow.Author.Needs.{needs}
 use borrow.Author.Tests.{lt-ltb, le-ltb}
 use mathlib.Core.Bool.{Bool, false}
 use mathlib.Core.List.{List}
 use mathlib.Core.Path.{_≡_, sym}
 use native.Mathlib.Omega.{arith}
 use lib.Dec.{ltb}
-use lib.ListN.{length, getD}
+use lib.ListN.{length}
 use Rattle.basis.proofs.TestLaws.{any-at, none-any}
 use Rattle.slot_terms.specs.SlotTerms.{barFor}
 use Rattle.slot_terms.proofs.some_above.Statement.{statement}

@@ -1,19 +1,13 @@
 -- `slot_terms::write` meets its contract: each refusal comes before anything is written, and what is written are the conditions of the bars and, where they
 -- end, those of the limit. Assumes nothing.
-use Prim.Native.Nat.{ℕ, suc, _+_, _-_, _<_, _≤_}
+use Prim.Native.Nat.{ℕ, suc, _+_, _-_, _*_, _<_, _≤_}
 use borrow.Author.Needs.{needs}
-use mathlib.Core.Path.{_≡_, sym, _∙_, ap}
+use mathlib.Core.Path.{_≡_, sym, _∙_}
 use native.Mathlib.Omega.{arith}
 use lib.ListN.{length, getD}
 use Rattle.slot_terms.specs.SlotTerms.{barFor, ownerRefusal, profileRefusal, OwnerFits, TermsFit}
 use Rattle.slot_terms.specs.EngineTerms.{barsTo}
-use Rattle.slot_terms.proofs.WriteLaws.{
-  bars-most,
-  owner-refused,
-  profile-refused,
-  buffer-short,
-  terms-written,
-}
+use Rattle.slot_terms.proofs.WriteLaws.{bars-most, owner-refused, profile-refused, buffer-short, terms-written}
 use Rattle.slot_terms.proofs.RefusalLaws.{fits-owner, fits-terms}
 use Rattle.slot_terms.proofs.write.Statement.{statement}
 use Rattle.slot_terms.proofs.write.Tie as tie
@@ -22,9 +16,10 @@ use Rattle.slot_terms.proofs.write.Lts as lts
 use Rattle.slot_terms.proofs.owner_refusal.Reads as owner-refusal-reads
 use Rattle.slot_terms.proofs.profile_refusal.Reads as profile-refusal-reads
 use Rattle.slot_terms.proofs.put_all_barred.Reads as put-all-barred-reads
-use Rattle.slot_terms.proofs.put_beyond.Reads as put-beyond-reads
+use Rattle.slot_terms.proofs.put_run.Reads as put-run-reads
 use Rattle.slot_terms.proofs.refused.Reads as refused-reads
 use Rattle.slot_terms.proofs.sum_bars.Reads as sum-bars-reads
+use Rattle.slot_terms.proofs.word_of.Reads as word-of-reads
 
 -- where the call started, and what is known past each of its tests
 abbrev start : tie.After-owner-refusal → tie.Start
@@ -93,11 +88,17 @@ sum-bars-requires c κs =
     let all = given c .as-many in
     omega arith
 
+add-first : tie.Need-add-first
+add-first c = let limited = given (c .before) .most-limit in let slots = known (c .before .before .before) .most-slots in omega arith
+
+add-beyond : tie.Need-add-beyond
+add-beyond c = let slots = known (c .before .before .before) .most-slots in omega arith
+
 sub-beyond : tie.Need-sub-beyond
 sub-beyond c = let limited = given (c .before) .most-limit in omega arith
 
 cast-beyond : tie.Need-cast-beyond
-cast-beyond c = search needs
+cast-beyond c = let slots = known (c .before .before .before) .most-slots in omega arith
 
 add-count : tie.Need-add-count
 add-count c =
@@ -124,8 +125,8 @@ returns-3 c =
     buffer-short (a .n) (a .m) (a .owner) (a .limit) (a .bars .now) (a .result .now) (owned (past .before .before)) (proper past) _ (c .refused3 .ensures)
     (let sum = summed .sum-bars .ensures in let less = c .before .if3 .taken in omega arith)
 
-cast-t17 : tie.Need-cast-t17
-cast-t17 c =
+cast-t20 : tie.Need-cast-t20
+cast-t20 c =
     let is = known (c .before .before .before .before) in
     let bidders = is .most-bidders in
     let someone = is .most-owner in
@@ -141,33 +142,47 @@ put-all-barred-requires c κs =
     let all = given past .as-many in
     (omega arith, omega arith, low past, (let sum = summed .sum-bars .ensures in let room = c .before .if3 .left in omega arith))
 
-mul-put-beyond : tie.Need-mul-put-beyond
-mul-put-beyond c =
-    let summed = c .before .before .before .before .before .before in
+cast-t24 : tie.Need-cast-t24
+cast-t24 c =
+    let past = c .before .before .before .before .before .before in
+    let limited = given past .most-limit in
+    let slots = known (past .before .before) .most-slots in
+    omega arith
+
+word-of-requires : tie.Need-word-of-requires
+word-of-requires c κs =
+    let past = c .before .before .before .before .before .before in
+    let is = known (past .before .before) in
+    let bidders = is .most-bidders in
+    let someone = is .most-owner in
+    let limited = given past .most-limit in
+    let slots = is .most-slots in
+    (omega arith, omega arith, omega arith, omega arith)
+
+mul-put-run : tie.Need-mul-put-run
+mul-put-run c =
+    let summed = c .before .before .before .before .before .before .before in
     let most = few (summed .before) in
     let sum = summed .sum-bars .ensures in
     omega arith
 
-put-beyond-requires : tie.Need-put-beyond-requires
-put-beyond-requires c κs =
-    let barred-put = c .before .before .before in
-    let room = barred-put .before .before in
+put-run-requires : tie.Need-put-run-requires
+put-run-requires c κs =
+    let room = c .before .before .before .before .before .before in
     let past = room .before .before in
     let is = known (past .before .before) in
     let bidders = is .most-bidders in
-    let someone = is .most-owner in (
-      omega arith,
-      given past .most-limit,
-      is .most-slots,
-      (let sum = room .before .sum-bars .ensures in
-          let enough = room .if3 .left in
-          let same = barred-put .put-all-barred .kept .0 in
-          omega arith),
-    )
+    let someone = is .most-owner in
+    let slots = is .most-slots in
+    let limited = given past .most-limit in
+    let enough = room .if3 .left in
+    let same = c .before .before .before .before .put-all-barred .kept .0 in
+    let word = c .before .word-of .ensures in
+    (omega arith, omega arith)
 
-cast-t14 : tie.Need-cast-t14
-cast-t14 c =
-    let summed = c .before .before .before .before .before .before .before .before .before in
+cast-t17 : tie.Need-cast-t17
+cast-t17 c =
+    let summed = c .before .before .before .before .before .before .before .before .before .before in
     let most = few (summed .before) in
     let sum = summed .sum-bars .ensures in
     let slots = known (summed .before .before .before) .most-slots in
@@ -178,17 +193,26 @@ same-length c = search needs
 
 returns-4 : tie.Need-returns-4
 returns-4 c =
-    let beyond-put = c .before .before in
-    let barred-put = beyond-put .before .before .before .before in
+    let run-put = c .before .before in
+    let worded = run-put .before .before in
+    let barred-put = worded .before .before .before in
     let room = barred-put .before .before in
     let past = room .before .before in
+    let is = known (past .before .before) in
+    let bidders = is .most-bidders in
+    let someone = is .most-owner in
     let a = first past .args in
-    terms-written (a .n) (a .m) (a .owner) (a .limit) (a .bars .now) (a .result .now) (owned (past .before .before)) (proper past) _ _ _ _
-    (ap (λ (sum : ℕ). sum + (a .m - a .limit)) (room .before .sum-bars .ensures))
+    let sum = room .before .sum-bars .ensures in
+    let as-many : a .m + 1 - (a .limit + 1) ≡ a .m - a .limit = omega arith in
+    let at = 4 * room .before .sum-bars .result in
+    terms-written (a .n) (a .m) (a .owner) (a .limit) (a .bars .now) (a .result .now) (owned (past .before .before)) (proper past) _ _ at _ _ _
+    (omega arith)
     (room .if3 .left)
-    (let sum = room .before .sum-bars .ensures in omega arith)
+    (omega arith)
     (barred-put .put-all-barred .ensures)
-    (beyond-put .put-beyond .ensures)
+    (worded .word-of .ensures)
+    as-many
+    (run-put .put-run .ensures)
 
 pub write-spec : {M : Type 1} → statement M
 write-spec =
@@ -201,16 +225,20 @@ write-spec =
     refused-requires-2
     returns-2
     sum-bars-requires
+    add-first
+    add-beyond
     sub-beyond
     cast-beyond
     add-count
     mul-if3
     refused-requires-3
     returns-3
-    cast-t17
+    cast-t20
     put-all-barred-requires
-    mul-put-beyond
-    put-beyond-requires
-    cast-t14
+    cast-t24
+    word-of-requires
+    mul-put-run
+    put-run-requires
+    cast-t17
     same-length
     returns-4)
