@@ -3,9 +3,10 @@
 //
 // No sheet is read. How many constraints there are is known before any is written: one for each place of a bar, and one for each place below the limit. They go in
 // runs whose numbers differ by one step.
+ghost use mathlib.Core.Bool.{not, _||_};
 ghost use mathlib.Core.Path.{_≡_};
 ghost use Prim.Native.Nat.{ℕ, suc, _+_, _*_, _<_, _≤_};
-ghost use lib.Dec.{ltb};
+ghost use lib.Dec.{eqb, ltb};
 ghost use lib.ListN.{length, getD};
 ghost use lib.Seq.{sets};
 ghost use Rattle.basis.specs.Bytes.{bytes32};
@@ -69,9 +70,32 @@ fn some_above(bars: &[u8], m: u32) -> bool
     false
 }
 
+// Whether the list of bars is not n long, or has a bar above m.
+fn bars_wrong(bars: &[u8], n: u32, m: u32) -> bool
+    ensures { λ r. ⌜ r ≡ (not (eqb (length (now (bars .entry))) n) || anyBelow (λ i. ltb m (barFor (now (bars .entry)) (suc i))) n) ⌝ }
+{
+    if bars.len() != n as usize {
+        return true;
+    }
+    some_above(bars, m)
+}
+
+// The bar for a bidder, 0 where the list has none for it.
+fn bar_for(bars: &[u8], bidder: u32) -> u8
+    ensures { λ r. ⌜ r ≡ barFor (now (bars .entry)) bidder ⌝ }
+{
+    if bidder == 0 {
+        return 0;
+    }
+    let at = bidder as usize - 1;
+    if at < bars.len() {
+        return bars[at];
+    }
+    0
+}
+
 // 20, 21 or 22, or 0 for a limit and bars that give constraints.
 fn profile_refusal(n: u32, m: u32, owner: u32, limit: u32, bars: &[u8]) -> u32
-    requires { ⌜ (0 < owner) × (owner ≤ n) ⌝ }
     ensures { λ r. ⌜ r ≡ profileRefusal n m owner limit (now (bars .entry)) ⌝ }
 {
     if limit == 0 {
@@ -80,13 +104,12 @@ fn profile_refusal(n: u32, m: u32, owner: u32, limit: u32, bars: &[u8]) -> u32
     if m < limit {
         return 20;
     }
-    if bars.len() != n as usize {
+    let wrong = bars_wrong(bars, n, m);
+    let own = bar_for(bars, owner);
+    if wrong {
         return 21;
     }
-    if some_above(bars, m) {
-        return 21;
-    }
-    if bars[owner as usize - 1] != 0 {
+    if own != 0 {
         return 22;
     }
     0
@@ -163,17 +186,18 @@ pub fn write(n: u32, m: u32, owner: u32, limit: u32, bars: &[u8], result: &mut [
     let barred = sum_bars(bars);
     let first = limit + 1;
     let beyond = (m + 1 - first) as usize;
-    let count = barred + beyond;
-    if result.len() < 4 * count {
+    let bars_length = 4 * barred;
+    let limit_length = 4 * beyond;
+    if result.len() < bars_length + limit_length {
         return refused(19);
     }
     let owner = Bidder(owner as u16);
     put_all_barred(result, 0, owner, bars);
     let below = word_of(owner, Slot(first as u8), Bidder(0), Slot(0));
-    put_run(result, 4 * barred, below, OWN_STEP, beyond);
+    put_run(result, bars_length, below, OWN_STEP, beyond);
     Terms {
         refusal: 0,
-        count: count as u32,
+        count: (barred + beyond) as u32,
     }
 }
 

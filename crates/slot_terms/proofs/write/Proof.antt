@@ -69,7 +69,7 @@ returns c =
     (c .before .if1 .taken)
 
 profile-refusal-requires : tie.Need-profile-refusal-requires
-profile-refusal-requires c κs = (known c .some-owner, known c .most-owner)
+profile-refusal-requires c κs = search needs
 
 refused-requires-2 : tie.Need-refused-requires-2
 refused-requires-2 c κs = search needs
@@ -100,15 +100,14 @@ sub-beyond c = let limited = given (c .before) .most-limit in omega arith
 cast-beyond : tie.Need-cast-beyond
 cast-beyond c = let slots = known (c .before .before .before) .most-slots in omega arith
 
-add-count : tie.Need-add-count
-add-count c =
-    let most = few (c .before) in
-    let sum = c .sum-bars .ensures in
-    let slots = known (c .before .before .before) .most-slots in
-    omega arith
+mul-bars-length : tie.Need-mul-bars-length
+mul-bars-length c = let most = few (c .before) in let sum = c .sum-bars .ensures in omega arith
 
-mul-if3 : tie.Need-mul-if3
-mul-if3 c =
+mul-limit-length : tie.Need-mul-limit-length
+mul-limit-length c = let slots = known (c .before .before .before) .most-slots in omega arith
+
+add-if3 : tie.Need-add-if3
+add-if3 c =
     let most = few (c .before) in
     let sum = c .sum-bars .ensures in
     let slots = known (c .before .before .before) .most-slots in
@@ -125,8 +124,8 @@ returns-3 c =
     buffer-short (a .n) (a .m) (a .owner) (a .limit) (a .bars .now) (a .result .now) (owned (past .before .before)) (proper past) _ (c .refused3 .ensures)
     (let sum = summed .sum-bars .ensures in let less = c .before .if3 .taken in omega arith)
 
-cast-t20 : tie.Need-cast-t20
-cast-t20 c =
+cast-t21 : tie.Need-cast-t21
+cast-t21 c =
     let is = known (c .before .before .before .before) in
     let bidders = is .most-bidders in
     let someone = is .most-owner in
@@ -142,8 +141,8 @@ put-all-barred-requires c κs =
     let all = given past .as-many in
     (omega arith, omega arith, low past, (let sum = summed .sum-bars .ensures in let room = c .before .if3 .left in omega arith))
 
-cast-t24 : tie.Need-cast-t24
-cast-t24 c =
+cast-t25 : tie.Need-cast-t25
+cast-t25 c =
     let past = c .before .before .before .before .before .before in
     let limited = given past .most-limit in
     let slots = known (past .before .before) .most-slots in
@@ -159,13 +158,6 @@ word-of-requires c κs =
     let slots = is .most-slots in
     (omega arith, omega arith, omega arith, omega arith)
 
-mul-put-run : tie.Need-mul-put-run
-mul-put-run c =
-    let summed = c .before .before .before .before .before .before .before in
-    let most = few (summed .before) in
-    let sum = summed .sum-bars .ensures in
-    omega arith
-
 put-run-requires : tie.Need-put-run-requires
 put-run-requires c κs =
     let room = c .before .before .before .before .before .before in
@@ -180,8 +172,16 @@ put-run-requires c κs =
     let word = c .before .word-of .ensures in
     (omega arith, omega arith)
 
-cast-t17 : tie.Need-cast-t17
-cast-t17 c =
+add-t19 : tie.Need-add-t19
+add-t19 c =
+    let summed = c .before .before .before .before .before .before .before .before .before .before in
+    let most = few (summed .before) in
+    let sum = summed .sum-bars .ensures in
+    let slots = known (summed .before .before .before) .most-slots in
+    omega arith
+
+cast-t18 : tie.Need-cast-t18
+cast-t18 c =
     let summed = c .before .before .before .before .before .before .before .before .before .before in
     let most = few (summed .before) in
     let sum = summed .sum-bars .ensures in
@@ -207,7 +207,7 @@ returns-4 c =
     let at = 4 * room .before .sum-bars .result in
     terms-written (a .n) (a .m) (a .owner) (a .limit) (a .bars .now) (a .result .now) (owned (past .before .before)) (proper past) _ _ at _ _ _
     (omega arith)
-    (room .if3 .left)
+    (let enough = room .if3 .left in omega arith)
     (omega arith)
     (barred-put .put-all-barred .ensures)
     (worded .word-of .ensures)
@@ -229,16 +229,17 @@ write-spec =
     add-beyond
     sub-beyond
     cast-beyond
-    add-count
-    mul-if3
+    mul-bars-length
+    mul-limit-length
+    add-if3
     refused-requires-3
     returns-3
-    cast-t20
+    cast-t21
     put-all-barred-requires
-    cast-t24
+    cast-t25
     word-of-requires
-    mul-put-run
     put-run-requires
-    cast-t17
+    add-t19
+    cast-t18
     same-length
     returns-4)
