@@ -26,7 +26,7 @@ fn of_terms(random: &mut Random, size: Size, bidder: u8) -> Vec<slow::Constraint
     of.bars[usize::from(bidder) - 1] = 0;
     let (mut result, limit) = ([0; 4092], Slot(of.limit as u8));
     let count = pas::slot_terms_into(size.bidders, size.slots, Bidder(bidder), limit, &of.bars, &mut result).expect("terms that are right");
-    result.as_chunks().0[..count].to_vec()
+    result.chunks_exact(4).take(count).map(|field| [field[0], field[1], field[2], field[3]]).collect()
 }
 
 fn sheet(round: &slow::Round) -> Sheet {

@@ -189,8 +189,11 @@ fn every_bar_is_looked_at() {
     }
 }
 
-/// Terms that are right, and what makes each rule refuse them, in the order of the rules.
-const FAULTS: [(u32, fn(&mut Call)); 6] = [
+/// A rule's number, and what makes a call break it.
+type Fault = (u32, fn(&mut Call));
+
+/// A fault for each rule but that of the buffer, in the order of the rules.
+const FAULTS: [Fault; 6] = [
     (4, |call| call.n = 65),
     (5, |call| call.m = 0),
     (16, |call| call.owner = 0),
@@ -200,7 +203,7 @@ const FAULTS: [(u32, fn(&mut Call)); 6] = [
 ];
 
 /// The same, each at the other end of its rule.
-const OTHER_FAULTS: [(u32, fn(&mut Call)); 6] = [
+const OTHER_FAULTS: [Fault; 6] = [
     (4, |call| call.n = 0),
     (5, |call| call.m = 17),
     (16, |call| call.owner = 66),
