@@ -31,16 +31,17 @@ pub fn write(m: u32, owner: u32, limit: u32, bars: &[u8], result: &mut [u8]) -> 
     let barred: usize = bars.iter().map(|&bar| usize::from(bar)).sum();
     let count = barred + (m - limit) as usize;
     let (mut rest, _) = result.get_mut(..4 * count)?.as_chunks_mut::<4>();
-    let owner = owner as u8;
+    // A constraint is one word, low byte first, so that the compiler writes several at once.
     for (other, &bar) in (1..).zip(bars) {
         let (of_bar, later) = rest.split_at_mut(usize::from(bar));
+        let pair: u32 = owner | other << 16;
         for (slot, to) in (1..).zip(of_bar) {
-            *to = [owner, 0, other, slot];
+            *to = (pair | slot << 24).to_le_bytes();
         }
         rest = later;
     }
-    for (own, to) in (limit as u8 + 1..).zip(rest) {
-        *to = [owner, own, 0, 0];
+    for (own, to) in (limit + 1..).zip(rest) {
+        *to = (owner | own << 8).to_le_bytes();
     }
     Some(count as u32)
 }
