@@ -3,8 +3,9 @@
 //! A page has slots from the top down, each with an effect. Bidders bid per click and set constraints: slots where they will not stand,
 //! and bidders beside whom they will not stand. The library fills the page, charges each winner the smallest bid with which it would still
 //! have won its slot, tells whether a bidder's list is downward monotonic, works out what a bidder gains, finds the best page of a
-//! small round, shows where in a sheet one bidder's constraints stand, writes the one sheet of version 2 for a round, and writes a bidder's constraints from
-//! its top-of-page terms. Page, gain and best page are there with a floor under each slot too. Its answers are proved, refusals included; this crate adds types and no judgement of its own.
+//! small round, shows where in a sheet one bidder's constraints stand, writes the one sheet of version 2 for a round, and writes a bidder's
+//! constraints from its top-of-page terms. Page, gain and best page are there with a floor under each slot too. Its answers are proved, refusals
+//! included; this crate adds types and no judgement of its own.
 //!
 //! The C header `include/pas.h` is the manual: the sheet's layout, the limits, what each call means. It says "place" for a slot and
 //! "condition" for a constraint, and so do the sentences of a [`Refusal`]; `docs/EMBEDDING.md` of the repository has the table of words.
