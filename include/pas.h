@@ -1,12 +1,13 @@
 /*
- * pas.h - position pages with bidders' conditions, the ten calls of libpas.a
+ * pas.h - position pages with bidders' conditions, the eleven calls of libpas.a
  *
  * A search page has a few paid places. Suppliers, the bidders, bid per click and list conditions (where they will not
  * stand, beside whom). The library fills the places from the top, charges each winner a second price, tests a bidder's
  * list, works out a bidder's gain, finds the best page of a small round, shows where in a sheet one bidder's conditions
- * stand and writes the one sheet of version 2 for a round. Playing, gain and best page have a second form, with a floor
- * under each place. It is proved: each call meets its description below for every input. It allocates nothing, keeps
- * nothing between calls and calls nothing but memcpy and memset.
+ * stand, writes the one sheet of version 2 for a round and writes a bidder's conditions from its top-of-page terms.
+ * Playing, gain and best page have a second form, with a floor under each place. It is proved: each call meets its
+ * description below for every input. It allocates nothing, keeps nothing between calls and calls nothing but memcpy and
+ * memset.
  *
  * Build:   ./build-library            (proves, and gives target/staticlib/libpas.a, for x86-64 Linux)
  * Link:    cc program.c -I include target/staticlib/libpas.a
@@ -59,8 +60,8 @@
  * What holds for every call
  *
  * - It returns PAS_OK (0), or the number of the first rule that the call breaks, in the order of the list below.
- * - A refused call writes nothing: no byte of a result, and nothing to *answer, *gain, *total, *start, *length or
- *   *written.
+ * - A refused call writes nothing: no byte of a result, and nothing to *answer, *gain, *total, *start, *length,
+ *   *written or *count.
  * - A call that is not refused writes what its description says and nothing else. It does not read what it writes to,
  *   so that memory need not be set before.
  * - The same bytes and numbers get the same answer, always.
@@ -73,11 +74,11 @@
  * - No pointer is null, also where the length is 0. The proofs speak of slices, and nothing in the toolchain says that
  *   null is one, so no answer is promised there. An empty std::vector may have one: pas_to_read, pas_to_write and
  *   pas_to_read_floors below give another pointer instead. Where the length is 0 any other pointer will do.
- * - Sheets, results and *answer are bytes and may lie at any address. Floors must be aligned as uint32_t is (4 bytes);
- *   *gain, *total, *start, *length and *written as int64_t, uint64_t and size_t are (8 bytes). Each variable and each
- *   array of these types is.
- * - What a call writes overlaps neither what it reads nor another thing that it writes. Sheets and floors are only read
- *   and may overlap.
+ * - Sheets, bars, results and *answer are bytes and may lie at any address. Floors and *count must be aligned as
+ *   uint32_t is (4 bytes); *gain, *total, *start, *length and *written as int64_t, uint64_t and size_t are (8 bytes).
+ *   Each variable and each array of these types is.
+ * - What a call writes overlaps neither what it reads nor another thing that it writes. Sheets, bars and floors are
+ *   only read and may overlap.
  * - While a call runs nobody else writes what it reads, nor touches what it writes. Otherwise calls may run in several
  *   threads at once, on the same sheet too: the library has no variables of its own.
  * - There is enough stack, see PAS_STACK_PLAY and the others below.
@@ -97,9 +98,9 @@ extern "C" {
 /* ---- Version ---- */
 
 /* The version of the library and of this file. CHANGELOG.md says what each one brought, and what a new number means. */
-#define PAS_VERSION "2.2.0"
+#define PAS_VERSION "2.3.0"
 #define PAS_VERSION_MAJOR 2
-#define PAS_VERSION_MINOR 2
+#define PAS_VERSION_MINOR 3
 #define PAS_VERSION_PATCH 0
 
 /* ---- Sizes ---- */
@@ -130,6 +131,9 @@ extern "C" {
 #define PAS_PLACE_LENGTH 5u
 #define PAS_MAX_RESULT_LENGTH 80u
 
+/* bytes of the longest list that pas_slot_terms writes, of 1,023 conditions */
+#define PAS_MAX_TERMS_LENGTH 4092u
+
 /* ---- Stack ---- */
 
 /*
@@ -146,6 +150,7 @@ extern "C" {
  *   pas_gain_floors    15,080  about 18,300          40,960
  *   pas_best_floors     7,008  about  7,200          20,480
  *   pas_canonical       9,512  about 12,500          20,480
+ *   pas_slot_terms        100           100           1,024
  *
  * These are measured and not proved: nothing in the toolchain bounds a stack. examples/c/stack measures them, on the
  * largest sheets, on refused ones and on random ones, and fails where a call takes more than its figure. The table is
@@ -154,8 +159,8 @@ extern "C" {
  * more above "measured", for that and for another C library.
  *
  * A thread with 64 KB of stack does for every call; by the figures one of 16 KB, PTHREAD_STACK_MIN, does for
- * pas_check and pas_owner_part alone. A call that finds too little stack runs into the guard page and ends the program;
- * where there is no guard page, as below many a coroutine's stack, it overwrites what lies there.
+ * pas_check, pas_owner_part and pas_slot_terms alone. A call that finds too little stack runs into the guard page and
+ * ends the program; where there is no guard page, as below many a coroutine's stack, it overwrites what lies there.
  */
 #define PAS_STACK_CHECK 1024u
 #define PAS_STACK_PLAY 28672u
@@ -167,8 +172,9 @@ extern "C" {
 #define PAS_STACK_GAIN_FLOORS PAS_STACK_GAIN
 #define PAS_STACK_BEST_FLOORS PAS_STACK_BEST
 #define PAS_STACK_CANONICAL 20480u
+#define PAS_STACK_SLOT_TERMS 1024u
 
-/* the largest of the ten */
+/* the largest of the eleven */
 #define PAS_MAX_STACK PAS_STACK_GAIN
 
 /* ---- Numbers of a refused call, in checking order ---- */
@@ -202,6 +208,9 @@ enum {
     PAS_WRONG_BIDDER = 16,      /* The bidder named in the call is 0 or above n. */
     PAS_WRONG_WORTH = 17,       /* The worth is above 1,000,000,000. */
     PAS_TOO_LARGE_FOR_BEST = 18, /* The best page is sought with n above 8 or m above 8. */
+    PAS_WRONG_LIMIT = 20,       /* The limit is 0 or above m. */
+    PAS_WRONG_BARS = 21,        /* The list of bars is not n long, or a bar is above m. */
+    PAS_BAR_AGAINST_OWNER = 22, /* The bar against the owner is not 0. */
     PAS_RESULT_TOO_SHORT = 19   /* The result buffer is shorter than the bytes to be written. */
 };
 
@@ -238,7 +247,8 @@ static inline const uint32_t *pas_to_read_floors(const uint32_t *pointer, size_t
 /* ---- The calls ---- */
 
 /*
- * Checks a sheet: 1 to 13 or 26 to 28, or PAS_OK for an accepted sheet. Every other call does this by itself.
+ * Checks a sheet: 1 to 13 or 26 to 28, or PAS_OK for an accepted sheet. Every other call that takes a sheet does this
+ * by itself.
  */
 uint32_t pas_check(const uint8_t *sheet, size_t sheet_len);
 
@@ -346,6 +356,36 @@ uint32_t pas_owner_part(const uint8_t *sheet, size_t sheet_len, uint32_t bidder,
  * Refused with 1 to 13, 26 to 28, or 19 where result_len is below the length of the sheet to be written.
  */
 uint32_t pas_canonical(const uint8_t *sheet, size_t sheet_len, uint8_t *result, size_t result_len, size_t *written);
+
+/*
+ * Writes a bidder's conditions from its top-of-page terms, the numbers that buyers think in: the lowest place that it
+ * accepts, its limit, and for each other bidder how many top places that one must not have, the bar against it. No
+ * sheet is read: n and m are those of the sheet that the conditions are meant for. The bars are n bytes, that against
+ * bidder 1 first; the one against the owner itself is 0.
+ *
+ * - A bar B against bidder j gives (owner, 0, j, 1) to (owner, 0, j, B), and a bar of 0 none: the owner will not stand
+ *   on a page that has j at one of the places 1 to B.
+ * - A limit L gives (owner, L + 1, 0, 0) to (owner, m, 0, 0), and a limit of m none: the owner will not stand below
+ *   place L.
+ *
+ * Writes them to the start of the result, four bytes each, in rising order: those of the bars, by bidder and then by
+ * place, and after them those of the limit. Writes to *count how many there are, which may be 0. Later bytes stay as
+ * they were. There are at most 1,023, so a result of PAS_MAX_TERMS_LENGTH bytes always does.
+ *
+ * With n 3 and m 3, owner 2, limit 2 and bars 1, 0, 3 give five conditions:
+ *
+ *   (2, 0, 1, 1)   (2, 0, 3, 1)   (2, 0, 3, 2)   (2, 0, 3, 3)   (2, 3, 0, 0)
+ *
+ * Proved of them: on a sheet with that n and m none of them breaks any of 10 to 13. The list is downward monotonic for
+ * that m: on an accepted sheet with that n and m on which the owner's list is this one, in any order, pas_downward
+ * answers 1. So on such sheets what is proved of pas_gain, and of pas_gain_floors, holds with this as the bidder's list
+ * in `other`, and no test need be made.
+ *
+ * Refused with 4, 5, 16 for the owner, 20, 21, which counts the owner's own bar too, 22, or 19 where result_len is
+ * below 4 times the number of conditions.
+ */
+uint32_t pas_slot_terms(uint32_t n, uint32_t m, uint32_t owner, uint32_t limit, const uint8_t *bars, size_t bars_len,
+                        uint8_t *result, size_t result_len, uint32_t *count);
 
 /* ---- The calls with floors ---- */
 

@@ -30,9 +30,9 @@ fn main() -> ExitCode {
 
 /// What a row is about: part, call, size and kind, as the first columns of a table.
 fn title(part: &str, row: &Row) -> String {
-    let (call, manner) = (row.call.name(), row.manner.name());
+    let (call, kind) = (row.call.name(), row.kind());
     let size = row.size;
-    format!("| {part:<13} | {call:<11} | {:>2} | {:>2} | {:>4} | {manner:<10} |", size.bidders, size.slots, size.constraints)
+    format!("| {part:<13} | {call:<11} | {:>2} | {:>2} | {:>4} | {kind:<10} |", size.bidders, size.slots, size.constraints)
 }
 
 /// The heads of those columns, and the rules below them.

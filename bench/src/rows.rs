@@ -29,6 +29,7 @@ pub fn rows() -> Vec<Row> {
     rows.extend(with_floors("floors above", None, Floors::Above));
     rows.extend(with_floors("floors, v. 2", TICK, Floors::OffTick));
     rows.extend(canonical());
+    rows.extend(slot_terms());
     rows
 }
 
@@ -72,6 +73,14 @@ fn canonical() -> Vec<Row> {
     rows.extend(KINDS.map(of_kind));
     rows.extend(SIZES.map(|size| row("version 2", size, Manner::Mixed, TICK)));
     rows
+}
+
+/// Top-of-page terms that give few constraints and many, and the largest list.
+fn slot_terms() -> Vec<Row> {
+    let row = |part, size| Row { part, call: Call::SlotTerms, size, manner: Manner::Mixed, tick: None, floors: NONE };
+    let few = [size(4, 3, 3), size(8, 4, 8), size(64, 16, 64)].map(|size| row("few terms", size));
+    let many = [size(8, 4, 24), size(64, 16, 512)].map(|size| row("many terms", size));
+    few.into_iter().chain(many).chain([row("largest", size(64, 16, 1023))]).collect()
 }
 
 /// Kinds of constraint beside the mixed ones.

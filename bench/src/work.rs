@@ -1,12 +1,12 @@
 //! What is measured: a call on sheets of one size and one manner, by either engine.
 
-use independent::random::{floors, in_ticks, round, Floors, Manner, Random, Size};
-use independent::slow::Round;
+use independent::random::{floors, in_ticks, round, terms_of_size, Floors, Manner, Random, Size};
+use independent::slow::{Round, Terms};
 use independent::{engine, slow};
 use pas::raw;
 use std::hint::black_box;
 
-/// The five calls of document 01, and of document 02 the part, the second forms, with floors, and the canonical sheet.
+/// The five calls of document 01, and of document 02 the part, the second forms, with floors, the canonical sheet and the top-of-page terms.
 #[derive(Clone, Copy, Debug, PartialEq)]
 pub enum Call {
     Check,
@@ -19,6 +19,7 @@ pub enum Call {
     GainFloors,
     BestFloors,
     Canonical,
+    SlotTerms,
 }
 
 impl Call {
@@ -35,6 +36,7 @@ impl Call {
             Call::GainFloors => "gain floors",
             Call::BestFloors => "best floors",
             Call::Canonical => "canonical",
+            Call::SlotTerms => "slot terms",
         }
     }
 
@@ -56,7 +58,7 @@ pub enum Engine {
     Rust,
 }
 
-/// One line of the table.
+/// One line of the table. Of top-of-page terms the size is how many constraints they give, for so many bidders and slots.
 #[derive(Clone, Copy)]
 pub struct Row {
     pub part: &'static str,
@@ -69,20 +71,31 @@ pub struct Row {
     pub floors: Floors,
 }
 
-/// One call's input: a sheet and, for the calls that take them, floors, a bidder, a worth and a truth sheet.
+impl Row {
+    /// The kind of constraints in words, for a table.
+    pub fn kind(&self) -> &'static str {
+        match self.call {
+            Call::SlotTerms => "terms",
+            _ => self.manner.name(),
+        }
+    }
+}
+
+/// One call's input: a sheet and, for the calls that take them, floors, a bidder, a worth, a truth sheet and top-of-page terms.
 pub struct Input {
     sheet: Vec<u8>,
     floors: Vec<u32>,
     truth: Vec<u8>,
     bidder: u32,
     worth: u32,
+    terms: Terms,
 }
 
-/// The inputs of a row, from a fixed seed, so that all runs measure the same. Floors have a seed of their own: with them a row has the rounds that
-/// it has without.
+/// The inputs of a row, from a fixed seed, so that all runs measure the same. Floors and terms have a seed of their own: with them a row has the rounds
+/// that it has without.
 pub fn inputs(row: &Row, count: usize) -> Vec<Input> {
-    let (mut random, mut of_floors) = (Random::seeded(2026), Random::seeded(7));
-    (0..count).map(|_| input(&mut random, &mut of_floors, row)).collect()
+    let (mut random, mut of_lent) = (Random::seeded(2026), Random::seeded(7));
+    (0..count).map(|_| input(&mut random, &mut of_lent, row)).collect()
 }
 
 /// A round of a row. Repeats, which version 2 does not have, are drawn anew.
@@ -96,9 +109,9 @@ fn drawn(random: &mut Random, row: &Row) -> Round {
     drawn
 }
 
-fn input(random: &mut Random, of_floors: &mut Random, row: &Row) -> Input {
+fn input(random: &mut Random, of_lent: &mut Random, row: &Row) -> Input {
     let (played, truth) = (drawn(random, row), drawn(random, row));
-    let floors = floors(of_floors, &played, row.floors);
+    let floors = floors(of_lent, &played, row.floors);
     let (sheet, truth) = (slow::sheet(&played), slow::sheet(&truth));
     let mut page = [0; 80];
     assert_eq!(engine::play_floors(&sheet, &floors, &mut page), 0, "measured sheets are good");
@@ -106,7 +119,12 @@ fn input(random: &mut Random, of_floors: &mut Random, row: &Row) -> Input {
     let winners: Vec<u8> = page.chunks_exact(5).map(|slot| slot[0]).filter(|&bidder| bidder > 0).collect();
     let pick = random.number() as usize;
     let bidder = if winners.is_empty() { 1 } else { winners[pick % winners.len()] };
-    Input { sheet, floors, truth, bidder: u32::from(bidder), worth: random.between(0, 1_000_000_000) as u32 }
+    // Only the row of terms has a size that terms can have.
+    let terms = match row.call {
+        Call::SlotTerms => terms_of_size(of_lent, row.size),
+        _ => Terms { bidders: 0, slots: 0, owner: 0, limit: 0, bars: Vec::new() },
+    };
+    Input { sheet, floors, truth, bidder: u32::from(bidder), worth: random.between(0, 1_000_000_000) as u32, terms }
 }
 
 /// The bytes of the longest sheet.
@@ -139,6 +157,7 @@ fn answer_by_library(call: Call, input: &Input, room: &mut [u8]) {
         Call::GainFloors => raw::gain_floors(sheet, &input.floors, &input.truth, input.bidder, input.worth, &mut gain),
         Call::BestFloors => raw::best_floors(sheet, &input.floors, &mut result, &mut total),
         Call::Canonical => canonical(sheet, room, raw::canonical),
+        Call::SlotTerms => slot_terms(&input.terms, room, raw::slot_terms),
     };
     black_box((number, &result, answer, gain, total, start, length));
 }
@@ -149,6 +168,15 @@ fn canonical(sheet: &[u8], room: &mut [u8], call: impl Fn(&[u8], &mut [u8], &mut
     let mut written = 0;
     let number = call(sheet, room, &mut written);
     black_box((room, written));
+    number
+}
+
+/// Apart for the same reason, and to the same buffer.
+#[inline(never)]
+fn slot_terms(of: &Terms, room: &mut [u8], call: impl Fn(u32, u32, u32, u32, &[u8], &mut [u8], &mut u32) -> u32) -> u32 {
+    let (of, mut count) = (black_box(of), 0);
+    let number = call(of.bidders, of.slots, of.owner, of.limit, &of.bars, room, &mut count);
+    black_box((room, count));
     number
 }
 
@@ -168,6 +196,7 @@ fn answer_by_rust(call: Call, input: &Input, room: &mut [u8]) {
         Call::GainFloors => engine::gain_floors(sheet, &input.floors, &input.truth, input.bidder, input.worth, &mut gain),
         Call::BestFloors => engine::best_floors(sheet, &input.floors, &mut result, &mut total),
         Call::Canonical => canonical(sheet, room, engine::canonical),
+        Call::SlotTerms => slot_terms(&input.terms, room, engine::slot_terms),
     };
     black_box((number, &result, answer, gain, total, start, length));
 }

@@ -2,7 +2,8 @@
  * Round H of document 01 from C: builds its sheet, prints the page with its prices as the page program does, then a
  * bidder's gain and the best page; then the page of the same round with bids in ticks, a sheet of version 2, and two
  * bidders' conditions where they stand in that sheet; then page, gain and best page of that sheet with a floor under
- * each place; then whether other sheets say the round that a sheet of version 1 in disorder says.
+ * each place; then whether other sheets say the round that a sheet of version 1 in disorder says; then the conditions
+ * that a bidder's top-of-page terms give, and the page of the round with them in place of the others.
  */
 #include <inttypes.h>
 #include <stdio.h>
@@ -155,6 +156,31 @@ static int compare(const uint8_t *one, size_t one_length, const uint8_t *other, 
     return 0;
 }
 
+/* prints the conditions that terms of 4 give and the page of the round with them alone; whether a call is refused */
+static int show_terms(uint32_t limit, const uint8_t *bars) {
+    uint8_t sheet[PAS_SHEET_LENGTH(BIDDERS, PLACES, 0) + PAS_MAX_TERMS_LENGTH];
+    uint8_t *list = sheet + build(sheet, 0) - sizeof conditions;
+    uint32_t count = 0;
+    uint32_t number = pas_slot_terms(BIDDERS, PLACES, 4, limit, bars, BIDDERS, list, PAS_MAX_TERMS_LENGTH, &count);
+    if (number != PAS_OK) {
+        return refused("pas_slot_terms", number);
+    }
+    for (const uint8_t *at = list; at < list + 4 * (size_t)count; at += 4) {
+        printf("(%d,%d,%d,%d)%s", at[0], at[1], at[2], at[3], at + 4 < list + 4 * (size_t)count ? " " : "\n");
+    }
+    /* the conditions stand where the sheet has them; their number is the field before */
+    sheet[7] = (uint8_t)count;
+    sheet[8] = (uint8_t)(count >> 8);
+    size_t length = PAS_SHEET_LENGTH(BIDDERS, PLACES, count);
+    uint8_t downward = 0;
+    number = pas_downward(sheet, length, 4, &downward);
+    if (number != PAS_OK) {
+        return refused("pas_downward", number);
+    }
+    printf("downward monotonic: %s\n", downward ? "yes" : "no");
+    return play(sheet, length);
+}
+
 int main(void) {
     uint8_t sheet[PAS_SHEET_LENGTH(BIDDERS, PLACES, CONDITIONS) + PAS_TICK_LENGTH];
     size_t length = build(sheet, 0);
@@ -216,5 +242,18 @@ int main(void) {
     size_t written = 0;
     number = pas_canonical(kept, kept_length, too_short, sizeof too_short, &written);
     printf("with a byte too few: refused %" PRIu32 "\n", number);
+
+    /* 4 takes no place below 2, and will not stand where 3 has place 1 or 2, nor where 1 has place 1 */
+    static const uint8_t bars[BIDDERS] = {1, 0, 2, 0};
+    printf("terms of 4, limit 2 and bars 1, 0, 2, 0:\n");
+    if (show_terms(2, bars)) {
+        return 1;
+    }
+    uint8_t list[PAS_MAX_TERMS_LENGTH];
+    uint32_t count = 0;
+    number = pas_slot_terms(BIDDERS, PLACES, 4, PLACES + 1, bars, BIDDERS, list, sizeof list, &count);
+    printf("with a limit below the page: refused %" PRIu32 "\n", number);
+    number = pas_slot_terms(BIDDERS, PLACES, 3, 2, bars, BIDDERS, list, sizeof list, &count);
+    printf("with a bar against the owner: refused %" PRIu32 "\n", number);
     return 0;
 }

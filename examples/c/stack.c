@@ -7,7 +7,8 @@
  * went. All that the call puts on the stack counts: its return address, its frames, those of memcpy and memset, and in
  * the first call those of the dynamic linker, which then looks the two up. The sheets are the largest ones, refused
  * ones and random ones from a fixed seed, of both versions, in version 2 with the conditions in order and out of it.
- * Floors are 0, any, as high as they may be, too many and too high.
+ * Floors are 0, any, as high as they may be, too many and too high. Top-of-page terms are the largest, random ones and
+ * refused ones.
  *
  * This file calls neither memcpy nor memset, so that they are looked up in the first call that is measured (the script
  * `stack` sees to it).
@@ -180,6 +181,11 @@ static void make_numbered(struct sheet *sheet, uint32_t number) {
     }
 }
 
+/* a count that stands in a sheet, or where that is damaged and no sheet can have it, the nearest that one can */
+static uint32_t count_near(uint8_t byte, uint32_t most) {
+    return byte == 0 ? 1 : byte > most ? most : byte;
+}
+
 /* ---- Floors ---- */
 
 struct floors {
@@ -198,6 +204,34 @@ static void make_floors(struct floors *floors, uint32_t number, uint32_t m) {
     }
     if (number % 8 == 6) {
         floors->numbers[0] = PAS_MAX_FLOOR + 1;
+    }
+}
+
+/* ---- Top-of-page terms ---- */
+
+struct terms {
+    uint32_t n, m, owner, limit;
+    uint8_t bars[PAS_MAX_BIDDERS + 1];
+    size_t count;
+};
+
+/*
+ * the terms by number: the largest first, then random ones; of every eight one has a limit too high, one a bar too
+ * many, one a bar too high and one a bar against the owner
+ */
+static void make_terms(struct terms *terms, uint32_t number) {
+    int largest = number < ROUNDS / 4;
+    terms->n = largest ? PAS_MAX_BIDDERS : between(1, PAS_MAX_BIDDERS);
+    terms->m = largest ? PAS_MAX_PLACES : between(1, PAS_MAX_PLACES);
+    terms->owner = between(1, terms->n);
+    terms->limit = number % 8 == 1 ? terms->m + 1 : largest ? 1 : between(1, terms->m);
+    terms->count = terms->n + (number % 8 == 3);
+    for (size_t i = 0; i < terms->count; i++) {
+        terms->bars[i] = (uint8_t)(largest ? terms->m : between(0, terms->m));
+    }
+    terms->bars[terms->owner - 1] = number % 8 == 7;
+    if (number % 8 == 5) {
+        terms->bars[between(0, terms->n - 1)] = PAS_MAX_PLACES + 1;
     }
 }
 
@@ -247,13 +281,15 @@ static inline __attribute__((always_inline)) size_t depth_below(const uint8_t *t
 /* the calls' own data lie outside the stack that is painted */
 static struct sheet sheet, truth;
 static struct floors floors;
+static struct terms terms;
 static uint8_t result[PAS_MAX_RESULT_LENGTH];
 static uint8_t canonical_sheet[PAS_MAX_SHEET_LENGTH];
+static uint8_t conditions[PAS_MAX_TERMS_LENGTH];
 static uint8_t answer;
 static int64_t gain;
 static uint64_t total;
 static size_t start, length, written;
-static uint32_t bidder, worth;
+static uint32_t bidder, worth, count;
 static uint32_t number;
 
 /* the depth of one call, which leaves its number in `number` */
@@ -277,6 +313,8 @@ MEASURED(gain_floors, pas_gain_floors(sheet.bytes, sheet.length, floors.numbers,
 MEASURED(best_floors,
          pas_best_floors(sheet.bytes, sheet.length, floors.numbers, floors.count, result, sizeof result, &total))
 MEASURED(canonical, pas_canonical(sheet.bytes, sheet.length, canonical_sheet, sizeof canonical_sheet, &written))
+MEASURED(slot_terms, pas_slot_terms(terms.n, terms.m, terms.owner, terms.limit, terms.bars, terms.count, conditions,
+                                    sizeof conditions, &count))
 
 static const struct call {
     const char *name;
@@ -293,6 +331,7 @@ static const struct call {
     {"pas_gain_floors", gain_floors, PAS_STACK_GAIN_FLOORS},
     {"pas_best_floors", best_floors, PAS_STACK_BEST_FLOORS},
     {"pas_canonical", canonical, PAS_STACK_CANONICAL},
+    {"pas_slot_terms", slot_terms, PAS_STACK_SLOT_TERMS},
 };
 
 enum { CALLS = sizeof calls / sizeof calls[0] };
@@ -326,13 +365,16 @@ static void *measure(void *given) {
     make(&sheet, 0, PAS_MAX_BEST_BIDDERS, PAS_MAX_BEST_PLACES, PAS_MAX_CONDITIONS, PAS_MAX_BID, PAIRS);
     make(&truth, 0, PAS_MAX_BEST_BIDDERS, PAS_MAX_BEST_PLACES, PAS_MAX_CONDITIONS, PAS_MAX_BID, PAIRS);
     make_floors(&floors, 0, PAS_MAX_BEST_PLACES);
+    make_terms(&terms, 0);
     found.first = call->measured(0xa5);
     for (uint32_t round = 0; round < ROUNDS; round++) {
         make_numbered(&sheet, round);
         make_floors(&floors, round, sheet.bytes[6]);
+        make_terms(&terms, round);
         /* the truth sheet has as many bidders and places, but for one time in 16 */
-        uint32_t n = round % 16 ? sheet.bytes[5] : 1;
-        make(&truth, ticks[round / 2 % TICKS], n, sheet.bytes[6], round % 2 ? PAS_MAX_CONDITIONS : 0, 1, MIXED);
+        uint32_t n = round % 16 ? count_near(sheet.bytes[5], PAS_MAX_BIDDERS) : 1;
+        uint32_t m = count_near(sheet.bytes[6], PAS_MAX_PLACES);
+        make(&truth, ticks[round / 2 % TICKS], n, m, round % 2 ? PAS_MAX_CONDITIONS : 0, 1, MIXED);
         bidder = between(round % 16 ? 1 : 0, sheet.bytes[5]);
         measure_later(call);
     }
@@ -387,7 +429,7 @@ int main(void) {
             within = 0;
         }
         if (of.accepted == 0 || of.refused == 0) {
-            fprintf(stderr, "%s is not measured on sheets of both kinds\n", calls[i].name);
+            fprintf(stderr, "%s is not measured on calls of both kinds\n", calls[i].name);
             within = 0;
         }
     }

@@ -1,6 +1,6 @@
 /*
- * Sheets, results and floors in vectors, which may be empty: pas_to_read, pas_to_write and pas_to_read_floors take the
- * place of the null pointer that an empty vector has.
+ * Sheets, results, floors and bars in vectors, which may be empty: pas_to_read, pas_to_write and pas_to_read_floors take
+ * the place of the null pointer that an empty vector has.
  */
 #include <cstddef>
 #include <cstdint>
@@ -36,6 +36,16 @@ static Bytes canonical(const Bytes &sheet) {
     return result;
 }
 
+/* the bytes of a bidder's conditions from its top-of-page terms, empty where the call is refused */
+static Bytes slot_terms(std::uint32_t m, std::uint32_t owner, std::uint32_t limit, const Bytes &bars) {
+    Bytes result(PAS_MAX_TERMS_LENGTH);
+    std::uint32_t count = 0;
+    pas_slot_terms(static_cast<std::uint32_t>(bars.size()), m, owner, limit, pas_to_read(bars.data(), bars.size()),
+                   bars.size(), result.data(), result.size(), &count);
+    result.resize(std::size_t{4} * count);
+    return result;
+}
+
 int main() {
     /* two bidders that bid 5 and 6 for one place of effect 1 */
     const Bytes sheet = {'P', 'A', 'S', 1, 0, 2, 1, 0, 0, 1, 0, 0, 0, 5, 0, 0, 0, 6, 0, 0, 0};
@@ -60,6 +70,15 @@ int main() {
     std::cout << "one sheet for one round: " << (canonical(twice) == once && canonical(once) == once ? "yes" : "no");
     std::cout << ", another for another: " << (canonical(sheet) != once ? "yes" : "no");
     std::cout << ", none for none: " << (canonical(none).empty() ? "yes" : "no") << '\n';
+
+    /* bidder 1 of two takes the first of two places only, and minds bidder 2 there */
+    const Bytes terms = {1, 0, 2, 1, 1, 2, 0, 0};
+    std::cout << "terms: " << (slot_terms(2, 1, 1, {0, 1}) == terms ? "as expected" : "others");
+    std::cout << ", that ask nothing: " << slot_terms(2, 1, 2, {0, 0}).size() << " bytes";
+    std::uint32_t count = 7;
+    const std::uint32_t refused = pas_slot_terms(2, 2, 1, 1, pas_to_read(none.data(), none.size()), none.size(),
+                                                 pas_to_write(none.data(), none.size()), none.size(), &count);
+    std::cout << ", without bars: " << refused << ", count still " << count << '\n';
 
     /* the pointers that the calls get: never null, and the vector's own where it has bytes */
     const bool kept = pas_to_read(sheet.data(), sheet.size()) == sheet.data() &&

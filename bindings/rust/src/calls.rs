@@ -1,9 +1,9 @@
-//! The ten calls over bytes that nobody has checked, with typed answers.
+//! The eleven calls with typed answers, ten of them over bytes that nobody has checked.
 
 use crate::page::{bidders, BestPage, Page};
 use crate::part::OwnerPart;
 use crate::raw;
-use crate::sheet::{Bidder, Sheet};
+use crate::sheet::{Bidder, Constraint, Sheet, Slot};
 use crate::Refusal;
 
 /// The most slots that a sheet can have.
@@ -12,7 +12,10 @@ const MOST_SLOTS: usize = 16;
 /// The bytes of the longest sheet.
 const MOST_BYTES: usize = 4429;
 
-/// Checks a sheet: refusals 1 to 13 and 26 to 28. Every other call does this by itself.
+/// The bytes of the longest list of top-of-page terms.
+const MOST_TERMS_BYTES: usize = 4092;
+
+/// Checks a sheet: refusals 1 to 13 and 26 to 28. Every other call that takes a sheet does this by itself.
 pub fn check(sheet: &[u8]) -> Result<(), Refusal> {
     Refusal::none_or(raw::check(sheet))
 }
@@ -168,6 +171,48 @@ pub fn same_round(one: &[u8], other: &[u8]) -> Result<bool, Refusal> {
     let (mut first, mut second) = ([0; MOST_BYTES], [0; MOST_BYTES]);
     let (long, as_long) = (canonical_into(one, &mut first)?, canonical_into(other, &mut second)?);
     Ok(first[..long] == second[..as_long])
+}
+
+/// The constraints of a bidder from its top-of-page terms, for a sheet with so many bidders and slots: the lowest slot that the owner accepts, its limit,
+/// and for each bidder, from bidder 1 on, how many of the top slots that one must not have, the bar against it. The owner's own bar is 0.
+///
+/// They are in the order of own slot, other bidder, other's slot: first, for each bidder, that it stands in one of the slots from 1 to its bar, then that the
+/// owner stands in one of the slots below its limit. The list is downward monotonic on every sheet with so many bidders and slots, and
+/// [`SheetBuilder::slot_terms`](crate::SheetBuilder::slot_terms) puts it on one. It is empty where the limit is the last slot and every bar is 0.
+///
+/// Refused with 4, 5, 16 for the owner, 20 for a limit of 0 or below the last slot, 21 where there are not as many bars as bidders or one is above the number of
+/// slots, or 22 for a bar against the owner that is not 0.
+///
+/// ```
+/// use pas::{Bidder, Kind, Refusal, Slot};
+///
+/// // Bidder 2 takes slots 1 and 2 of three, minds bidder 1 at the top, and will not stand on one page with bidder 3.
+/// let terms = pas::slot_terms(3, 3, Bidder(2), Slot(2), &[1, 0, 3])?;
+/// let with = |other, slot| Kind::OtherSlot { other: Bidder(other), slot: Slot(slot) };
+/// let kinds: Vec<Kind> = terms.iter().map(|constraint| constraint.kind).collect();
+/// assert_eq!(kinds, [with(1, 1), with(3, 1), with(3, 2), with(3, 3), Kind::OwnSlot(Slot(3))]);
+/// assert!(terms.iter().all(|constraint| constraint.owner == Bidder(2)));
+///
+/// assert_eq!(pas::slot_terms(3, 3, Bidder(2), Slot(4), &[1, 0, 3]), Err(Refusal::WrongLimit));
+/// assert_eq!(pas::slot_terms(3, 3, Bidder(2), Slot(2), &[1, 0, 4]), Err(Refusal::WrongBars));
+/// assert_eq!(pas::slot_terms(3, 3, Bidder(2), Slot(2), &[1, 1, 3]), Err(Refusal::BarAgainstOwner));
+/// # Ok::<(), Refusal>(())
+/// ```
+pub fn slot_terms(bidders: usize, slots: usize, owner: Bidder, limit: Slot, bars: &[u8]) -> Result<Vec<Constraint>, Refusal> {
+    let mut result = [0; MOST_TERMS_BYTES];
+    let count = slot_terms_into(bidders, slots, owner, limit, bars, &mut result)?;
+    Ok(Constraint::all_in(&result[..4 * count]).collect())
+}
+
+/// Writes the constraints of a bidder from its top-of-page terms to a lent buffer, without allocation, four bytes each as a sheet has them (owner, own slot,
+/// other bidder, other's slot), and gives how many they are. Later bytes stay as they were, and on a refusal all of them. Refused as [`slot_terms`], or with 19
+/// where the buffer is shorter than the bytes to be written; 4,092 bytes always do.
+pub fn slot_terms_into(bidders: usize, slots: usize, owner: Bidder, limit: Slot, bars: &[u8], result: &mut [u8]) -> Result<usize, Refusal> {
+    // A number too large for the call is above its limit still as the largest of the call's.
+    let number = |count: usize| u32::try_from(count).unwrap_or(u32::MAX);
+    let (owner, limit, mut count) = (u32::from(owner.0), u32::from(limit.0), 0);
+    Refusal::none_or(raw::slot_terms(number(bidders), number(slots), owner, limit, bars, result, &mut count))?;
+    Ok(count as usize)
 }
 
 /// The number of slots of an accepted sheet.

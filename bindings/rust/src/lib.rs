@@ -3,8 +3,9 @@
 //! A page has slots from the top down, each with an effect. Bidders bid per click and set constraints: slots where they will not stand,
 //! and bidders beside whom they will not stand. The library fills the page, charges each winner the smallest bid with which it would still
 //! have won its slot, tells whether a bidder's list is downward monotonic, works out what a bidder gains, finds the best page of a
-//! small round, shows where in a sheet one bidder's constraints stand, and writes the one sheet of version 2 for a round. Page, gain and best page are
-//! there with a floor under each slot too. Its answers are proved, refusals included; this crate adds types and no judgement of its own.
+//! small round, shows where in a sheet one bidder's constraints stand, writes the one sheet of version 2 for a round, and writes a bidder's
+//! constraints from its top-of-page terms. Page, gain and best page are there with a floor under each slot too. Its answers are proved, refusals
+//! included; this crate adds types and no judgement of its own.
 //!
 //! The C header `include/pas.h` is the manual: the sheet's layout, the limits, what each call means. It says "place" for a slot and
 //! "condition" for a constraint, and so do the sentences of a [`Refusal`]; `docs/EMBEDDING.md` of the repository has the table of words.
@@ -116,9 +117,26 @@
 //! # Ok::<(), Refusal>(())
 //! ```
 //!
-//! Every call but the check is there twice: as a method of [`Sheet`], whose bytes the library has accepted, and as a function over bytes
+//! A buyer's terms may be two numbers: the lowest slot that it accepts, and for each other bidder how many of the top slots that one must not have. The
+//! library writes the constraints, and the list is always downward monotonic. Here bidder 1 wants slot 1 or 2, and bidder 3 not at the top:
+//!
+//! ```
+//! use pas::{Bidder, Refusal, SheetBuilder, Slot};
+//!
+//! let round = SheetBuilder::new().effects([4, 2, 1]).bids([10, 20, 30]);
+//! let sheet = round.clone().slot_terms(Bidder(1), Slot(2), [0, 0, 1]).build()?;
+//! assert_eq!(sheet.list_of(Bidder(1)), pas::slot_terms(3, 3, Bidder(1), Slot(2), &[0, 0, 1])?);
+//! assert_eq!(sheet.constraints(), 2);
+//! assert!(sheet.is_downward(Bidder(1))?);
+//! assert_eq!(sheet.play().bidders(), [Some(Bidder(3)), Some(Bidder(2)), None]);
+//!
+//! assert_eq!(round.slot_terms(Bidder(1), Slot(4), [0, 0, 1]).build(), Err(Refusal::WrongLimit));
+//! # Ok::<(), Refusal>(())
+//! ```
+//!
+//! Every call that takes a sheet, but the check, is there twice: as a method of [`Sheet`], whose bytes the library has accepted, and as a function over bytes
 //! that nobody has checked. The check makes a [`Sheet`] of bytes (`Sheet::from_bytes`), and is a function too. `play_into`, `best_into`,
-//! their second forms with floors and `canonical_into` write to a buffer of the caller's and allocate nothing. [`raw`] has the calls with plain
+//! their second forms with floors, `canonical_into` and `slot_terms_into` write to a buffer of the caller's and allocate nothing. [`raw`] has the calls with plain
 //! numbers, as in C. A [`Sheet`] can be read back: its tick, effects, bids and constraints, as the builder takes them.
 //!
 //! Calls may run in several threads at once. They take up to 40 KB of stack, which is measured and not proved (`PAS_STACK_PLAY` and the
@@ -140,6 +158,7 @@ mod sheet;
 pub use calls::{best_floors_into, best_into, best_page, best_page_floors, play_floors, play_floors_into};
 pub use calls::{canonical, canonical_into, same_round};
 pub use calls::{check, gain, gain_floors, is_downward, owner_part, play, play_into};
+pub use calls::{slot_terms, slot_terms_into};
 pub use page::{BestPage, Page, Placement};
 pub use part::OwnerPart;
 pub use refusal::Refusal;

@@ -28,7 +28,7 @@ impl<'a> OwnerPart<'a> {
 
     /// The constraints, one after another; nothing is copied but the one that is given.
     pub fn constraints(&self) -> impl ExactSizeIterator<Item = Constraint> + DoubleEndedIterator + 'a {
-        self.bytes.chunks_exact(4).map(|field| Constraint::from_bytes([field[0], field[1], field[2], field[3]]))
+        Constraint::all_in(self.bytes)
     }
 }
 

@@ -1,4 +1,4 @@
-//! The ten calls with plain numbers, as the C header has them, over slices.
+//! The eleven calls with plain numbers, as the C header has them, over slices.
 //!
 //! Each returns 0, or the number of the first rule that the call breaks, by which [`Refusal`](crate::Refusal) names it; then everything
 //! lent stays as it was. This is the only module with `unsafe` in it.
@@ -52,6 +52,17 @@ mod library {
             total: *mut u64,
         ) -> u32;
         pub fn pas_canonical(sheet: *const u8, sheet_len: usize, result: *mut u8, result_len: usize, written: *mut usize) -> u32;
+        pub fn pas_slot_terms(
+            n: u32,
+            m: u32,
+            owner: u32,
+            limit: u32,
+            bars: *const u8,
+            bars_len: usize,
+            result: *mut u8,
+            result_len: usize,
+            count: *mut u32,
+        ) -> u32;
     }
 }
 
@@ -96,6 +107,13 @@ pub fn owner_part(sheet: &[u8], bidder: u32, start: &mut usize, length: &mut usi
 pub fn canonical(sheet: &[u8], result: &mut [u8], written: &mut usize) -> u32 {
     // SAFETY: both slices are good for their lengths, and a `&mut` slice and a `&mut` number, which is aligned, overlap nothing else.
     unsafe { library::pas_canonical(sheet.as_ptr(), sheet.len(), result.as_mut_ptr(), result.len(), written) }
+}
+
+/// Writes a bidder's constraints from its limit and the bars against the bidders of a sheet with n bidders and m slots, four bytes each in rising
+/// order, and gives how many they are.
+pub fn slot_terms(n: u32, m: u32, owner: u32, limit: u32, bars: &[u8], result: &mut [u8], count: &mut u32) -> u32 {
+    // SAFETY: both slices are good for their lengths, and a `&mut` slice and a `&mut` number, which is aligned, overlap nothing else.
+    unsafe { library::pas_slot_terms(n, m, owner, limit, bars.as_ptr(), bars.len(), result.as_mut_ptr(), result.len(), count) }
 }
 
 /// As [`play`], with a floor under each slot.

@@ -4,7 +4,7 @@ use std::error::Error;
 use std::fmt;
 
 /// The rule that a refused call breaks, the first in checking order: by number, but that 26 comes after 6, 27 after 9, 28 after 13,
-/// then 30 and 31, and 29 before 16. A refused call alters nothing that was lent to it. A later version may have more of them.
+/// then 30 and 31, 29 before 16, and 19 last. A refused call alters nothing that was lent to it. A later version may have more of them.
 ///
 /// [`Display`](fmt::Display) gives the header's sentence, which says n for the number of bidders, m for that of slots ("places") and c
 /// for that of constraints ("conditions").
@@ -50,6 +50,12 @@ pub enum Refusal {
     TooLargeForBest,
     /// 19: the result buffer is shorter than the bytes to be written.
     ResultTooShort,
+    /// 20: the limit of top-of-page terms is 0 or above the number of slots.
+    WrongLimit,
+    /// 21: there are not as many bars as bidders, or a bar is above the number of slots.
+    WrongBars,
+    /// 22: the bar against the owner of the terms is not 0.
+    BarAgainstOwner,
     /// 26: the tick is 0 or above 1,000,000,000.
     WrongTick = 26,
     /// 27: a bid is no multiple of the tick.
@@ -65,7 +71,7 @@ pub enum Refusal {
 }
 
 /// Every refusal, in the order of the numbers.
-const ALL: [Refusal; 25] = [
+const ALL: [Refusal; 28] = [
     Refusal::SheetTooShort,
     Refusal::WrongMark,
     Refusal::WrongVersion,
@@ -85,6 +91,9 @@ const ALL: [Refusal; 25] = [
     Refusal::WrongWorth,
     Refusal::TooLargeForBest,
     Refusal::ResultTooShort,
+    Refusal::WrongLimit,
+    Refusal::WrongBars,
+    Refusal::BarAgainstOwner,
     Refusal::WrongTick,
     Refusal::BidOffTick,
     Refusal::OutOfOrder,
@@ -94,7 +103,7 @@ const ALL: [Refusal; 25] = [
 ];
 
 impl Refusal {
-    /// The number, 1 to 19 or 26 to 31, by which C has it.
+    /// The number, 1 to 22 or 26 to 31, by which C has it.
     pub fn number(self) -> u32 {
         self as u32
     }
@@ -126,6 +135,9 @@ impl Refusal {
             Refusal::WrongWorth => "The worth is above 1,000,000,000.",
             Refusal::TooLargeForBest => "The best page is sought with n above 8 or m above 8.",
             Refusal::ResultTooShort => "The result buffer is shorter than the bytes to be written.",
+            Refusal::WrongLimit => "The limit is 0 or above m.",
+            Refusal::WrongBars => "The list of bars is not n long, or a bar is above m.",
+            Refusal::BarAgainstOwner => "The bar against the owner is not 0.",
             Refusal::WrongTick => "The tick is 0 or above 1,000,000,000.",
             Refusal::BidOffTick => "A bid is no multiple of the tick.",
             Refusal::OutOfOrder => "A condition of version 2 is not above the one before it.",

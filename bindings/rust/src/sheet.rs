@@ -65,6 +65,11 @@ impl Constraint {
         };
         Constraint { owner: Bidder(owner), kind }
     }
+
+    /// The constraints of bytes that the library has accepted or written, four bytes each.
+    pub(crate) fn all_in(bytes: &[u8]) -> impl ExactSizeIterator<Item = Constraint> + DoubleEndedIterator + '_ {
+        bytes.chunks_exact(4).map(|field| Constraint::from_bytes([field[0], field[1], field[2], field[3]]))
+    }
 }
 
 /// Bytes of a sheet of version 1 before its effects.
@@ -244,14 +249,26 @@ impl AsRef<[u8]> for Sheet {
 
 /// Collects the parts of a sheet in any order. It judges nothing: [`build`](SheetBuilder::build) asks the library.
 ///
-/// Constraints may be given in any order and more than once. With a tick, in version 2, they are a set: each is written once, in the order of
-/// owner, own slot, other bidder, other's slot. In version 1 they are written as they came.
+/// Constraints may be given in any order and more than once, one by one or as top-of-page terms. With a tick, in version 2, they are a set: each is written
+/// once, in the order of owner, own slot, other bidder, other's slot. In version 1 they are written as they came.
 #[derive(Clone, Debug, Default)]
 pub struct SheetBuilder {
     tick: Option<u32>,
     effects: Vec<u32>,
     bids: Vec<u32>,
-    constraints: Vec<Constraint>,
+    constraints: Vec<Given>,
+}
+
+/// What a builder is given of a bidder's list.
+#[derive(Clone, Debug)]
+enum Given {
+    Constraint(Constraint),
+    /// The constraints come of them once all bidders and slots are there.
+    Terms {
+        owner: Bidder,
+        limit: Slot,
+        bars: Vec<u8>,
+    },
 }
 
 impl SheetBuilder {
@@ -281,35 +298,69 @@ impl SheetBuilder {
 
     /// Adds one constraint.
     pub fn constraint(mut self, owner: Bidder, kind: Kind) -> SheetBuilder {
-        self.constraints.push(Constraint { owner, kind });
+        self.constraints.push(Given::Constraint(Constraint { owner, kind }));
         self
     }
 
     /// Adds constraints.
     pub fn constraints(mut self, constraints: impl IntoIterator<Item = Constraint>) -> SheetBuilder {
-        self.constraints.extend(constraints);
+        self.constraints.extend(constraints.into_iter().map(Given::Constraint));
         self
     }
 
-    /// The sheet, or the library's refusal.
+    /// Adds the constraints of a bidder's top-of-page terms: the lowest slot that it accepts, its limit, and for each bidder, from bidder 1 on, how many of the
+    /// top slots that one must not have, the bar against it; see [`slot_terms`](crate::slot_terms). They are those for all bidders and slots that the
+    /// sheet has in the end, also for those that are added later.
+    ///
+    /// Terms add to what the bidder has: where they are all that it has, its list is downward monotonic. Terms that the library refuses, with 4, 5, 16 or 20 to 22,
+    /// make [`build`](SheetBuilder::build) give that refusal. Terms that take the sheet above 1,024 constraints are refused with 6, as others are.
+    ///
+    /// ```
+    /// use pas::{Bidder, Refusal, SheetBuilder, Slot};
+    ///
+    /// // Bidder 3 wants slot 1 or 2, and bidder 1 in neither of the two.
+    /// let round = SheetBuilder::new().effects([4, 2, 1]).bids([10, 20, 30]);
+    /// let sheet = round.clone().slot_terms(Bidder(3), Slot(2), [2, 0, 0]).build()?;
+    /// assert_eq!(sheet.list_of(Bidder(3)), pas::slot_terms(3, 3, Bidder(3), Slot(2), &[2, 0, 0])?);
+    /// assert!(sheet.is_downward(Bidder(3))?);
+    /// assert_eq!(sheet.play().bidders(), [Some(Bidder(3)), Some(Bidder(2)), Some(Bidder(1))]);
+    ///
+    /// assert_eq!(round.clone().slot_terms(Bidder(3), Slot(4), [2, 0, 0]).build(), Err(Refusal::WrongLimit));
+    /// assert_eq!(round.slot_terms(Bidder(3), Slot(2), [2, 0]).build(), Err(Refusal::WrongBars));
+    /// # Ok::<(), Refusal>(())
+    /// ```
+    pub fn slot_terms(mut self, owner: Bidder, limit: Slot, bars: impl IntoIterator<Item = u8>) -> SheetBuilder {
+        self.constraints.push(Given::Terms { owner, limit, bars: bars.into_iter().collect() });
+        self
+    }
+
+    /// The sheet, or the library's refusal: that of the first top-of-page terms that it refuses, else that of the sheet.
     pub fn build(self) -> Result<Sheet, Refusal> {
-        let bytes = self.bytes();
+        let constraints = self.written_constraints()?;
+        let bytes = self.bytes_with(&constraints, constraints.len());
         calls::check(&bytes)?;
         Ok(Sheet { bytes })
     }
 
     /// The sheet's bytes, not checked. A count that is too large for its field is written as the field's largest number, which is above
-    /// the limit of the count, so that the library refuses it with the count's own number.
+    /// the limit of the count, so that the library refuses it with the count's own number. Top-of-page terms that the library refuses give no
+    /// constraints to write: then none is written, and their count is that largest number too, so that no such bytes are accepted.
     pub fn bytes(&self) -> Vec<u8> {
-        let constraints = self.written_constraints();
+        match self.written_constraints() {
+            Ok(constraints) => self.bytes_with(&constraints, constraints.len()),
+            Err(_) => self.bytes_with(&[], usize::MAX),
+        }
+    }
+
+    /// The sheet's bytes with these constraints and this for their count.
+    fn bytes_with(&self, constraints: &[[u8; 4]], count: usize) -> Vec<u8> {
         let mut bytes = Vec::with_capacity(HEADER + TICK + 4 * (self.effects.len() + self.bids.len() + constraints.len()));
         bytes.extend(b"PAS");
         let version: u16 = if self.tick.is_some() { 2 } else { 1 };
         bytes.extend(version.to_le_bytes());
         bytes.push(u8::try_from(self.bids.len()).unwrap_or(u8::MAX));
         bytes.push(u8::try_from(self.effects.len()).unwrap_or(u8::MAX));
-        let count = u16::try_from(constraints.len()).unwrap_or(u16::MAX);
-        bytes.extend(count.to_le_bytes());
+        bytes.extend(u16::try_from(count).unwrap_or(u16::MAX).to_le_bytes());
         bytes.extend(self.tick.iter().flat_map(|tick| tick.to_le_bytes()));
         bytes.extend(self.effects.iter().flat_map(|effect| effect.to_le_bytes()));
         bytes.extend(self.bids.iter().flat_map(|bid| bid.to_le_bytes()));
@@ -317,13 +368,23 @@ impl SheetBuilder {
         bytes
     }
 
-    /// The constraints as the sheet has them: as they came in version 1; in order, each once, in version 2.
-    fn written_constraints(&self) -> Vec<[u8; 4]> {
-        let mut written: Vec<[u8; 4]> = self.constraints.iter().map(|constraint| constraint.bytes()).collect();
+    /// The constraints as the sheet has them: as they came in version 1; in order, each once, in version 2. Or the refusal of the first terms
+    /// that are refused.
+    fn written_constraints(&self) -> Result<Vec<[u8; 4]>, Refusal> {
+        let mut written = Vec::with_capacity(self.constraints.len());
+        for given in &self.constraints {
+            match given {
+                Given::Constraint(constraint) => written.push(constraint.bytes()),
+                Given::Terms { owner, limit, bars } => {
+                    let constraints = calls::slot_terms(self.bids.len(), self.effects.len(), *owner, *limit, bars)?;
+                    written.extend(constraints.into_iter().map(Constraint::bytes));
+                }
+            }
+        }
         if self.tick.is_some() {
             written.sort_unstable();
             written.dedup();
         }
-        written
+        Ok(written)
     }
 }

@@ -1,7 +1,7 @@
 //! The library and the independent engine must agree on every byte: numbers, answers, buffers with what lies behind the result, on
 //! good sheets and on damaged ones. The seeds are fixed, so that a failure comes back.
 
-use independent::random::{disordered, floors, in_ticks, nearly, reshaped, round, tick, Floors, Manner, Random, Size};
+use independent::random::{disordered, floors, in_ticks, nearly, reshaped, round, spoiled, terms, tick, Floors, Manner, Random, Size};
 use independent::{engine, slow};
 use pas::raw;
 use std::collections::BTreeSet;
@@ -397,6 +397,81 @@ fn a_canonical_sheet_gets_the_answers_of_the_sheet() {
             "{truth:?}, {floors:?}, {sheet:?}, {bidder:?}, {worth}"
         );
     }
+}
+
+/// Top-of-page terms: right every other time, and else with one thing or two in them that are mostly wrong.
+fn random_terms(random: &mut Random) -> slow::Terms {
+    let most = random.one_of(&[WHOLE, SMALL, Size { bidders: 2, slots: 2, constraints: 0 }]);
+    let size = if random.once_in(8) { WHOLE } else { size_up_to(random, most) };
+    let mut terms = terms(random, size.bidders, size.slots);
+    for _ in 0..random.one_of(&[0, 0, 1, 2]) {
+        terms = spoiled(random, terms);
+    }
+    terms
+}
+
+#[test]
+fn both_write_the_same_constraints_from_terms() {
+    let (mut random, mut seen, mut sizes) = (Random::seeded(16), Seen::default(), [0; 3]);
+    for _ in 0..60_000 {
+        let of = random_terms(&mut random);
+        let (mut room, mut count) = ([0; 4092], 0);
+        engine::slot_terms(of.bidders, of.slots, of.owner, of.limit, &of.bars, &mut room, &mut count);
+        let around = random.one_of(&[4 * count as usize, 4 * count as usize, 4092, 0]);
+        let lent = lent_buffer(&mut random, around);
+        let (mut ours, mut theirs, mut our_count, mut their_count) = (lent.clone(), lent.clone(), 77_777, 77_777);
+        let number = engine::slot_terms(of.bidders, of.slots, of.owner, of.limit, &of.bars, within(&mut theirs), &mut their_count);
+        let our_number = raw::slot_terms(of.bidders, of.slots, of.owner, of.limit, &of.bars, within(&mut ours), &mut our_count);
+        assert_eq!((our_number, our_count), (number, their_count), "{of:?}");
+        assert_eq!(ours, theirs, "{of:?}");
+        assert_eq!(number, slow::slot_terms_number(&of, lent.len() - 2 * GUARD), "{of:?}");
+        match number {
+            0 => {
+                let written = slow::slot_terms(&of);
+                assert_eq!(
+                    (our_count as usize, &ours[GUARD..GUARD + 4 * written.len()]),
+                    (written.len(), written.as_flattened()),
+                    "{of:?}"
+                );
+                sizes[usize::from(our_count > 0) + usize::from(our_count == 1023)] += 1;
+            }
+            _ => assert!(ours == lent && our_count == 77_777, "a refused call altered something lent"),
+        }
+        seen.add(number);
+    }
+    assert_eq!(seen.0, BTreeSet::from([0, 4, 5, 16, 19, 20, 21, 22]));
+    assert!(sizes.iter().all(|&times| times > 100), "no constraints, some and the most come up: {sizes:?}");
+}
+
+#[test]
+fn sheets_with_terms_are_accepted_and_the_list_is_downward_monotonic() {
+    let (mut random, mut asking) = (Random::seeded(17), 0);
+    for _ in 0..20_000 {
+        let most = random.one_of(&[Size { constraints: 0, ..WHOLE }, SMALL, SMALL]);
+        let mut round = random_round(&mut random, most);
+        let of = terms(&mut random, round.bids.len(), round.effects.len());
+        let owner = pas::Bidder(of.owner as u8);
+        round.constraints.retain(|constraint| constraint[0] != owner.0);
+        let others = pas::Sheet::from_bytes(&slow::sheet(&round)).expect("a good sheet").all_constraints();
+        let written = slow::slot_terms(&of);
+        round.constraints.extend(&written);
+        if round.constraints.len() > 1024 {
+            continue;
+        }
+        let (tick, limit) = (round.tick, pas::Slot(of.limit as u8));
+        let round = in_ticks(round, tick);
+        let mut builder = pas::SheetBuilder::new().constraints(others).slot_terms(owner, limit, of.bars.clone());
+        builder = builder.effects(round.effects.iter().copied()).bids(round.bids.iter().copied());
+        if let Some(tick) = tick {
+            builder = builder.tick(tick);
+        }
+        let sheet = builder.build().expect("terms that are right, on a sheet that is");
+        assert_eq!(sheet.as_bytes(), slow::sheet(&round), "{round:?}, {of:?}");
+        assert_eq!(sheet.is_downward(owner), Ok(true), "{round:?}, {of:?}");
+        assert_eq!(sheet.list_of(owner), pas::slot_terms(sheet.bidders(), sheet.slots(), owner, limit, &of.bars).expect("right terms"));
+        asking += usize::from(!written.is_empty());
+    }
+    assert!(asking > 10_000, "most terms ask for something: {asking}");
 }
 
 #[test]

@@ -74,9 +74,27 @@ fn the_headers_highest_floor_is_accepted_and_no_higher() {
 }
 
 #[test]
+fn the_headers_length_of_the_longest_terms_is_enough_and_no_less() {
+    let (bidders, slots, length) = (number("PAS_MAX_BIDDERS"), number("PAS_MAX_PLACES"), number("PAS_MAX_TERMS_LENGTH"));
+    let mut bars = vec![slots as u8; bidders];
+    bars[0] = 0;
+    let write = |room: usize| pas::slot_terms_into(bidders, slots, Bidder(1), Slot(1), &bars, &mut vec![0; room]);
+    assert_eq!(write(length), Ok(length / 4));
+    assert_eq!(write(length - 1), Err(Refusal::ResultTooShort));
+}
+
+#[test]
 fn each_refusal_has_the_number_the_name_and_the_sentence_of_the_header() {
     let entries: Vec<Entry> = HEADER.lines().filter_map(entry).collect();
-    let in_checking_order = (0..=6).chain([26]).chain(7..=9).chain([27]).chain(10..=13).chain([28, 30, 31, 14, 15, 29]).chain(16..=19);
+    let in_checking_order = (0..=6)
+        .chain([26])
+        .chain(7..=9)
+        .chain([27])
+        .chain(10..=13)
+        .chain([28, 30, 31, 14, 15, 29])
+        .chain(16..=18)
+        .chain(20..=22)
+        .chain([19]);
     assert_eq!(entries.iter().map(|entry| entry.number).collect::<Vec<_>>(), in_checking_order.collect::<Vec<_>>());
     for Entry { name, number, sentence } in entries.into_iter().skip(1) {
         let refusal = Refusal::from_number(number).expect("a refusal has this number");

@@ -1,10 +1,11 @@
-//! The ten calls over bytes that nobody has checked, for speed. Each returns 0, or the first number of documents 01 and 02 that applies,
+//! The eleven calls over bytes that nobody has checked, for speed. Each returns 0, or the first number of documents 01 and 02 that applies,
 //! and then leaves everything lent as it was.
 
 use crate::best::{Search, MOST};
 use crate::canonical;
 use crate::fill::fill;
 use crate::read::{accept, accept_floors, constraint, word_at, words, Parts, LARGEST_BID, MOST_BIDDERS, MOST_SLOTS};
+use crate::terms;
 
 /// Rules 1 to 13 and 26 to 28.
 pub fn check(sheet: &[u8]) -> u32 {
@@ -189,4 +190,15 @@ pub fn canonical(sheet: &[u8], result: &mut [u8], written: &mut usize) -> u32 {
 fn copy(sheet: &[u8], result: &mut [u8]) -> Option<usize> {
     result.get_mut(..sheet.len())?.copy_from_slice(sheet);
     Some(sheet.len())
+}
+
+/// Writes the constraints of an owner from its limit and the bars against the bidders, four bytes each in order, and gives how many they are.
+pub fn slot_terms(n: u32, m: u32, owner: u32, limit: u32, bars: &[u8], result: &mut [u8], count: &mut u32) -> u32 {
+    let number = terms::refused(n, m, owner, limit, bars);
+    if number != 0 {
+        return number;
+    }
+    let Some(written) = terms::write(m, owner, limit, bars, result) else { return 19 };
+    *count = written;
+    0
 }

@@ -1,8 +1,8 @@
-//! Random numbers from a fixed seed, and random rounds of several kinds and of both versions. The same seed gives the same rounds on every
-//! machine.
+//! Random numbers from a fixed seed, random rounds of several kinds and of both versions, and random top-of-page terms. The same seed gives the same
+//! rounds and terms on every machine.
 
 use crate::read::{LARGEST_BID, MOST_CONSTRAINTS};
-use crate::slow::{Constraint, Round};
+use crate::slow::{Constraint, Round, Terms};
 
 /// A generator of 64-bit numbers (SplitMix64).
 pub struct Random(u64);
@@ -257,6 +257,69 @@ fn near(random: &mut Random, mut constraint: Constraint) -> Constraint {
     let number = &mut constraint[random.between(0, 3)];
     *number = if random.once_in(2) { *number + 1 } else { number.saturating_sub(1) };
     constraint
+}
+
+/// Top-of-page terms of some bidder, for so many bidders and slots: often the limit is the first slot or the last, and often most bars are 0, or all are as
+/// high as they may be.
+pub fn terms(random: &mut Random, bidders: usize, slots: usize) -> Terms {
+    let owner = random.between(1, bidders);
+    let any = random.between(1, slots);
+    let limit = random.one_of(&[1, slots, any, any]);
+    let (least, most, times) = random.one_of(&[(0, slots, 1), (0, slots, 4), (slots, slots, 1), (0, 0, 1), (0, slots.min(2), 1)]);
+    let mut bars: Vec<u8> = (0..bidders).map(|_| if random.once_in(times) { random.byte(least, most) } else { 0 }).collect();
+    bars[owner - 1] = 0;
+    Terms { bidders: bidders as u32, slots: slots as u32, owner: owner as u32, limit: limit as u32, bars }
+}
+
+/// Terms that give just so many constraints, spread over the limit and the bars.
+pub fn terms_of_size(random: &mut Random, size: Size) -> Terms {
+    let mut terms = Terms { limit: size.slots as u32, ..terms(random, size.bidders, size.slots) };
+    terms.bars.fill(0);
+    let mut missing = size.constraints;
+    while missing > 0 {
+        // The owner stands for its limit: it has no bar.
+        let bidder = random.between(1, size.bidders);
+        let bar = &mut terms.bars[bidder - 1];
+        if bidder == terms.owner as usize {
+            if terms.limit > 1 {
+                terms.limit -= 1;
+                missing -= 1;
+            }
+        } else if usize::from(*bar) < size.slots {
+            *bar += 1;
+            missing -= 1;
+        }
+    }
+    terms
+}
+
+/// The same terms with one thing in them another one, mostly so that they are turned away: a number at an edge, or one that is the same in its low byte, or a
+/// bar too few, too many, too high or against the owner.
+pub fn spoiled(random: &mut Random, mut terms: Terms) -> Terms {
+    let edges = |right: u32, most: u32| {
+        [0, most, most.wrapping_add(1), 255, right.wrapping_add(256), right.wrapping_add(1 << 16), right | 1 << 31, u32::MAX]
+    };
+    match random.between(0, 7) {
+        0 => terms.bidders = random.one_of(&edges(terms.bidders, 64)),
+        1 => terms.slots = random.one_of(&edges(terms.slots, 16)),
+        2 => terms.owner = random.one_of(&edges(terms.owner, terms.bidders)),
+        3 => terms.limit = random.one_of(&edges(terms.limit, terms.slots)),
+        4 => {
+            let count = random.one_of(&[0, terms.bars.len().saturating_sub(1), terms.bars.len() + 1, terms.bars.len() + 256, 64]);
+            terms.bars.resize(count, 0);
+        }
+        5 if !terms.bars.is_empty() => {
+            let at = random.between(0, terms.bars.len() - 1);
+            terms.bars[at] = random.one_of(&[terms.slots as u8, (terms.slots as u8).wrapping_add(1), 16, 17, 128, 255]);
+        }
+        _ => {
+            let highest = terms.slots.clamp(1, 16) as u8;
+            if let Some(bar) = terms.bars.get_mut((terms.owner as usize).wrapping_sub(1)) {
+                *bar = random.one_of(&[1, highest, highest + 1]);
+            }
+        }
+    }
+    terms
 }
 
 fn constraints(random: &mut Random, size: Size, manner: Manner) -> Vec<Constraint> {

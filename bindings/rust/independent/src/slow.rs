@@ -1,5 +1,5 @@
-//! Document 01 word by word, with the ticks, the owner order, the canonical sheet and the floors of document 02, by trying everything: the measure for `engine`, which is
-//! quick and so needs one.
+//! Document 01 word by word, with the top-of-page terms, the ticks, the owner order, the canonical sheet and the floors of document 02, by trying everything: the measure
+//! for `engine`, which is quick and so needs one.
 //!
 //! Rounds must be small: a price is found by replaying the round with bid 0, one tick, two ticks and so on, and the best page by going
 //! through every page.
@@ -70,6 +70,63 @@ pub fn same_round(one: &Round, other: &Round) -> bool {
         && one.tick.unwrap_or(1) == other.tick.unwrap_or(1)
         && within(one, other)
         && within(other, one)
+}
+
+/// "n, m, an owner, its own limit and a bar for each bidder", as a call has them: right or wrong.
+#[derive(Clone, Debug, PartialEq)]
+pub struct Terms {
+    /// n of document 02.
+    pub bidders: u32,
+    /// m of document 02.
+    pub slots: u32,
+    /// Whose terms they are.
+    pub owner: u32,
+    /// "The lowest place they accept".
+    pub limit: u32,
+    /// "For each rival how many top places it must not have", by bidder, the first at 0.
+    pub bars: Vec<u8>,
+}
+
+/// "That owner's conditions in rising order of their four bytes", of terms that are not turned away: every condition that the owner could have is asked for in
+/// order, and those that the terms give are taken.
+pub fn slot_terms(terms: &Terms) -> Vec<Constraint> {
+    let (bidders, slots) = (0..=terms.bidders as u8, 0..=terms.slots as u8);
+    let mut given = Vec::new();
+    for own in slots.clone() {
+        for other in bidders.clone() {
+            for slot in slots.clone() {
+                // "A limit L gives own-place conditions for places L + 1 to m."
+                let by_limit = u32::from(own) > terms.limit && (other, slot) == (0, 0);
+                // "A bar B gives other's-place conditions for places 1 to B."
+                let by_bar = own == 0 && other > 0 && slot > 0 && slot <= terms.bars[usize::from(other) - 1];
+                if by_limit || by_bar {
+                    given.push([terms.owner as u8, own, other, slot]);
+                }
+            }
+        }
+    }
+    given
+}
+
+/// "Turned away: after 4, 5 and 16, 20 for a limit of 0 or above m, 21 for a list of bars not n long or a bar above m, 22 for a bar other than 0 against
+/// the owner, and then 19", for a buffer of so many bytes; or 0.
+pub fn slot_terms_number(terms: &Terms, room: usize) -> u32 {
+    let wrong = |number: u32, most: u32| !(1..=most).contains(&number);
+    let own_bar = terms.bars.get((terms.owner as usize).wrapping_sub(1));
+    let bars_fit = terms.bars.len() as u64 == u64::from(terms.bidders) && terms.bars.iter().all(|&bar| u32::from(bar) <= terms.slots);
+    let turned_away = [
+        (4, wrong(terms.bidders, 64)),
+        (5, wrong(terms.slots, 16)),
+        (16, wrong(terms.owner, terms.bidders)),
+        (20, wrong(terms.limit, terms.slots)),
+        (21, !bars_fit),
+        (22, own_bar.is_some_and(|&bar| bar != 0)),
+    ];
+    match turned_away.iter().find(|(_, applies)| *applies) {
+        Some((number, _)) => *number,
+        None if room < 4 * slot_terms(terms).len() => 19,
+        None => 0,
+    }
 }
 
 /// The bidder of each slot, 0 for none.

@@ -1,6 +1,8 @@
 //! The quick engine against the document tried word by word, on rounds small enough for that.
 
-use independent::random::{disordered, floors, in_ticks, nearly, reshaped, round, tick, Floors, Manner, Random, Size};
+use independent::random::{
+    disordered, floors, in_ticks, nearly, reshaped, round, spoiled, terms, terms_of_size, tick, Floors, Manner, Random, Size,
+};
 use independent::{engine, slow};
 
 const MANNERS: [Manner; 6] = [Manner::Mixed, Manner::Pairs, Manner::OwnSlots, Manner::Exclusions, Manner::Chain, Manner::Ties];
@@ -161,4 +163,69 @@ fn canonical_sheets_are_equal_exactly_where_rounds_are() {
         answers[usize::from(same)] += 1;
     }
     assert!(answers.iter().all(|&times| times > 1000), "both answers come up: {answers:?}");
+}
+
+/// Lends a buffer of so many sevens: the number, the buffer and the count, which is 77 before.
+fn slot_terms(of: &slow::Terms, room: usize) -> (u32, Vec<u8>, u32) {
+    let (mut result, mut count) = (vec![7; room], 77);
+    let number = engine::slot_terms(of.bidders, of.slots, of.owner, of.limit, &of.bars, &mut result, &mut count);
+    (number, result, count)
+}
+
+/// The same as the document has it.
+fn slot_terms_by_trying(of: &slow::Terms, room: usize) -> (u32, Vec<u8>, u32) {
+    let (number, mut result) = (slow::slot_terms_number(of, room), vec![7; room]);
+    if number != 0 {
+        return (number, result, 77);
+    }
+    let given = slow::slot_terms(of);
+    result[..4 * given.len()].copy_from_slice(given.as_flattened());
+    (0, result, given.len() as u32)
+}
+
+#[test]
+fn terms_give_the_constraints_that_the_document_names() {
+    let (mut random, mut numbers) = (Random::seeded(19), [0; 32]);
+    for _ in 0..20_000 {
+        let (bidders, slots) = (random.one_of(&[1, 2, 3, 5, 9, 64]), random.one_of(&[1, 2, 3, 5, 16]));
+        let mut of = terms(&mut random, bidders, slots);
+        for _ in 0..random.one_of(&[0, 0, 1, 2]) {
+            of = spoiled(&mut random, of);
+        }
+        let needed = if slow::slot_terms_number(&of, usize::MAX) == 0 { 4 * slow::slot_terms(&of).len() } else { 0 };
+        for room in [0, needed.saturating_sub(1), needed, needed + 9] {
+            let answer = slot_terms(&of, room);
+            assert_eq!(answer, slot_terms_by_trying(&of, room), "{of:?}, {room}");
+            numbers[answer.0 as usize] += 1;
+        }
+    }
+    assert!([0, 4, 5, 16, 19, 20, 21, 22].iter().all(|&number| numbers[number] > 500), "each number comes up: {numbers:?}");
+}
+
+#[test]
+fn lists_of_terms_are_downward_monotonic_and_in_order() {
+    let mut random = Random::seeded(20);
+    for _ in 0..4_000 {
+        let (bidders, slots) = (random.between(1, 9), random.between(1, 9));
+        let of = terms(&mut random, bidders, slots);
+        let round = slow::Round {
+            tick: Some(1),
+            effects: vec![1; slots],
+            bids: vec![1; bidders],
+            constraints: slow::slot_terms(&of),
+            floors: Vec::new(),
+        };
+        assert!(slow::is_in_order(&round) && slow::is_downward(&round, of.owner as u8), "{of:?}");
+        assert_eq!(engine::check(&slow::sheet(&round)), 0, "{of:?}");
+    }
+}
+
+#[test]
+fn terms_of_a_size_give_so_many_constraints() {
+    let mut random = Random::seeded(21);
+    for (bidders, slots, constraints) in [(1, 1, 0), (1, 16, 15), (8, 4, 8), (8, 4, 31), (64, 16, 512), (64, 16, 1023)] {
+        let of = terms_of_size(&mut random, Size { bidders, slots, constraints });
+        assert_eq!(slow::slot_terms_number(&of, 4 * constraints), 0, "{of:?}");
+        assert_eq!(slow::slot_terms(&of).len(), constraints, "{of:?}");
+    }
 }
