@@ -1,7 +1,7 @@
 // Top-of-page terms: the source's slot-specific profile. A bidder gives the lowest slot that it accepts and, for each other bidder, how many top slots that
 // one must not have; its constraints are written from these, in rising order of their four bytes.
 //
-// No sheet is read. How many constraints there are is known before any is written: one for each place of a bar, and one for each place below the limit. They go in
+// No sheet is read. How many constraints there are is known before any is written: one for each slot of a bar, and one for each slot below the limit. They go in
 // runs whose numbers differ by one step.
 ghost use mathlib.Core.Bool.{not, _||_};
 ghost use mathlib.Core.Path.{_≡_};
