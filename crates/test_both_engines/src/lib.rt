@@ -1,4 +1,4 @@
-// The library's ten calls held against the second engine's, each on the same bytes: the numbers that they return, their answers, and
+// The ten of the library's calls that take a sheet, held against the second engine's, each on the same bytes: the numbers that they return, their answers, and
 // every byte of the buffers that were lent or stand beside what was lent. The program `test_trials` has the rounds.
 mod alike;
 pub mod answers;
