@@ -86,6 +86,13 @@ module _ {A : Type 0} (key : A → ℕ) where
   rising-joined f lo (suc n) h =
       rising-append (lo 0) (lo n) (lo (suc n)) (joined f n) (f n) (rising-joined f lo n (λ k l. h k (omega arith))) (h n (omega arith))
 
+  -- members that each stay within a step of bounds that follow one another
+  pub rising-steps : (f : ℕ → A) (lo : ℕ → ℕ) (n : ℕ) → ((k : ℕ) → k < n → (lo k ≤ key (f k)) × (key (f k) < lo (suc k))) → Rising key (lo 0) (lo n) (row f n)
+  unfolding row
+  rising-steps f lo zero h = omega arith
+  rising-steps f lo (suc n) h =
+      rising-append (lo 0) (lo n) (lo (suc n)) (row f n) (f n ∷ []) (rising-steps f lo n (λ k l. h k (omega arith))) (h n (omega arith))
+
   -- a row that rises from each index to the next
   pub rising-row : (f : ℕ → A) (n hi : ℕ) → ((k : ℕ) → k < n → key (f k) < hi) → ((i j : ℕ) → i < j → j < n → key (f i) < key (f j)) → Rising key 0 hi (row f n)
   unfolding row

@@ -1,20 +1,19 @@
 -- The conditions of a sheet in order, each once. Listed owner by owner, own place by own place and so on, they rise strictly by their numbers, and they are
 -- those of the sheet; and a rising list with these members is the only one. So in version 2 they are the sheet's as they stand, and the engine's numbers,
 -- sorted and each once, are theirs. Assumes nothing.
-use Prim.Native.Nat.{ℕ, zero, suc, _+_, _*_, _/_, _%_, _<_, _≤_}
+use Prim.Native.Nat.{ℕ, suc, _+_, _/_, _%_, _<_, _≤_}
 use borrow.Author.Tests.{eq-eqb, eqb-true}
-use mathlib.Core.Bool.{Bool, true, false, cond, _&&_}
-use mathlib.Core.List.{List, [], _∷_, _++_, List·Memᴰ, List·Memᴰ·head, List·Memᴰ·eq-of-singleton, List·Memᴰ·not-nil, Memᴰ·cast}
-use mathlib.Core.Logic.{⊎-elim}
+use mathlib.Core.Bool.{Bool, true, false, cond}
+use mathlib.Core.List.{List, [], _∷_, List·Memᴰ, List·Memᴰ·head, List·Memᴰ·eq-of-singleton, List·Memᴰ·not-nil, Memᴰ·cast}
 use mathlib.Core.Path.{_≡_, refl, sym, _∙_, ap, ap₂, subst}
 use native.Mathlib.Omega.{arith}
 use lib.Dec.{eqb}
 use lib.ListN.{length, getD}
 use Rattle.basis.specs.Rows.{row, joined}
 use Rattle.basis.specs.Rising.{Rising}
-use Rattle.basis.proofs.RisingLaws.{mem-row, row-mem, mem-joined, joined-mem, mem-at, at-mem, rising-lower, rising-higher, rising-joined, rising-row, rising-next, rising-equal, rising-few}
+use Rattle.basis.proofs.RisingLaws.{mem-row, row-mem, mem-joined, joined-mem, mem-at, at-mem, rising-higher, rising-joined, rising-row, rising-next, rising-equal, rising-few}
 use Rattle.basis.proofs.RowLaws.{joined-same, length-row}
-use Rattle.basis.proofs.TestLaws.{holds-or-fails, and-holds, and-parts, any-at, any-where}
+use Rattle.basis.proofs.TestLaws.{and-holds, and-parts, any-at, any-where}
 use Rattle.sheet.specs.Sheet.{
   version,
   bidderCount,

@@ -8,11 +8,11 @@ use mathlib.Core.Bool.{true}
 use mathlib.Core.Logic.{inr}
 use mathlib.Core.List.{List, [], _∷_, _++_, append-assoc}
 use mathlib.Core.Path.{_≡_, refl, sym, _∙_, ap, ap₂, subst}
-use native.Mathlib.Nat.{add-zero, mod-eq-of-lt}
+use native.Mathlib.Nat.{mod-eq-of-lt}
 use native.Mathlib.Omega.{arith}
 use lib.Dec.{eqb}
 use lib.ListN.{length, getD, take, drop, length-drop, take-append-drop}
-use lib.Seq.{take-add, take-all, take-suc, drop-drop, getD-drop}
+use lib.Seq.{take-add, take-all, drop-drop}
 use Rattle.basis.specs.Bytes.{byteAt, word16At, word32At, bytes32}
 use Rattle.basis.specs.Rows.{row, joined}
 use Rattle.basis.proofs.BytesLaws.{word-bytes, bytes-stand, four-stand}
@@ -35,7 +35,7 @@ use Rattle.sheet.specs.Sheet.{
   otherSlotField,
 }
 use Rattle.sheet.specs.Refusal.{marked, effectBefore, Accepted}
-use Rattle.sheet.specs.Accepted.{Counts, EffectAccepted, BidAccepted, ConstraintAccepted, orderNumber, AcceptedSheet}
+use Rattle.sheet.specs.Accepted.{Counts, EffectAccepted, BidAccepted, ConstraintAccepted, numberOf, orderNumber, AcceptedSheet}
 use Rattle.sheet.specs.declared.Constraint.{Constraint}
 use Rattle.sheet.specs.Round.{constraintField, SheetHas}
 use Rattle.sheet.specs.Encoded.{Condition, on, words, quads, countBytes, bodyBytes, sheetInTicks, conditionField}
@@ -46,7 +46,9 @@ use Rattle.canonical.specs.EngineParts.{headerOf, numbersBytes, InSheetO
 use Rattle.canonical.proofs.OrderedLaws.{has-where, has-at, few-conditions, condition-from, condition-kept, conditions-rise, conditions-same, conditions-two}
 use Rattle.sheet.proofs.EncodedLaws.{
   blankCondition,
+  asConstraint,
   readBack,
+  field-constraint,
   field-written,
   words-row,
   quadBytes,

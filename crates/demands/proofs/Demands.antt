@@ -18,8 +18,9 @@ use Rattle.best_page.specs.BestPage.{bestPage}
 use Rattle.best_search.specs.Call.{bestRefusal, bestFloorsRefusal, bestBuffer}
 use Rattle.owner_part.specs.OwnerPart.{partRefusal, bytesBefore, partLength}
 use Rattle.canonical.specs.Canonical.{canonicalSheet, canonicalRefusal, canonicalBuffer}
+use Rattle.slot_terms.specs.SlotTerms.{slotTerms, slotTermsRefusal, conditionsBuffer}
 use Rattle.pas.specs.Calls.{yesNumber}
-use Rattle.demands.specs.Demands.{Owed, DemandOne, DemandTwo, DemandThree, RequestThree, RequestFour, RequestFive, RequestSix, RequestSeven}
+use Rattle.demands.specs.Demands.{Owed, DemandOne, DemandTwo, DemandThree, RequestOne, RequestThree, RequestFour, RequestFive, RequestSix, RequestSeven}
 use Rattle.demands.proofs.FloorsLaws.{
   play-without,
   gain-without,
@@ -45,6 +46,7 @@ use Rattle.demands.proofs.AnswerLaws.{answered-in-order}
 use Rattle.demands.proofs.TickLaws.{request-four-holds}
 use Rattle.demands.proofs.OwnerOrderLaws.{request-five-holds}
 use Rattle.demands.proofs.CanonicalLaws.{request-six-holds}
+use Rattle.demands.proofs.SlotTermsLaws.{request-one-holds}
 
 -- what stands in lent memory is what stood there, or the result
 owed : {A : Type 0} (number first : ℕ) (given before after : A) → number ≡ first → after ≡ unlessRefused first given before →
@@ -101,6 +103,16 @@ demand-one =
             first-number = g .number;
             refused = λ h. (buffer .refused h, bytes .refused h);
             answered = λ z. (buffer .answered z, bytes .answered z);
+          };
+      slot-terms = λ n m owner limit bars out out′ before number after g.
+          let first = slotTermsRefusal n m owner limit bars out in
+          let qs = slotTerms n m owner limit bars in
+          let buffer = owed number first (conditionsBuffer qs out) out out′ (g .number) (g .buffer) in
+          let many = owed number first (length qs) before after (g .number) (g .written) in
+          record {
+            first-number = g .number;
+            refused = λ h. (buffer .refused h, many .refused h);
+            answered = λ z. (buffer .answered z, many .answered z);
           };
     }
 
@@ -159,3 +171,7 @@ request-seven =
       gain-then = λ f s t i worth right. gain-then f s right t i worth;
       best-then = λ f s out right. best-then f s right out;
     }
+
+-- Request S-1: an owner's conditions by its limit and the bars.
+pub request-one : RequestOne
+request-one = request-one-holds

@@ -7,4 +7,5 @@ pub mod TickLaws
 pub mod OwnerOrderLaws
 pub mod SameRoundLaws
 pub mod CanonicalLaws
+pub mod SlotTermsLaws
 pub mod Demands

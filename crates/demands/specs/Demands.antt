@@ -39,7 +39,7 @@ use Rattle.honesty.specs.Honesty.{DifferOnlyInList}
 use Rattle.owner_part.specs.declared.Before.{Before}
 use Rattle.owner_part.specs.OwnerPart.{partRefusal, bytesBefore, constraintsOf, partLength, beforeOf, PartHanded}
 use Rattle.canonical.specs.Canonical.{canonicalSheet, canonicalRefusal, canonicalBuffer, SameRound}
-use Rattle.slot_terms.specs.SlotTerms.{barFor, slotTerms, slotTermsRefusal, conditionsBuffer}
+use Rattle.slot_terms.specs.SlotTerms.{barFor, slotTerms, slotTermsRefusal, conditionsBuffer, OwnerFits, TermsFit}
 use Rattle.pas.specs.Calls.{yesNumber, DownwardGiven, GainGiven, GainFloorsGiven, BestPageGiven, BestFloorsPageGiven, PartGiven, CanonicalGiven, SlotTermsGiven}
 
 -- DEMAND 1. "Every sheet or call that breaks a rule gets the first number that applies, and no lent byte changes; every other gets its full
@@ -434,23 +434,6 @@ pub record TermsRight (n m owner limit : ℕ) (bars out out′ : List ℕ) (coun
   -- the list is downward monotonic for that m; so in an accepted sheet with that m the test of 01 passes
   pub downward-for : DownwardFor m out′ count
   pub downward-on : (s : List ℕ) → Accepted s → slotCount s ≡ m → ListSent s owner out′ count → downward (roundOf s) owner ≡ true
-
--- n, m and an owner that a sheet can have; then a limit and bars that break none of the call's rules
-pub record OwnerFits (n m owner : ℕ) : Type 0 where
-  pub some-bidders : 0 < n
-  pub most-bidders : n ≤ 64
-  pub some-slots : 0 < m
-  pub most-slots : m ≤ 16
-  pub some-owner : 0 < owner
-  pub most-owner : owner ≤ n
-
-pub record TermsFit (n m owner limit : ℕ) (bars : List ℕ) : Type 0 where
-  pub owner-fits : OwnerFits n m owner
-  pub some-limit : 0 < limit
-  pub most-limit : limit ≤ m
-  pub as-many : length bars ≡ n
-  pub none-above : (j : ℕ) → 0 < j → j ≤ n → barFor bars j ≤ m
-  pub none-against : barFor bars owner ≡ 0
 
 pub record RequestOne : Type 0 where
   -- what is written, wherever the call is not refused

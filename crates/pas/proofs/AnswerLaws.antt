@@ -23,11 +23,27 @@ use Rattle.owner_part.specs.declared.Bounds.{Bounds}
 use Rattle.owner_part.proofs.CallLaws.{given-bounds}
 use Rattle.canonical.specs.Canonical.{canonicalSheet, canonicalRefusal, CanonicalWritten}
 use Rattle.canonical.specs.declared.Rewritten.{Rewritten}
-use Rattle.pas.specs.Calls.{yesNumber, DownwardGiven, GainGiven, GainFloorsGiven, BestPageGiven, BestFloorsPageGiven, PartGiven, CanonicalGiven}
+use Rattle.slot_terms.specs.SlotTerms.{slotTerms, slotTermsRefusal, SlotTermsWritten}
+use Rattle.slot_terms.specs.declared.Terms.{Terms}
+use Rattle.pas.specs.Calls.{
+  yesNumber,
+  DownwardGiven,
+  GainGiven,
+  GainFloorsGiven,
+  BestPageGiven,
+  BestFloorsPageGiven,
+  PartGiven,
+  CanonicalGiven,
+  SlotTermsGiven,
+}
 
 -- an answered call's memory holds what is written there
 answered : {A : Type 0} (k n : ℕ) (answer before written : A) → n ≡ k → n ≡ 0 → (k ≡ 0 → written ≡ answer) → written ≡ unlessRefused k answer before
 answered k n answer before written e z h = let none : k ≡ 0 = sym e ∙ z in h none ∙ answered-gives k answer before none
+
+-- also a size that the call below gives, with 0 where it is refused
+sized : (k n size before written : ℕ) → n ≡ k → n ≡ 0 → written ≡ unlessRefused k size 0 → written ≡ unlessRefused k size before
+sized k n size before written e z h = answered k n size before written e z (λ none. h ∙ sym (answered-gives k size 0 none))
 
 -- what each call below returns: its number, and where that is 0 its answer
 tested-number : (k : ℕ) (s : List ℕ) (i : ℕ) → testedFor k s i .refusal ≡ k
@@ -202,7 +218,25 @@ module _ (s out : List ℕ) (before : ℕ) (w : Rewritten) (out′ : List ℕ) (
       record {
         number = sym z ∙ given .number;
         buffer = given .buffer;
+        written = sized (canonicalRefusal s out) (w .refusal) (length (canonicalSheet s)) before (w .length) (given .number) z (given .size);
+      }
+
+module _ (n m owner limit : ℕ) (bars out : List ℕ) (before : ℕ) (t : Terms) (out′ : List ℕ) (given : SlotTermsWritten n m owner limit bars out t out′) where
+  pub slot-terms-refused : (t .refusal ≡ 0 → ⊥) → SlotTermsGiven n m owner limit bars out before (t .refusal) out′ before
+  slot-terms-refused h =
+      record {
+        number = given .number;
+        buffer = given .buffer;
         written =
-            answered (canonicalRefusal s out) (w .refusal) (length (canonicalSheet s)) before (w .length) (given .number) z
-            (λ k. given .size ∙ sym (answered-gives (canonicalRefusal s out) (length (canonicalSheet s)) 0 k));
+            refused-leaves (slotTermsRefusal n m owner limit bars out) (t .refusal) (length (slotTerms n m owner limit bars)) before (given .number) h;
+      }
+
+  pub slot-terms-answered : t .refusal ≡ 0 → SlotTermsGiven n m owner limit bars out before 0 out′ (t .count)
+  slot-terms-answered z =
+      record {
+        number = sym z ∙ given .number;
+        buffer = given .buffer;
+        written =
+            sized (slotTermsRefusal n m owner limit bars out) (t .refusal) (length (slotTerms n m owner limit bars)) before (t .count) (given .number) z
+            (given .count);
       }

@@ -245,7 +245,7 @@ fields-of n m owner own other others e =
           ∙ ap₂ _&&_ (eq-eqb own 0 p) (ap₂ _&&_ (eq-eqb other 0 q) (sym both ∙ eq-eqb other 0 q)));
     }
 
-fields-back : (n m owner own other others : ℕ) → ConstraintAccepted n m owner own other others → fieldsRefusal n m owner own other others ≡ 0
+pub fields-back : (n m owner own other others : ℕ) → ConstraintAccepted n m owner own other others → fieldsRefusal n m owner own other others ≡ 0
 unfolding fieldsRefusal inRange
 fields-back n m owner own other others f =
     let owned = not-zero owner (f .some-owner) in

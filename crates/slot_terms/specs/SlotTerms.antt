@@ -1,6 +1,6 @@
 -- Request S-1, the source's slot-specific profile: "from n, m, an owner, its own limit and a bar for each bidder, write that owner's conditions in rising
 -- order of their four bytes and return how many; later bytes stay."
-use Prim.Native.Nat.{ℕ, zero, suc, _+_, _-_, _*_}
+use Prim.Native.Nat.{ℕ, zero, suc, _+_, _-_, _*_, _<_, _≤_}
 use mathlib.Core.Bool.{not, _||_}
 use mathlib.Core.List.{List, _++_}
 use mathlib.Core.Path.{_≡_}
@@ -23,7 +23,7 @@ barred owner other bar = row (λ k. on owner 0 other (suc k)) bar
 
 -- "A limit L gives own-place conditions for places L + 1 to m."
 unfoldable pub beyond : (m owner limit : ℕ) → List Condition
-beyond m owner limit = row (λ k. on owner (limit + suc k) 0 0) (m - limit)
+beyond m owner limit = row (λ k. on owner (limit + 1 + k) 0 0) (m - limit)
 
 -- all of them, "in rising order of their four bytes": own place 0, which stands for any, comes before the others, and bidder 1's bar before the next one's
 unfoldable pub slotTerms : (n m owner limit : ℕ) → List ℕ → List Condition
@@ -62,3 +62,20 @@ pub record SlotTermsWritten (n m owner limit : ℕ) (bars out : List ℕ) (retur
   pub number : returned .refusal ≡ slotTermsRefusal n m owner limit bars out
   pub count : returned .count ≡ unlessRefused (slotTermsRefusal n m owner limit bars out) (length (slotTerms n m owner limit bars)) 0
   pub buffer : out′ ≡ unlessRefused (slotTermsRefusal n m owner limit bars out) (conditionsBuffer (slotTerms n m owner limit bars) out) out
+
+-- What these numbers leave: n, m and an owner that a sheet can have; and with them a limit and bars that break no rule of the call.
+pub record OwnerFits (n m owner : ℕ) : Type 0 where
+  pub some-bidders : 0 < n
+  pub most-bidders : n ≤ 64
+  pub some-slots : 0 < m
+  pub most-slots : m ≤ 16
+  pub some-owner : 0 < owner
+  pub most-owner : owner ≤ n
+
+pub record TermsFit (n m owner limit : ℕ) (bars : List ℕ) : Type 0 where
+  pub owner-fits : OwnerFits n m owner
+  pub some-limit : 0 < limit
+  pub most-limit : limit ≤ m
+  pub as-many : length bars ≡ n
+  pub none-above : (j : ℕ) → 0 < j → j ≤ n → barFor bars j ≤ m
+  pub none-against : barFor bars owner ≡ 0

@@ -1,19 +1,28 @@
 // Top-of-page terms: the source's slot-specific profile. A bidder gives the lowest slot that it accepts and, for each other bidder, how many top slots that
 // one must not have; its constraints are written from these, in rising order of their four bytes.
 //
-// No sheet is read. How many constraints there are is known before any is written: a slot for each step of a bar, and those below the limit.
+// No sheet is read. How many constraints there are is known before any is written: one for each place of a bar, and one for each place below the limit. They go in
+// runs whose numbers differ by one step.
 ghost use mathlib.Core.Path.{_≡_};
-ghost use Prim.Native.Nat.{ℕ, suc, _+_, _-_, _*_, _<_, _≤_};
+ghost use Prim.Native.Nat.{ℕ, suc, _+_, _*_, _<_, _≤_};
 ghost use lib.Dec.{ltb};
 ghost use lib.ListN.{length, getD};
 ghost use lib.Seq.{sets};
+ghost use Rattle.basis.specs.Bytes.{bytes32};
 ghost use Rattle.basis.specs.Rows.{joined};
 ghost use Rattle.basis.specs.Tests.{anyBelow};
 ghost use Rattle.sheet.specs.Encoded.{quads};
-ghost use Rattle.slot_terms.specs.SlotTerms.{barFor, barred, beyond, ownerRefusal, profileRefusal, SlotTermsWritten};
-ghost use Rattle.slot_terms.specs.EngineTerms.{barsTo};
+ghost use Rattle.slot_terms.specs.SlotTerms.{barFor, barred, ownerRefusal, profileRefusal, SlotTermsWritten};
+ghost use Rattle.slot_terms.specs.EngineTerms.{wordOf, barsTo};
 use sheet::Bidder;
 use sheet::Slot;
+
+// How far a constraint's number rises with its own slot, its other bidder and its other's slot.
+const OWN_STEP: u32 = 256;
+
+const OTHER_STEP: u32 = 65536;
+
+const OTHERS_STEP: u32 = 16777216;
 
 // What the call answers: a refusal's number, or 0 and how many constraints are written.
 pub struct Terms {
@@ -97,44 +106,44 @@ fn sum_bars(bars: &[u8]) -> usize
     sum
 }
 
-// The constraints of one bar are written at an offset: another bidder at slots 1 to the bar.
-fn put_barred(result: &mut [u8], at: usize, owner: Bidder, other: Bidder, bar: Slot)
-    requires { ⌜ (at + 4 * bar .0 ≤ length (now result)) × (owner .0 ≤ 64) × (other .0 ≤ 64) × (bar .0 ≤ 16) ⌝ }
-    ensures { λ r. ⌜ now (result .exit) ≡ sets (now (result .entry)) at (quads (barred (owner .0) (other .0) (bar .0))) ⌝ }
+// A constraint as the number of its four bytes, low byte first: the owner is the lowest.
+fn word_of(owner: Bidder, own: Slot, other: Bidder, others: Slot) -> u32
+    requires { ⌜ (owner .0 < 256) × (own .0 < 256) × (other .0 < 256) × (others .0 < 256) ⌝ }
+    ensures { λ r. ⌜ r ≡ wordOf (owner .0) (own .0) (other .0) (others .0) ⌝ }
 {
-    let pair = owner.0 as u32 + 65536 * other.0 as u32;
+    owner.0 as u32
+        + OWN_STEP * own.0 as u32
+        + OTHER_STEP * other.0 as u32
+        + OTHERS_STEP * others.0 as u32
+}
+
+// Numbers are written at an offset one after another, each a step above the one before it.
+fn put_run(result: &mut [u8], at: usize, first: u32, step: u32, count: usize)
+    requires { ⌜ (at + 4 * count ≤ length (now result)) × (first + step * count < 4294967296) ⌝ }
+    ensures { λ r. ⌜ now (result .exit) ≡ sets (now (result .entry)) at (joined (λ k. bytes32 (first + step * k)) count) ⌝ }
+{
+    let mut word = first;
     let mut k: usize = 0;
-    while k < bar.0 as usize {
-        basis::put_word32(result, at + 4 * k, pair + 16777216 * (k as u32 + 1));
+    while k < count {
+        basis::put_word32(result, at + 4 * k, word);
+        word += step;
         k += 1;
     }
 }
 
-// The constraints of all bars are written at the front; how many bytes they are.
-fn put_all_barred(result: &mut [u8], owner: Bidder, bars: &[u8]) -> usize
-    requires { ⌜ (length (now bars) ≤ 64) × (owner .0 ≤ 64) × ((i : ℕ) → i < length (now bars) → getD (now bars) i 0 ≤ 16) × (4 * barsTo (now bars) (length (now bars)) ≤ length (now result)) ⌝ }
-    ensures { λ r. ⌜ (r ≡ 4 * barsTo (now (bars .entry)) (length (now (bars .entry)))) × (now (result .exit) ≡ sets (now (result .entry)) 0 (quads (joined (λ i. barred (owner .0) (suc i) (barFor (now (bars .entry)) (suc i))) (length (now (bars .entry)))))) ⌝ }
+// The constraints of all bars are written at an offset: for each bidder, by its number, those that keep it from slots 1 to its bar.
+fn put_all_barred(result: &mut [u8], start: usize, owner: Bidder, bars: &[u8])
+    requires { ⌜ (length (now bars) ≤ 64) × (owner .0 ≤ 64) × ((i : ℕ) → i < length (now bars) → getD (now bars) i 0 ≤ 16) × (start + 4 * barsTo (now bars) (length (now bars)) ≤ length (now result)) ⌝ }
+    ensures { λ r. ⌜ now (result .exit) ≡ sets (now (result .entry)) start (quads (joined (λ i. barred (owner .0) (suc i) (barFor (now (bars .entry)) (suc i))) (length (now (bars .entry))))) ⌝ }
 {
-    let mut at: usize = 0;
+    let mut at = start;
     let mut i: usize = 0;
     while i < bars.len() {
-        put_barred(result, at, owner, Bidder(i as u16 + 1), Slot(bars[i]));
-        at += 4 * bars[i] as usize;
+        let bar = bars[i] as usize;
+        let top = word_of(owner, Slot(0), Bidder(i as u16 + 1), Slot(1));
+        put_run(result, at, top, OTHERS_STEP, bar);
+        at += 4 * bar;
         i += 1;
-    }
-    at
-}
-
-// The constraints of the limit are written at an offset: the owner at the slots below it.
-fn put_beyond(result: &mut [u8], at: usize, owner: Bidder, limit: u32, slots: u32)
-    requires { ⌜ (owner .0 ≤ 64) × (limit ≤ slots) × (slots ≤ 16) × (at + 4 * (slots - limit) ≤ length (now result)) ⌝ }
-    ensures { λ r. ⌜ now (result .exit) ≡ sets (now (result .entry)) at (quads (beyond slots (owner .0) limit)) ⌝ }
-{
-    let owner = owner.0 as u32;
-    let mut k: u32 = 0;
-    while k < slots - limit {
-        basis::put_word32(result, at + 4 * k as usize, owner + 256 * (limit + k + 1));
-        k += 1;
     }
 }
 
@@ -151,13 +160,17 @@ pub fn write(n: u32, m: u32, owner: u32, limit: u32, bars: &[u8], result: &mut [
     if wrong != 0 {
         return refused(wrong);
     }
-    let count = sum_bars(bars) + (m - limit) as usize;
+    let barred = sum_bars(bars);
+    let first = limit + 1;
+    let beyond = (m + 1 - first) as usize;
+    let count = barred + beyond;
     if result.len() < 4 * count {
         return refused(19);
     }
     let owner = Bidder(owner as u16);
-    let at = put_all_barred(result, owner, bars);
-    put_beyond(result, at, owner, limit, m);
+    put_all_barred(result, 0, owner, bars);
+    let below = word_of(owner, Slot(first as u8), Bidder(0), Slot(0));
+    put_run(result, 4 * barred, below, OWN_STEP, beyond);
     Terms {
         refusal: 0,
         count: count as u32,

@@ -1,0 +1,169 @@
+-- The numbers of the call: which it gives, and what a call without one is known to be. Assumes nothing.
+use Prim.Native.Nat.{ℕ, zero, suc, _*_, _<_, _≤_}
+use borrow.Author.Tests.{eq-eqb, ne-eqb, eqb-true, eqb-false, lt-ltb, le-ltb, ltb-false, not-false}
+use mathlib.Core.Bool.{Bool, true, false, not, _||_}
+use mathlib.Core.List.{List}
+use mathlib.Core.Logic.{_⊎_, ⊎-elim}
+use mathlib.Core.Path.{_≡_, _∙_, ap}
+use native.Mathlib.Omega.{arith}
+use lib.Dec.{eqb, ltb}
+use lib.ListN.{length}
+use Rattle.basis.specs.First.{_when_otherwise_, orElse}
+use Rattle.basis.specs.Tests.{anyBelow}
+use Rattle.basis.proofs.FirstLaws.{orElse-none, orElse-right, when-none}
+use Rattle.basis.proofs.TestLaws.{or-left, or-right, or-none, or-fails, not-holds, any-at, any-none, none-any}
+use Rattle.slot_terms.specs.SlotTerms.{barFor, slotTerms, ownerRefusal, profileRefusal, slotTermsRefusal, OwnerFits, TermsFit}
+
+-- a number from 1 to a largest one, and any other
+outside : (x most : ℕ) → (x ≡ 0) ⊎ (most < x) → (eqb x 0 || ltb most x) ≡ true
+outside x most bad =
+    ⊎-elim (λ (e : x ≡ 0). or-left (ltb most x) (eq-eqb x 0 e)) (λ (l : most < x). or-right (eqb x 0) (lt-ltb most x l)) bad
+
+inside : (x most : ℕ) → 0 < x → x ≤ most → (eqb x 0 || ltb most x) ≡ false
+inside x most some within = or-fails (ne-eqb x 0 (omega arith)) (le-ltb most x within)
+
+from-inside : (x most : ℕ) → (eqb x 0 || ltb most x) ≡ false → (0 < x) × (x ≤ most)
+from-inside x most e =
+    let parts = or-none (eqb x 0) (ltb most x) e in
+    let some : x ≡ 0 → ⊥ = eqb-false x 0 (parts .0) in
+    (omega arith, ltb-false most x (parts .1))
+
+-- 4, 5 and 16: none exactly where n, m and the owner fit
+pub owner-none : (n m owner : ℕ) → OwnerFits n m owner → ownerRefusal n m owner ≡ 0
+unfolding ownerRefusal
+owner-none n m owner fits =
+    simp (
+      inside n 64 (fits .some-bidders) (fits .most-bidders),
+      inside m 16 (fits .some-slots) (fits .most-slots),
+      inside owner n (fits .some-owner) (fits .most-owner),
+    )
+
+pub fits-owner : (n m owner : ℕ) → ownerRefusal n m owner ≡ 0 → OwnerFits n m owner
+unfolding ownerRefusal
+fits-owner n m owner e =
+    let first = when-none 3 (eqb n 0 || ltb 64 n) _ e in
+    let second = when-none 4 (eqb m 0 || ltb 16 m) _ (first .1) in
+    let third = when-none 15 (eqb owner 0 || ltb n owner) _ (second .1) in
+    let bidders = from-inside n 64 (first .0) in
+    let slots = from-inside m 16 (second .0) in
+    let own = from-inside owner n (third .0) in
+    record {
+      some-bidders = bidders .0;
+      most-bidders = bidders .1;
+      some-slots = slots .0;
+      most-slots = slots .1;
+      some-owner = own .0;
+      most-owner = own .1;
+    }
+
+-- and 20 to 22: none exactly where the limit and the bars do
+module _ (n m owner limit : ℕ) (bars : List ℕ) where
+  abbrev barsWrong : Bool
+  barsWrong = not (eqb (length bars) n) || anyBelow (λ i. ltb m (barFor bars (suc i))) n
+
+  bars-wrong : (length bars ≡ n → ⊥) ⊎ ((j : ℕ) × (0 < j) × (j ≤ n) × (m < barFor bars j)) → barsWrong ≡ true
+  bars-wrong bad =
+      ⊎-elim
+      (λ (h : length bars ≡ n → ⊥). or-left (anyBelow (λ i. ltb m (barFor bars (suc i))) n) (not-holds (ne-eqb (length bars) n h)))
+      (λ (h : (j : ℕ) × (0 < j) × (j ≤ n) × (m < barFor bars j)). or-right (not (eqb (length bars) n)) (above (h .0) (h .1) (h .2) (h .3)))
+      bad
+    where
+      above : (j : ℕ) → 0 < j → j ≤ n → m < barFor bars j → anyBelow (λ i. ltb m (barFor bars (suc i))) n ≡ true
+      above zero some l h = absurd (omega arith)
+      above (suc i) some l h = any-at (λ i. ltb m (barFor bars (suc i))) n i l (lt-ltb m (barFor bars (suc i)) h)
+
+  bars-right : length bars ≡ n → ((j : ℕ) → 0 < j → j ≤ n → barFor bars j ≤ m) → barsWrong ≡ false
+  bars-right many low =
+      or-fails
+      (ap not (eq-eqb (length bars) n many))
+      (none-any (λ i. ltb m (barFor bars (suc i))) n (λ i l. le-ltb m (barFor bars (suc i)) (low (suc i) (omega arith) l)))
+
+  pub profile-none : TermsFit n m owner limit bars → profileRefusal n m owner limit bars ≡ 0
+  unfolding profileRefusal
+  profile-none fit =
+      simp (
+        inside limit m (fit .some-limit) (fit .most-limit),
+        bars-right (fit .as-many) (fit .none-above),
+        eq-eqb (barFor bars owner) 0 (fit .none-against),
+      )
+
+  pub fits-terms : OwnerFits n m owner → profileRefusal n m owner limit bars ≡ 0 → TermsFit n m owner limit bars
+  unfolding profileRefusal
+  fits-terms fits e =
+      let first = when-none 19 (eqb limit 0 || ltb m limit) _ e in
+      let second = when-none 20 barsWrong _ (first .1) in
+      let third = when-none 21 (not (eqb (barFor bars owner) 0)) _ (second .1) in
+      let limits = from-inside limit m (first .0) in
+      let lists = or-none (not (eqb (length bars) n)) (anyBelow (λ i. ltb m (barFor bars (suc i))) n) (second .0) in
+      record {
+        owner-fits = fits;
+        some-limit = limits .0;
+        most-limit = limits .1;
+        as-many = eqb-true (length bars) n (not-false (eqb (length bars) n) (lists .0));
+        none-above = low (lists .1);
+        none-against = eqb-true (barFor bars owner) 0 (not-false (eqb (barFor bars owner) 0) (third .0));
+      }
+    where
+      low : anyBelow (λ i. ltb m (barFor bars (suc i))) n ≡ false → (j : ℕ) → 0 < j → j ≤ n → barFor bars j ≤ m
+      low none zero some l = absurd (omega arith)
+      low none (suc i) some l = ltb-false m (barFor bars (suc i)) (any-none (λ i. ltb m (barFor bars (suc i))) n none i l)
+
+-- The call's numbers.
+module _ (n m owner limit : ℕ) (bars out : List ℕ) where
+  abbrev roomNumber : ℕ
+  roomNumber = 19 when ltb (length out) (4 * length (slotTerms n m owner limit bars)) otherwise 0
+
+  pub owner-first : (k : ℕ) → ownerRefusal n m owner ≡ suc k → slotTermsRefusal n m owner limit bars out ≡ suc k
+  unfolding slotTermsRefusal
+  owner-first k e = ap (λ (a : ℕ). orElse a (orElse (profileRefusal n m owner limit bars) roomNumber)) e
+
+  owner-passed : OwnerFits n m owner → slotTermsRefusal n m owner limit bars out ≡ orElse (profileRefusal n m owner limit bars) roomNumber
+  unfolding slotTermsRefusal
+  owner-passed fits = orElse-right (ownerRefusal n m owner) _ (owner-none n m owner fits)
+
+  pub profile-first : (k : ℕ) → OwnerFits n m owner → profileRefusal n m owner limit bars ≡ suc k → slotTermsRefusal n m owner limit bars out ≡ suc k
+  profile-first k fits e = owner-passed fits ∙ ap (λ (a : ℕ). orElse a roomNumber) e
+
+  pub four : (n ≡ 0) ⊎ (64 < n) → slotTermsRefusal n m owner limit bars out ≡ 4
+  unfolding ownerRefusal
+  four bad = owner-first 3 (simp (outside n 64 bad))
+
+  pub five : 0 < n → n ≤ 64 → (m ≡ 0) ⊎ (16 < m) → slotTermsRefusal n m owner limit bars out ≡ 5
+  unfolding ownerRefusal
+  five some most bad = owner-first 4 (simp (inside n 64 some most, outside m 16 bad))
+
+  pub sixteen : 0 < n → n ≤ 64 → 0 < m → m ≤ 16 → (owner ≡ 0) ⊎ (n < owner) → slotTermsRefusal n m owner limit bars out ≡ 16
+  unfolding ownerRefusal
+  sixteen some most some-m most-m bad = owner-first 15 (simp (inside n 64 some most, inside m 16 some-m most-m, outside owner n bad))
+
+  pub twenty : OwnerFits n m owner → (limit ≡ 0) ⊎ (m < limit) → slotTermsRefusal n m owner limit bars out ≡ 20
+  unfolding profileRefusal
+  twenty fits bad = profile-first 19 fits (simp (outside limit m bad))
+
+  pub twenty-one : OwnerFits n m owner → 0 < limit → limit ≤ m → (length bars ≡ n → ⊥) ⊎ ((j : ℕ) × (0 < j) × (j ≤ n) × (m < barFor bars j)) →
+      slotTermsRefusal n m owner limit bars out ≡ 21
+  unfolding profileRefusal
+  twenty-one fits some most bad = profile-first 20 fits (simp (inside limit m some most, bars-wrong n m owner limit bars bad))
+
+  pub twenty-two : OwnerFits n m owner → 0 < limit → limit ≤ m → length bars ≡ n → ((j : ℕ) → 0 < j → j ≤ n → barFor bars j ≤ m) →
+      (barFor bars owner ≡ 0 → ⊥) → slotTermsRefusal n m owner limit bars out ≡ 22
+  unfolding profileRefusal
+  twenty-two fits some most many low against =
+      profile-first 21 fits (simp (inside limit m some most, bars-right n m owner limit bars many low, ne-eqb (barFor bars owner) 0 against))
+
+  all-passed : TermsFit n m owner limit bars → slotTermsRefusal n m owner limit bars out ≡ roomNumber
+  all-passed fit = owner-passed (fit .owner-fits) ∙ orElse-right (profileRefusal n m owner limit bars) _ (profile-none n m owner limit bars fit)
+
+  pub nineteen : TermsFit n m owner limit bars → length out < 4 * length (slotTerms n m owner limit bars) → slotTermsRefusal n m owner limit bars out ≡ 19
+  nineteen fit short = all-passed fit ∙ ap (λ (t : Bool). 19 when t otherwise 0) (lt-ltb (length out) _ short)
+
+  pub answered : TermsFit n m owner limit bars → 4 * length (slotTerms n m owner limit bars) ≤ length out → slotTermsRefusal n m owner limit bars out ≡ 0
+  answered fit room = all-passed fit ∙ ap (λ (t : Bool). 19 when t otherwise 0) (le-ltb (length out) _ room)
+
+  pub passed-all : slotTermsRefusal n m owner limit bars out ≡ 0 → TermsFit n m owner limit bars × (4 * length (slotTerms n m owner limit bars) ≤ length out)
+  unfolding slotTermsRefusal
+  passed-all e =
+      let first = orElse-none (ownerRefusal n m owner) _ e in
+      let second = orElse-none (profileRefusal n m owner limit bars) roomNumber (first .1) in
+      let third = when-none 18 (ltb (length out) (4 * length (slotTerms n m owner limit bars))) 0 (second .1) in
+      (fits-terms n m owner limit bars (fits-owner n m owner (first .0)) (second .0), ltb-false (length out) _ (third .0))
