@@ -11,6 +11,8 @@ pub const UNTOUCHED_TOTAL: u64 = 165;
 
 pub const UNTOUCHED_PLACE: usize = 165165;
 
+pub const UNTOUCHED_COUNT: u32 = 165165;
+
 // The number that the call returns.
 pub fn number(refusal: u32) {
     line::number(b": ", refusal as u64);
@@ -201,7 +203,7 @@ fn each_condition(part: &[u8], from: usize) {
 }
 
 // The conditions from an offset on: where they are few each, and else the first and the last.
-fn last_part(part: &[u8], from: usize) {
+pub fn last_part(part: &[u8], from: usize) {
     if part.len() < from {
         line::text(b"; too short");
         return;

@@ -11,7 +11,7 @@ use test_edge_sheets::line;
 const RESULT_ROOM: usize = 128;
 
 // For a script that asks for more than that; no call returns it.
-const OUT_OF_ROOM: u32 = 1000;
+pub const OUT_OF_ROOM: u32 = 1000;
 
 // The call that the line's first word names. A line of any other word makes none.
 pub fn answer(words: &[u8], sheet: &[u8], truth: &[u8]) {

@@ -1,8 +1,8 @@
-// The edges of document 01's calls and of document 02's owner part, floors and one sheet for one round, on sheets of both versions, and the
-// rounds worked by hand: a script comes in, and goes out again with the answer of each call.
+// The edges of document 01's calls and of document 02's owner part, floors, one sheet for one round and top-of-page terms, on sheets of both
+// versions, and the rounds worked by hand: a script comes in, and goes out again with the answer of each call.
 //
 // The file `stdin` is the script. A line whose first word is one of `sheets` writes on the sheet in hand, "floors" writes the list of floors in
-// hand, a line that begins with words of `calls` makes a call, and any other is there for the reader. Of the rest of a line only its numbers
+// hand, a line that begins with words of `calls` or with "terms" makes a call, and any other is there for the reader. Of the rest of a line only its numbers
 // count, so that a line can be a sentence in the documents' words. The file `stdout` has the answers that the documents ask for.
 use test_edge_sheets::build;
 use test_edge_sheets::line;
@@ -12,9 +12,10 @@ mod calls;
 mod listed_floors;
 mod script;
 mod sheets;
+mod terms;
 
 // Room for the script.
-const SCRIPT_ROOM: usize = 65536;
+const SCRIPT_ROOM: usize = 131072;
 
 // How much of each buffer is lent: bytes of the sheet in hand and of the truth sheet, and floors.
 struct Lengths {
@@ -41,6 +42,10 @@ fn call(words: &[u8], sheet: &[u8], floors: &[u32], truth: &[u8], length: usize)
     }
     if script::begins(words, b"one sheet") {
         calls::one_sheet(words, sheet);
+        return;
+    }
+    if script::begins(words, b"terms") {
+        terms::answer(words);
         return;
     }
     calls::answer(words, sheet, truth);

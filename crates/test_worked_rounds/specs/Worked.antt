@@ -1,5 +1,6 @@
 -- "Rounds worked by hand": what is asked of each round, and what documents 01 and 02 say; candidates for a place, with the answer of the
--- eligibility step (document 02, S-3); and bidders asked for, with their part of the sheet (S-5); and sheets that are written anew (S-6). Some rounds are played with floors as well (S-7).
+-- eligibility step (document 02, S-3); bidders asked for, with their part of the sheet (S-5); sheets that are written anew (S-6); and top-of-page
+-- terms (S-1). Some rounds are played with floors as well (S-7).
 use Prim.Native.Nat.{ℕ, _*_, _-_}
 use mathlib.Core.Bool.{Bool, true, false}
 use mathlib.Core.List.{List, [], _∷_, _++_, map}
@@ -24,6 +25,7 @@ use Rattle.owner_part.specs.declared.Bounds.{Bounds}
 use Rattle.owner_part.specs.declared.Before.{Before}
 use Rattle.owner_part.specs.OwnerPart.{boundsOf, beforeOf}
 use Rattle.canonical.specs.Canonical.{canonicalSheet, canonicalRefusal, canonicalBuffer}
+use Rattle.slot_terms.specs.SlotTerms.{slotTerms, slotTermsRefusal, conditionsBuffer}
 use Rattle.test_worked_rounds.specs.Sheets.{
   A,
   B,
@@ -539,4 +541,101 @@ writings =
     ∷ writesNot F-in-ticks 24 19
     ∷ writesNot own-place-falls 0 28
     ∷ writesNot F-version-3 25 3
+    ∷ []
+
+-- What is said of top-of-page terms: the number and how many conditions the call returns, and the buffer after it.
+pub record TermsSaid : Type 0 where
+  pub number : ℕ
+  pub count : ℕ
+  pub buffer : List ℕ
+
+pub record TermsAsked : Type 0 where
+  pub n : ℕ
+  pub m : ℕ
+  pub owner : ℕ
+  pub limit : ℕ
+  pub bars : List ℕ
+  pub buffer : List ℕ
+  pub said : TermsSaid
+
+-- by the right-hand sides of the contract
+unfoldable pub givenByTerms : TermsAsked → TermsSaid
+givenByTerms t =
+    let number = slotTermsRefusal (t .n) (t .m) (t .owner) (t .limit) (t .bars) (t .buffer) in
+    let conditions = slotTerms (t .n) (t .m) (t .owner) (t .limit) (t .bars) in
+    record {
+      number = number;
+      count = unlessRefused number (length conditions) 0;
+      buffer = unlessRefused number (conditionsBuffer conditions (t .buffer)) (t .buffer);
+    }
+
+-- n, m, the owner, its limit and the bars: so many conditions, as these bytes, in a buffer with more bytes
+abbrev pub givesBefore : List ℕ → (n m owner limit : ℕ) → List ℕ → ℕ → List ℕ → TermsAsked
+givesBefore later n m owner limit bars count bytes =
+    record {
+      n = n;
+      m = m;
+      owner = owner;
+      limit = limit;
+      bars = bars;
+      buffer = replicate (length bytes) 9 ++ later;
+      said = record { number = 0; count = count; buffer = bytes ++ later };
+    }
+
+abbrev pub gives : (n m owner limit : ℕ) → List ℕ → ℕ → List ℕ → TermsAsked
+gives = givesBefore (7 ∷ 8 ∷ [])
+
+-- and a call that is refused with the number k, with a buffer of so many bytes
+abbrev pub givesNot : (n m owner limit : ℕ) → List ℕ → ℕ → ℕ → TermsAsked
+givesNot n m owner limit bars room k =
+    record {
+      n = n;
+      m = m;
+      owner = owner;
+      limit = limit;
+      bars = bars;
+      buffer = replicate room 9;
+      said = record { number = k; count = 0; buffer = replicate room 9 };
+    }
+
+-- Bars before and after the owner, with a limit, also in a buffer of just their bytes; bars alone; a limit alone; neither, where nothing is written, also in a
+-- buffer of no bytes; one bidder with one place and with two; and the largest owner, n and m. Then refused calls, first with one fault, as far as that can be: 4 for n 0
+-- and 65; 5 for m 0 and 17; 16 for owner 0 and n + 1; 20 for limit 0 and m + 1; 21 for a bar too few, one too many, and the first and the last bar above m; 22; and 19 for a byte
+-- too few, also of the 4,092 that are the most, and for none at all. Last with more faults, which show the order: 4, 5, 16, 20, 21 for bars too few and for a bar above m, also the
+-- owner's own, and 22, each before all that come after it.
+unfoldable pub terms : List TermsAsked
+terms =
+    gives 3 3 2 2 (1 ∷ 0 ∷ 3 ∷ []) 5 (2 ∷ 0 ∷ 1 ∷ 1 ∷ 2 ∷ 0 ∷ 3 ∷ 1 ∷ 2 ∷ 0 ∷ 3 ∷ 2 ∷ 2 ∷ 0 ∷ 3 ∷ 3 ∷ 2 ∷ 3 ∷ 0 ∷ 0 ∷ [])
+    ∷ givesBefore [] 3 3 2 2 (1 ∷ 0 ∷ 3 ∷ []) 5 (2 ∷ 0 ∷ 1 ∷ 1 ∷ 2 ∷ 0 ∷ 3 ∷ 1 ∷ 2 ∷ 0 ∷ 3 ∷ 2 ∷ 2 ∷ 0 ∷ 3 ∷ 3 ∷ 2 ∷ 3 ∷ 0 ∷ 0 ∷ [])
+    ∷ gives 3 2 1 2 (0 ∷ 1 ∷ 2 ∷ []) 3 (1 ∷ 0 ∷ 2 ∷ 1 ∷ 1 ∷ 0 ∷ 3 ∷ 1 ∷ 1 ∷ 0 ∷ 3 ∷ 2 ∷ [])
+    ∷ gives 2 4 2 1 (0 ∷ 0 ∷ []) 3 (2 ∷ 2 ∷ 0 ∷ 0 ∷ 2 ∷ 3 ∷ 0 ∷ 0 ∷ 2 ∷ 4 ∷ 0 ∷ 0 ∷ [])
+    ∷ gives 3 3 2 3 (0 ∷ 0 ∷ 0 ∷ []) 0 []
+    ∷ givesBefore [] 3 3 2 3 (0 ∷ 0 ∷ 0 ∷ []) 0 []
+    ∷ gives 1 1 1 1 (0 ∷ []) 0 []
+    ∷ gives 1 2 1 1 (0 ∷ []) 1 (1 ∷ 2 ∷ 0 ∷ 0 ∷ [])
+    ∷ gives 64 16 64 14 (1 ∷ replicate 61 0 ++ 2 ∷ 0 ∷ []) 5 (64 ∷ 0 ∷ 1 ∷ 1 ∷ 64 ∷ 0 ∷ 63 ∷ 1 ∷ 64 ∷ 0 ∷ 63 ∷ 2 ∷ 64 ∷ 15 ∷ 0 ∷ 0 ∷ 64 ∷ 16 ∷ 0 ∷ 0 ∷ [])
+    ∷ givesNot 0 3 1 2 [] 20 4
+    ∷ givesNot 65 3 2 2 (replicate 65 0) 20 4
+    ∷ givesNot 3 0 2 1 (0 ∷ 0 ∷ 0 ∷ []) 20 5
+    ∷ givesNot 3 17 2 2 (1 ∷ 0 ∷ 3 ∷ []) 80 5
+    ∷ givesNot 3 3 0 2 (1 ∷ 0 ∷ 3 ∷ []) 20 16
+    ∷ givesNot 3 3 4 2 (1 ∷ 0 ∷ 3 ∷ []) 20 16
+    ∷ givesNot 3 3 2 0 (1 ∷ 0 ∷ 3 ∷ []) 28 20
+    ∷ givesNot 3 3 2 4 (1 ∷ 0 ∷ 3 ∷ []) 20 20
+    ∷ givesNot 3 3 2 2 (1 ∷ 0 ∷ []) 20 21
+    ∷ givesNot 3 3 2 2 (1 ∷ 0 ∷ 3 ∷ 0 ∷ []) 20 21
+    ∷ givesNot 3 3 2 2 (4 ∷ 0 ∷ 3 ∷ []) 32 21
+    ∷ givesNot 3 3 2 2 (1 ∷ 0 ∷ 4 ∷ []) 24 21
+    ∷ givesNot 3 3 2 2 (1 ∷ 1 ∷ 3 ∷ []) 24 22
+    ∷ givesNot 3 3 2 2 (1 ∷ 0 ∷ 3 ∷ []) 19 19
+    ∷ givesNot 3 3 2 2 (1 ∷ 0 ∷ 3 ∷ []) 0 19
+    ∷ givesNot 64 16 64 1 (replicate 63 16 ++ 0 ∷ []) 4091 19
+    ∷ givesNot 65 17 66 0 (17 ∷ []) 0 4
+    ∷ givesNot 3 17 4 0 (18 ∷ []) 0 5
+    ∷ givesNot 3 3 4 4 (4 ∷ []) 0 16
+    ∷ givesNot 3 3 2 4 (4 ∷ 1 ∷ []) 0 20
+    ∷ givesNot 3 3 2 2 (1 ∷ 1 ∷ []) 0 21
+    ∷ givesNot 3 3 2 2 (4 ∷ 1 ∷ 3 ∷ []) 0 21
+    ∷ givesNot 3 3 2 2 (1 ∷ 4 ∷ 3 ∷ []) 0 21
+    ∷ givesNot 3 3 2 2 (1 ∷ 3 ∷ 3 ∷ []) 19 22
     ∷ []
