@@ -262,6 +262,18 @@ pub fn make(state: &mut u64, shape: u32, sheet: &[u8], floors: &mut [u32]) -> u3
     slots
 }
 
+// Floors among the bids: falling, rising, at bids, between ticks or mixed.
+pub fn shape_among_bids(state: &mut u64) -> u32 {
+    let drawn = number::up_to(state, 7);
+    match drawn {
+        0 | 1 => FALLING,
+        2 | 3 => RISING,
+        4 => AT_BIDS,
+        5 => OFF_TICK,
+        _ => MIXED,
+    }
+}
+
 // What can be asked of a floor.
 pub enum Test {
     AboveZero,

@@ -3,5 +3,6 @@
 pub mod floor_lists;
 pub mod lists;
 pub mod number;
+pub mod others;
 pub mod parts;
 pub mod rounds;

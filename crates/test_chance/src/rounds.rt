@@ -36,7 +36,7 @@ pub const SHAPES: u32 = 13;
 // "effect of places 1 to m, 1 to 1,000,000"
 const MAX_EFFECT: u32 = 1000000;
 
-// "bid of bidders 1 to n, 0 to 1,000,000,000"
+// "bid of bidders 1 to n, 0 to 1,000,000,000", and the largest worth.
 const MAX_BID: u32 = 1000000000;
 
 // "a tick of 0 or above 1,000,000,000" is turned away.
@@ -316,4 +316,26 @@ pub fn retick(state: &mut u64, buf: &mut [u8], steps: Steps) -> usize
     lists::copy_all(kept, buf);
     set_bids_of(state, SMALL, buf, tick);
     parts::length(buf)
+}
+
+fn bid_of(sheet: &[u8], bidder: u32) -> u32 {
+    if bidder == 0 {
+        return 0;
+    }
+    parts::word(sheet, parts::bid_at(sheet, bidder - 1))
+}
+
+// "v is the same and not below i's bid": the bid itself, a little more or any more.
+pub fn worth(state: &mut u64, sheet: &[u8], bidder: u32) -> u32 {
+    let bid = bid_of(sheet, bidder);
+    let little = number::up_to(state, 3);
+    let drawn = number::up_to(state, 2);
+    if MAX_BID - 3 < bid {
+        return bid;
+    }
+    match drawn {
+        0 => bid,
+        1 => bid + little,
+        _ => number::between(state, bid, MAX_BID),
+    }
 }

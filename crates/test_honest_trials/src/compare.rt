@@ -8,12 +8,8 @@ use crate::other;
 use test_chance::floor_lists;
 use test_chance::floor_lists::Test;
 use test_chance::lists;
-use test_chance::number;
 use test_chance::parts;
 use test_chance::rounds;
-
-// "1,000,000,000", the largest bid and the largest worth.
-const MAX_WORTH: u32 = 1000000000;
 
 // Room for 5 bytes for each of 16 slots.
 const RESULT: usize = 80;
@@ -44,20 +40,6 @@ fn is_on(page: &[u8], bidder: u32, slots: u32) -> bool {
         }
     }
     false
-}
-
-// "v is the same and not below i's bid": the bid itself, a little more or any more.
-fn worth(state: &mut u64, bid: u32) -> u32 {
-    let little = number::up_to(state, 3);
-    let drawn = number::up_to(state, 2);
-    if MAX_WORTH - 3 < bid {
-        return bid;
-    }
-    match drawn {
-        0 => bid,
-        1 => bid + little,
-        _ => number::between(state, bid, MAX_WORTH),
-    }
 }
 
 // Which of the two pays more.
@@ -174,18 +156,6 @@ fn hold(tally: &mut [u64], honest: &[u8], sent: &[u8], floors: &[u32], sort: Flo
     count(tally, honest, sent, floors, kind, asked, one.gain, two.gain);
 }
 
-// Floors among the bids: falling, rising, at bids, between ticks or mixed.
-fn shape_of_floors(state: &mut u64) -> u32 {
-    let drawn = number::up_to(state, 7);
-    match drawn {
-        0 | 1 => floor_lists::FALLING,
-        2 | 3 => floor_lists::RISING,
-        4 => floor_lists::AT_BIDS,
-        5 => floor_lists::OFF_TICK,
-        _ => floor_lists::MIXED,
-    }
-}
-
 // What the list is, whatever its shape.
 fn sort_of(floors: &[u32], sheet: &[u8], length: u32) -> Floors {
     let rises = 0 < floor_lists::how_many(floors, sheet, length, Test::AboveBefore);
@@ -202,7 +172,7 @@ fn sort_of(floors: &[u32], sheet: &[u8], length: u32) -> Floors {
 fn with_floors(state: &mut u64, tally: &mut [u64], honest: &[u8], sent: &[u8], asked: Asked) {
     let mut space = [0u32; floor_lists::ROOM];
     let floors: &mut [u32] = &mut space;
-    let shape = shape_of_floors(state);
+    let shape = floor_lists::shape_among_bids(state);
     let length = floor_lists::make(state, shape, honest, floors);
     let sort = sort_of(floors, honest, length);
     let list = floor_lists::part(floors, 0, length);
@@ -225,7 +195,7 @@ pub fn one(state: &mut u64, tally: &mut [u64], shape: u32) {
     let sent_bytes = parts::size(other::make(state, honest, bidder, sent));
     let asked = Asked {
         bidder: bidder,
-        worth: worth(state, bid_of(honest, bidder)),
+        worth: rounds::worth(state, honest, bidder),
     };
     both(
         state,
@@ -234,11 +204,4 @@ pub fn one(state: &mut u64, tally: &mut [u64], shape: u32) {
         parts::part(sent, 0, sent_bytes),
         asked,
     );
-}
-
-fn bid_of(sheet: &[u8], bidder: u32) -> u32 {
-    if bidder == 0 {
-        return 0;
-    }
-    parts::word(sheet, parts::bid_at(sheet, bidder - 1))
 }

@@ -1,10 +1,10 @@
--- `test_honest_trials::other::copy_others` is safe and ends: what is left falls at each turn, and the lent buffers keep their lengths. Assumes nothing.
+-- `test_chance::others::copy_others` is safe and ends: what is left falls at each turn, and the lent buffers keep their lengths. Assumes nothing.
 use mathlib.Core.Path.{_≡_}
 use Prim.Native.Nat.{_≤_}
 use lib.ListN.{length}
 use borrow.Author.Needs.{needs}
-use Rattle.test_honest_trials.proofs.other.copy_others.Statement.{statement}
-use Rattle.test_honest_trials.proofs.other.copy_others.Tie as tie
+use Rattle.test_chance.proofs.others.copy_others.Statement.{statement}
+use Rattle.test_chance.proofs.others.copy_others.Tie as tie
 
 abbrev Inv-loop : tie.InvT-loop
 Inv-loop state₀ honest other₀ bidder left₀ state other left = (length other ≡ length other₀) × (left ≤ left₀)
