@@ -1,18 +1,20 @@
 -- Request S-1: what the call has written is the list of the terms, so its conditions are known by the laws of that list; and a list that is downward
 -- monotonic as bytes is so in every sheet that has it as a bidder's. Assumes nothing.
 use Prim.Native.Nat.{ℕ, zero, suc, _*_, _<_, _≤_}
-use borrow.Author.Tests.{lt-ltb}
-use mathlib.Core.Bool.{true}
+use borrow.Author.Tests.{ne-eqb, lt-ltb, le-ltb, ltb-true, ltb-false}
+use mathlib.Core.Bool.{true, false}
 use mathlib.Core.List.{List, List·Memᴰ}
-use mathlib.Core.Logic.{_⊎_, ⊎-elim}
+use mathlib.Core.Logic.{⊎-elim}
 use mathlib.Core.Path.{_≡_, refl, sym, _∙_, ap, ap₂, subst}
 use native.Mathlib.Omega.{arith}
+use lib.Dec.{ltb}
 use lib.ListN.{length, drop, getD}
 use lib.Seq.{drop-append-seam}
-use Rattle.basis.proofs.FirstLaws.{answered-gives}
+use Rattle.basis.proofs.FirstLaws.{orElse-right, answered-gives}
+use Rattle.basis.proofs.TestLaws.{holds-or-fails}
 use Rattle.basis.proofs.RisingLaws.{mem-at, at-mem}
-use Rattle.sheet.specs.Sheet.{slotCount, constraintCount, ownerField, ownSlotField, otherField, otherSlotField}
-use Rattle.sheet.specs.Refusal.{Accepted}
+use Rattle.sheet.specs.Sheet.{bidderCount, slotCount, constraintCount, ownerField, ownSlotField, otherField, otherSlotField}
+use Rattle.sheet.specs.Refusal.{refusalOf, Accepted}
 use Rattle.sheet.specs.Accepted.{numberOf}
 use Rattle.sheet.specs.declared.Constraint.{Constraint}
 use Rattle.sheet.specs.Round.{bidder, kindOf, constraintField, roundOf, SheetHas, Has}
@@ -22,11 +24,12 @@ use Rattle.sheet.proofs.RoundLaws.{round-slots, sheet-round, round-sheet}
 use Rattle.sheet.proofs.EncodedLaws.{blankCondition, length-quads, read-in, asConstraint, field-constraint}
 use Rattle.downward.specs.Downward.{ownSlot, oneLower, downward}
 use Rattle.downward.proofs.DownwardLaws.{downward-where}
-use Rattle.slot_terms.specs.SlotTerms.{barFor, slotTerms, slotTermsRefusal, conditionsBuffer, OwnerFits, TermsFit}
+use Rattle.slot_terms.specs.SlotTerms.{ByLimit, ByBar, slotTerms, slotTermsRefusal, conditionsBuffer, TermsFit}
 use Rattle.slot_terms.proofs.RefusalLaws.{four, five, sixteen, twenty, twenty-one, twenty-two, nineteen, answered, passed-all}
 use Rattle.slot_terms.proofs.TermsLaws.{GivenBy, terms-where, terms-there, terms-lower, terms-rising, terms-pass, bars-few}
 use Rattle.slot_terms.proofs.WriteLaws.{terms-count}
-use Rattle.pas.specs.Calls.{SlotTermsGiven}
+use Rattle.downward.specs.Call.{testRefusal}
+use Rattle.pas.specs.Calls.{yesNumber, DownwardGiven, SlotTermsGiven}
 use Rattle.demands.specs.Demands.{Among, DownwardFor, ListSent, Below, TermsRight, RequestOne}
 use Rattle.demands.proofs.HonestLaws.{honest-list, honest-without}
 
@@ -77,6 +80,31 @@ module _ (s : List ℕ) (i m : ℕ) (bytes : List ℕ) (count : ℕ) (ok : Accep
       let w = round-sheet s ok q h in
       below-it (w .0) (w .1) q (w .2) mine some (let e = round-slots s in omega arith))
 
+-- the conditions are at most 1,023
+terms-few : (n m owner limit : ℕ) (bars : List ℕ) → TermsFit n m owner limit bars → length (slotTerms n m owner limit bars) ≤ 1_023
+terms-few n m owner limit bars fit =
+    let fits = fit .owner-fits in
+    let sum =
+    bars-few n m owner limit bars (fits .most-bidders) (fits .most-slots) (fit .none-above)
+    (fits .some-owner) (fits .most-owner) (fit .none-against) in
+    let size = terms-count n m owner limit bars in
+    let bidders = fits .most-bidders in
+    let slots = fits .most-slots in
+    let some = fit .some-limit in
+    omega arith
+
+-- the test answers 1 of a list that is downward monotonic
+answers-yes : (s : List ℕ) (i before number after : ℕ) → Accepted s → 0 < i → i ≤ bidderCount s → downward (roundOf s) i ≡ true →
+    DownwardGiven s i before number after → (number ≡ 0) × (after ≡ 1)
+unfolding testRefusal yesNumber
+answers-yes s i before number after ok some most list given =
+    let none : testRefusal s i ≡ 0 = orElse-right (refusalOf s) _ ok ∙ simp (ne-eqb i 0 (omega arith), le-ltb (bidderCount s) i most) in (
+      given .number ∙ none,
+      given .written
+          ∙ sym (answered-gives (testRefusal s i) (yesNumber (downward (roundOf s) i)) before none)
+          ∙ ap yesNumber list,
+    )
+
 -- What the call has written.
 module _ (n m owner limit : ℕ) (bars out out′ : List ℕ) (before count : ℕ) (given : SlotTermsGiven n m owner limit bars out before 0 out′ count) where
   abbrev terms : List Condition
@@ -109,31 +137,23 @@ module _ (n m owner limit : ℕ) (bars out out′ : List ℕ) (before count : �
 
   -- the fields of each are small
   small : (q : Condition) → Among out′ count q → (q .own < 256) × (q .other < 256) × (q .others < 256)
-  small q a = by-kind (is-given q a .1)
-    where
-      fits : OwnerFits n m owner
-      fits = passes .0 .owner-fits
-
-      by-kind : ((limit < q .own) × (q .own ≤ m) × (q .other ≡ 0) × (q .others ≡ 0))
-          ⊎ ((q .own ≡ 0) × (0 < q .other) × (q .other ≤ n) × (0 < q .others) × (q .others ≤ barFor bars (q .other))) →
-          (q .own < 256) × (q .other < 256) × (q .others < 256)
-      by-kind kind =
-          ⊎-elim
-          (λ (h : (limit < q .own) × (q .own ≤ m) × (q .other ≡ 0) × (q .others ≡ 0)).
-          let most = fits .most-slots in
-          let own = h .1 in
-          let other = h .2 in
-          let others = h .3 in
-          (omega arith, omega arith, omega arith))
-          (λ (h : (q .own ≡ 0) × (0 < q .other) × (q .other ≤ n) × (0 < q .others) × (q .others ≤ barFor bars (q .other))).
-          let most = fits .most-slots in
-          let bidders = fits .most-bidders in
-          let own = h .0 in
-          let other = h .2 in
-          let others = h .4 in
-          let bar = passes .0 .none-above (q .other) (h .1) (h .2) in
-          (omega arith, omega arith, omega arith))
-          kind
+  small q a =
+      let fits = passes .0 .owner-fits in
+      let slots = fits .most-slots in
+      let bidders = fits .most-bidders in
+      ⊎-elim
+      (λ (h : ByLimit m limit q).
+      let own = h .1 in
+      let other = h .2 in
+      let others = h .3 in
+      (omega arith, omega arith, omega arith))
+      (λ (h : ByBar n bars q).
+      let own = h .0 in
+      let other = h .2 in
+      let others = h .4 in
+      let bar = passes .0 .none-above (q .other) (h .1) (h .2) in
+      (omega arith, omega arith, omega arith))
+      (is-given q a .1)
 
   rises : (j k : ℕ) → j < k → k < count → Below (conditionIn out′ j) (conditionIn out′ k)
   unfolding numberOf
@@ -162,6 +182,19 @@ module _ (n m owner limit : ℕ) (bars out out′ : List ℕ) (before count : �
   lower-too : DownwardFor m out′ count
   lower-too q a some less = terms-in _ (terms-lower n m owner limit bars q (in-terms q a) some less)
 
+  -- any other buffer with room for as many is enough
+  has-room : (buffer : List ℕ) → 4 * count ≤ length buffer → slotTermsRefusal n m owner limit bars buffer ≡ 0
+  has-room buffer room = answered n m owner limit bars buffer (passes .0) (let c = many in omega arith)
+
+  -- and one that gets 19 has not
+  short-of : (buffer : List ℕ) → slotTermsRefusal n m owner limit bars buffer ≡ 19 → length buffer < 4 * count
+  short-of buffer e =
+      ⊎-elim
+      (λ (t : ltb (length buffer) (4 * count) ≡ true). ltb-true (length buffer) (4 * count) t)
+      (λ (t : ltb (length buffer) (4 * count) ≡ false).
+      absurd (let none = has-room buffer (ltb-false (length buffer) (4 * count) t) in omega arith))
+      (holds-or-fails (ltb (length buffer) (4 * count)))
+
   written-right : TermsRight n m owner limit bars out out′ count
   written-right =
       let fit = passes .0 in
@@ -172,20 +205,15 @@ module _ (n m owner limit : ℕ) (bars out out′ : List ℕ) (before count : �
         pass = λ q a.
             terms-pass n m owner limit bars (fits .most-bidders) (fits .most-slots) (fit .none-above)
             (fits .some-owner) (fits .most-owner) (fit .none-against) q (is-given q a);
-        most =
-            let bars-sum =
-            bars-few n m owner limit bars (fits .most-bidders) (fits .most-slots) (fit .none-above)
-            (fits .some-owner) (fits .most-owner) (fit .none-against) in
-            let size = terms-count n m owner limit bars in
-            let c = many in
-            let bidders = fits .most-bidders in
-            let slots = fits .most-slots in
-            let some = fit .some-limit in
-            omega arith;
+        most = let c = many in let few = terms-few n m owner limit bars fit in omega arith;
         room = let c = many in let r = passes .1 in omega arith;
         later = leaves-later;
         downward-for = lower-too;
         downward-on = λ s ok slots sent. downward-sent s owner m out′ count ok slots lower-too sent;
+        tested = λ s before number after ok bidders slots sent given.
+            let some = fits .some-owner in
+            let within = fits .most-owner in
+            answers-yes s owner before number after ok some (omega arith) (downward-sent s owner m out′ count ok slots lower-too sent) given;
       }
 
 pub request-one-holds : RequestOne
@@ -208,6 +236,12 @@ request-one-holds =
       twenty = twenty;
       twenty-one = twenty-one;
       twenty-two = twenty-two;
-      nineteen = nineteen;
-      answered = answered;
+      answered = λ n m owner limit bars out fit enough. answered n m owner limit bars out fit (let few = terms-few n m owner limit bars fit in omega arith);
+      nineteen = λ n m owner limit bars into into′ before count given out. (
+        short-of n m owner limit bars into into′ before count given out,
+        λ short.
+            nineteen n m owner limit bars out (passes n m owner limit bars into into′ before count given .0)
+            (let c = many n m owner limit bars into into′ before count given in omega arith),
+      );
+      enough = has-room;
     }

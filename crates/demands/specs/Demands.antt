@@ -39,7 +39,7 @@ use Rattle.honesty.specs.Honesty.{DifferOnlyInList}
 use Rattle.owner_part.specs.declared.Before.{Before}
 use Rattle.owner_part.specs.OwnerPart.{partRefusal, bytesBefore, constraintsOf, partLength, beforeOf, PartHanded}
 use Rattle.canonical.specs.Canonical.{canonicalSheet, canonicalRefusal, canonicalBuffer, SameRound}
-use Rattle.slot_terms.specs.SlotTerms.{barFor, slotTerms, slotTermsRefusal, conditionsBuffer, OwnerFits, TermsFit}
+use Rattle.slot_terms.specs.SlotTerms.{barFor, ByLimit, ByBar, slotTerms, slotTermsRefusal, conditionsBuffer, OwnerFits, TermsFit}
 use Rattle.pas.specs.Calls.{yesNumber, DownwardGiven, GainGiven, GainFloorsGiven, BestPageGiven, BestFloorsPageGiven, PartGiven, CanonicalGiven, SlotTermsGiven}
 
 -- DEMAND 1. "Every sheet or call that breaks a rule gets the first number that applies, and no lent byte changes; every other gets its full
@@ -419,21 +419,21 @@ Below p q = fieldsBelow (p .owner) (p .own) (p .other) (p .others) (q .owner) (q
 pub record TermsRight (n m owner limit : ℕ) (bars out out′ : List ℕ) (count : ℕ) : Type 0 where
   -- the own-place conditions for places L + 1 to m, and for each bidder the other's-place conditions for places 1 to its bar, and nothing else
   pub conditions : (q : Condition) →
-      Exactly (Among out′ count q)
-      ((q .owner ≡ owner)
-      × (((limit < q .own) × (q .own ≤ m) × (q .other ≡ 0) × (q .others ≡ 0))
-      ⊎ ((q .own ≡ 0) × (0 < q .other) × (q .other ≤ n) × (0 < q .others) × (q .others ≤ barFor bars (q .other)))))
+      Exactly (Among out′ count q) ((q .owner ≡ owner) × (ByLimit m limit q ⊎ ByBar n bars q))
   -- each below the next in the order of their four bytes, so that none is there twice
   pub rising : (j k : ℕ) → j < k → k < count → Below (conditionIn out′ j) (conditionIn out′ k)
   -- each passes 10 to 13 of a sheet with that n and m
   pub pass : (q : Condition) → Among out′ count q → fieldsRefusal n m (q .owner) (q .own) (q .other) (q .others) ≡ 0
-  -- they are never more than 1,023, so they fit on a sheet; there was room for them, and "later bytes stay"
+  -- they are never more than 1,023, so such a list alone fits on every sheet; there was room for them, and "later bytes stay"
   pub most : count ≤ 1_023
   pub room : 4 * count ≤ length out
   pub later : drop (4 * count) out′ ≡ drop (4 * count) out
   -- the list is downward monotonic for that m; so in an accepted sheet with that m the test of 01 passes
   pub downward-for : DownwardFor m out′ count
   pub downward-on : (s : List ℕ) → Accepted s → slotCount s ≡ m → ListSent s owner out′ count → downward (roundOf s) owner ≡ true
+  -- and with that n too pas_downward answers 1
+  pub tested : (s : List ℕ) (before number after : ℕ) → Accepted s → bidderCount s ≡ n → slotCount s ≡ m → ListSent s owner out′ count →
+      DownwardGiven s owner before number after → (number ≡ 0) × (after ≡ 1)
 
 pub record RequestOne : Type 0 where
   -- what is written, wherever the call is not refused
@@ -466,8 +466,10 @@ pub record RequestOne : Type 0 where
       (length bars ≡ n → ⊥) ⊎ ((j : ℕ) × (0 < j) × (j ≤ n) × (m < barFor bars j)) → slotTermsRefusal n m owner limit bars out ≡ 21
   pub twenty-two : (n m owner limit : ℕ) (bars out : List ℕ) → OwnerFits n m owner → 0 < limit → limit ≤ m → length bars ≡ n →
       ((j : ℕ) → 0 < j → j ≤ n → barFor bars j ≤ m) → (barFor bars owner ≡ 0 → ⊥) → slotTermsRefusal n m owner limit bars out ≡ 22
-  -- then 19 for a buffer shorter than four bytes for each condition; and none for any other
-  pub nineteen : (n m owner limit : ℕ) (bars out : List ℕ) → TermsFit n m owner limit bars → length out < 4 * length (slotTerms n m owner limit bars) →
-      slotTermsRefusal n m owner limit bars out ≡ 19
-  pub answered : (n m owner limit : ℕ) (bars out : List ℕ) → TermsFit n m owner limit bars → 4 * length (slotTerms n m owner limit bars) ≤ length out →
-      slotTermsRefusal n m owner limit bars out ≡ 0
+  -- then none where the buffer has 4,092 bytes; and once a call has answered and said how many conditions there are, it is known of every other buffer:
+  -- 19 exactly where it is shorter than four bytes for each
+  pub answered : (n m owner limit : ℕ) (bars out : List ℕ) → TermsFit n m owner limit bars → 4_092 ≤ length out → slotTermsRefusal n m owner limit bars out ≡ 0
+  pub nineteen : (n m owner limit : ℕ) (bars into into′ : List ℕ) (before count : ℕ) → SlotTermsGiven n m owner limit bars into before 0 into′ count →
+      (out : List ℕ) → Exactly (slotTermsRefusal n m owner limit bars out ≡ 19) (length out < 4 * count)
+  pub enough : (n m owner limit : ℕ) (bars into into′ : List ℕ) (before count : ℕ) → SlotTermsGiven n m owner limit bars into before 0 into′ count →
+      (out : List ℕ) → 4 * count ≤ length out → slotTermsRefusal n m owner limit bars out ≡ 0

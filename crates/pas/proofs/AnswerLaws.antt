@@ -24,7 +24,7 @@ use Rattle.owner_part.proofs.CallLaws.{given-bounds}
 use Rattle.canonical.specs.Canonical.{canonicalSheet, canonicalRefusal, CanonicalWritten}
 use Rattle.canonical.specs.declared.Rewritten.{Rewritten}
 use Rattle.slot_terms.specs.SlotTerms.{slotTerms, slotTermsRefusal, SlotTermsWritten}
-use Rattle.slot_terms.specs.declared.Terms.{Terms}
+use Rattle.slot_terms.specs.declared.Written.{Written}
 use Rattle.pas.specs.Calls.{
   yesNumber,
   DownwardGiven,
@@ -221,7 +221,7 @@ module _ (s out : List ℕ) (before : ℕ) (w : Rewritten) (out′ : List ℕ) (
         written = sized (canonicalRefusal s out) (w .refusal) (length (canonicalSheet s)) before (w .length) (given .number) z (given .size);
       }
 
-module _ (n m owner limit : ℕ) (bars out : List ℕ) (before : ℕ) (t : Terms) (out′ : List ℕ) (given : SlotTermsWritten n m owner limit bars out t out′) where
+module _ (n m owner limit : ℕ) (bars out : List ℕ) (before : ℕ) (t : Written) (out′ : List ℕ) (given : SlotTermsWritten n m owner limit bars out t out′) where
   pub slot-terms-refused : (t .refusal ≡ 0 → ⊥) → SlotTermsGiven n m owner limit bars out before (t .refusal) out′ before
   slot-terms-refused h =
       record {

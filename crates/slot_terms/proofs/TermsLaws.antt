@@ -15,19 +15,16 @@ use Rattle.sheet.specs.Encoded.{Condition, on}
 use Rattle.sheet.proofs.AcceptedLaws.{fields-back}
 use Rattle.sheet.proofs.EncodedLaws.{blankCondition}
 use Rattle.sheet.proofs.OrderLaws.{rising-over}
-use Rattle.slot_terms.specs.SlotTerms.{barFor, barred, beyond, slotTerms}
+use Rattle.slot_terms.specs.SlotTerms.{barFor, barred, beyond, ByLimit, ByBar, slotTerms}
 use Rattle.slot_terms.specs.EngineTerms.{barsTo}
 use Rattle.slot_terms.proofs.WriteLaws.{allBarred, bars-most}
 
 module _ (n m owner limit : ℕ) (bars : List ℕ) where
-  -- an own-place condition for a place after the limit, or an other's-place condition for a place up to the other's bar
+  -- a condition that the terms name
   abbrev pub GivenBy : Condition → Type 0
-  GivenBy q =
-      (q .owner ≡ owner)
-      × (((limit < q .own) × (q .own ≤ m) × (q .other ≡ 0) × (q .others ≡ 0))
-      ⊎ ((q .own ≡ 0) × (0 < q .other) × (q .other ≤ n) × (0 < q .others) × (q .others ≤ barFor bars (q .other))))
+  GivenBy q = (q .owner ≡ owner) × (ByLimit m limit q ⊎ ByBar n bars q)
 
-  -- the list has these
+  -- the list has no others
   pub terms-where : (q : Condition) → List·Memᴰ q (slotTerms n m owner limit bars) → GivenBy q
   unfolding slotTerms barred beyond
   terms-where q at =
@@ -44,7 +41,7 @@ module _ (n m owner limit : ℕ) (bars : List ℕ) where
       subst GivenBy (sym (v .2)) (refl, inl (omega arith, omega arith, refl, refl)))
       (List·Memᴰ·append-cases (allBarred owner bars n) at)
 
-  -- and no others
+  -- and all of these
   barred-there : (other others : ℕ) → 0 < other → other ≤ n → 0 < others → others ≤ barFor bars other →
       List·Memᴰ (on owner 0 other others) (slotTerms n m owner limit bars)
   unfolding slotTerms barred
@@ -76,10 +73,10 @@ module _ (n m owner limit : ℕ) (bars : List ℕ) where
   terms-lower q at some less =
       let given = terms-where q at in
       ⊎-elim
-      (λ (h : (limit < q .own) × (q .own ≤ m) × (q .other ≡ 0) × (q .others ≡ 0)).
+      (λ (h : ByLimit m limit q).
       let low = h .0 in
       terms-there (on (q .owner) (suc (q .own)) (q .other) (q .others)) (given .0, inl (omega arith, less, h .2, h .3)))
-      (λ (h : (q .own ≡ 0) × (0 < q .other) × (q .other ≤ n) × (0 < q .others) × (q .others ≤ barFor bars (q .other))).
+      (λ (h : ByBar n bars q).
       absurd (let any = h .0 in omega arith))
       (given .1)
 

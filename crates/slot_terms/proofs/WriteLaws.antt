@@ -30,7 +30,7 @@ use Rattle.slot_terms.specs.SlotTerms.{
   conditionsBuffer,
   SlotTermsWritten,
 }
-use Rattle.slot_terms.specs.declared.Terms.{Terms}
+use Rattle.slot_terms.specs.declared.Written.{Written}
 use Rattle.slot_terms.proofs.RefusalLaws.{fits-owner, fits-terms}
 use Rattle.slot_terms.specs.EngineTerms.{wordOf, barsTo}
 
@@ -151,22 +151,22 @@ module _ (n m owner limit : ℕ) (bars out : List ℕ) where
   abbrev terms : List Condition
   terms = slotTerms n m owner limit bars
 
-  left : (returned : Terms) (k : ℕ) → returned ≡ record { refusal = k; count = 0 } → k ≡ number → (k ≡ 0 → ⊥) →
+  left : (returned : Written) (k : ℕ) → returned ≡ record { refusal = k; count = 0 } → k ≡ number → (k ≡ 0 → ⊥) →
       SlotTermsWritten n m owner limit bars out returned out
   left returned k e same h =
       record {
-        number = ap (λ (t : Terms). t .refusal) e ∙ same;
-        count = ap (λ (t : Terms). t .count) e ∙ refused-leaves number k (length terms) 0 same h;
+        number = ap (λ (t : Written). t .refusal) e ∙ same;
+        count = ap (λ (t : Written). t .count) e ∙ refused-leaves number k (length terms) 0 same h;
         buffer = refused-leaves number k (conditionsBuffer terms out) out same h;
       }
 
-  pub owner-refused : (returned : Terms) (k : ℕ) → returned ≡ record { refusal = k; count = 0 } → k ≡ ownerRefusal n m owner → (k ≡ 0 → ⊥) →
+  pub owner-refused : (returned : Written) (k : ℕ) → returned ≡ record { refusal = k; count = 0 } → k ≡ ownerRefusal n m owner → (k ≡ 0 → ⊥) →
       SlotTermsWritten n m owner limit bars out returned out
   unfolding slotTermsRefusal
   owner-refused returned k e same h = left returned k e (same ∙ sym (orElse-left (ownerRefusal n m owner) _ (λ z. h (same ∙ z)))) h
 
   module _ (owned : ownerRefusal n m owner ≡ 0) where
-    pub profile-refused : (returned : Terms) (k : ℕ) → returned ≡ record { refusal = k; count = 0 } → k ≡ profileRefusal n m owner limit bars → (k ≡ 0 → ⊥) →
+    pub profile-refused : (returned : Written) (k : ℕ) → returned ≡ record { refusal = k; count = 0 } → k ≡ profileRefusal n m owner limit bars → (k ≡ 0 → ⊥) →
         SlotTermsWritten n m owner limit bars out returned out
     unfolding slotTermsRefusal
     profile-refused returned k e same h =
@@ -188,7 +188,7 @@ module _ (n m owner limit : ℕ) (bars out : List ℕ) where
       unfolding slotTermsRefusal
       last-test = orElse-right (ownerRefusal n m owner) _ owned ∙ orElse-right (profileRefusal n m owner limit bars) _ proper
 
-      pub buffer-short : (returned : Terms) → returned ≡ record { refusal = 19; count = 0 } → length out < 4 * (barsTo bars (length bars) + (m - limit)) →
+      pub buffer-short : (returned : Written) → returned ≡ record { refusal = 19; count = 0 } → length out < 4 * (barsTo bars (length bars) + (m - limit)) →
           SlotTermsWritten n m owner limit bars out returned out
       buffer-short returned e less =
           let size = many in

@@ -10,7 +10,7 @@ use Rattle.basis.specs.First.{_when_otherwise_, orElse, unlessRefused}
 use Rattle.basis.specs.Rows.{row, joined}
 use Rattle.basis.specs.Tests.{anyBelow}
 use Rattle.sheet.specs.Encoded.{Condition, on, quads}
-use Rattle.slot_terms.specs.declared.Terms.{Terms}
+use Rattle.slot_terms.specs.declared.Written.{Written}
 
 -- the bar for a bidder: the list has them from bidder 1's
 unfoldable pub barFor : List ℕ → ℕ → ℕ
@@ -24,6 +24,13 @@ barred owner other bar = row (λ k. on owner 0 other (suc k)) bar
 -- "A limit L gives own-place conditions for places L + 1 to m."
 unfoldable pub beyond : (m owner limit : ℕ) → List Condition
 beyond m owner limit = row (λ k. on owner (limit + 1 + k) 0 0) (m - limit)
+
+-- that a condition is one of a limit's, and one of a bar's
+abbrev pub ByLimit : (m limit : ℕ) → Condition → Type 0
+ByLimit m limit q = (limit < q .own) × (q .own ≤ m) × (q .other ≡ 0) × (q .others ≡ 0)
+
+abbrev pub ByBar : (n : ℕ) → List ℕ → Condition → Type 0
+ByBar n bars q = (q .own ≡ 0) × (0 < q .other) × (q .other ≤ n) × (0 < q .others) × (q .others ≤ barFor bars (q .other))
 
 -- all of them, "in rising order of their four bytes": own place 0, which stands for any, comes before the others, and bidder 1's bar before the next one's
 unfoldable pub slotTerms : (n m owner limit : ℕ) → List ℕ → List Condition
@@ -58,7 +65,7 @@ unfoldable pub conditionsBuffer : List Condition → List ℕ → List ℕ
 conditionsBuffer qs out = quads qs ++ drop (4 * length qs) out
 
 -- All that the call returns and leaves: the first number that applies and no count, or 0 and how many conditions are written; and each byte of the buffer.
-pub record SlotTermsWritten (n m owner limit : ℕ) (bars out : List ℕ) (returned : Terms) (out′ : List ℕ) : Type 0 where
+pub record SlotTermsWritten (n m owner limit : ℕ) (bars out : List ℕ) (returned : Written) (out′ : List ℕ) : Type 0 where
   pub number : returned .refusal ≡ slotTermsRefusal n m owner limit bars out
   pub count : returned .count ≡ unlessRefused (slotTermsRefusal n m owner limit bars out) (length (slotTerms n m owner limit bars)) 0
   pub buffer : out′ ≡ unlessRefused (slotTermsRefusal n m owner limit bars out) (conditionsBuffer (slotTerms n m owner limit bars) out) out

@@ -26,13 +26,13 @@ const OTHER_STEP: u32 = 65536;
 const OTHERS_STEP: u32 = 16777216;
 
 // What the call answers: a refusal's number, or 0 and how many constraints are written.
-pub struct Terms {
+pub struct Written {
     pub refusal: u32,
     pub count: u32,
 }
 
 // 4, 5 or 16, or 0 for an owner that a sheet of n bidders and m slots can have.
-pub fn owner_refusal(n: u32, m: u32, owner: u32) -> u32
+fn owner_refusal(n: u32, m: u32, owner: u32) -> u32
     ensures { λ r. ⌜ r ≡ ownerRefusal n m owner ⌝ }
 {
     if n == 0 {
@@ -172,7 +172,7 @@ fn put_all_barred(result: &mut [u8], start: usize, owner: Bidder, bars: &[u8])
 
 // The number of the first rule that the call breaks, 4, 5, 16, 20 to 22 or 19, with every byte of the buffer as it was; or 0 and how many constraints
 // are written, which stand at the front of the buffer, with every later byte as it was.
-pub fn write(n: u32, m: u32, owner: u32, limit: u32, bars: &[u8], result: &mut [u8]) -> Terms
+pub fn write(n: u32, m: u32, owner: u32, limit: u32, bars: &[u8], result: &mut [u8]) -> Written
     ensures { λ r. ⌜ SlotTermsWritten n m owner limit (now (bars .entry)) (now (result .entry)) r (now (result .exit)) ⌝ }
 {
     let nobody = owner_refusal(n, m, owner);
@@ -183,29 +183,29 @@ pub fn write(n: u32, m: u32, owner: u32, limit: u32, bars: &[u8], result: &mut [
     if wrong != 0 {
         return refused(wrong);
     }
-    let barred = sum_bars(bars);
+    let by_bars = sum_bars(bars);
     let first = limit + 1;
-    let beyond = (m + 1 - first) as usize;
-    let bars_length = 4 * barred;
-    let limit_length = 4 * beyond;
+    let by_limit = (m + 1 - first) as usize;
+    let bars_length = 4 * by_bars;
+    let limit_length = 4 * by_limit;
     if result.len() < bars_length + limit_length {
         return refused(19);
     }
     let owner = Bidder(owner as u16);
     put_all_barred(result, 0, owner, bars);
     let below = word_of(owner, Slot(first as u8), Bidder(0), Slot(0));
-    put_run(result, bars_length, below, OWN_STEP, beyond);
-    Terms {
+    put_run(result, bars_length, below, OWN_STEP, by_limit);
+    Written {
         refusal: 0,
-        count: (barred + beyond) as u32,
+        count: (by_bars + by_limit) as u32,
     }
 }
 
 // A refusal's number alone.
-fn refused(number: u32) -> Terms
+fn refused(number: u32) -> Written
     ensures { λ r. ⌜ r ≡ record { refusal = number; count = 0 } ⌝ }
 {
-    Terms {
+    Written {
         refusal: number,
         count: 0,
     }

@@ -91,14 +91,14 @@ sum-bars-requires c κs =
 add-first : tie.Need-add-first
 add-first c = let limited = given (c .before) .most-limit in let slots = known (c .before .before .before) .most-slots in omega arith
 
-add-beyond : tie.Need-add-beyond
-add-beyond c = let slots = known (c .before .before .before) .most-slots in omega arith
+add-by-limit : tie.Need-add-by-limit
+add-by-limit c = let slots = known (c .before .before .before) .most-slots in omega arith
 
-sub-beyond : tie.Need-sub-beyond
-sub-beyond c = let limited = given (c .before) .most-limit in omega arith
+sub-by-limit : tie.Need-sub-by-limit
+sub-by-limit c = let limited = given (c .before) .most-limit in omega arith
 
-cast-beyond : tie.Need-cast-beyond
-cast-beyond c = let slots = known (c .before .before .before) .most-slots in omega arith
+cast-by-limit : tie.Need-cast-by-limit
+cast-by-limit c = let slots = known (c .before .before .before) .most-slots in omega arith
 
 mul-bars-length : tie.Need-mul-bars-length
 mul-bars-length c = let most = few (c .before) in let sum = c .sum-bars .ensures in omega arith
@@ -226,9 +226,9 @@ write-spec =
     returns-2
     sum-bars-requires
     add-first
-    add-beyond
-    sub-beyond
-    cast-beyond
+    add-by-limit
+    sub-by-limit
+    cast-by-limit
     mul-bars-length
     mul-limit-length
     add-if3
