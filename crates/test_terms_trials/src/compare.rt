@@ -99,7 +99,8 @@ pub fn bytes_of(count: u32) -> u32 {
     if count < 1024 { 4 * count } else { 0 }
 }
 
-// The call with so much lent, held to what is due; the list that the library wrote takes the place of the second engine's.
+// The call with so much lent, held to what is due. The list that the library wrote takes the place of the second engine's; its count, or what was
+// there before.
 fn hold(
     state: &mut u64,
     tally: &mut [u64],
@@ -128,9 +129,9 @@ fn hold(
     parts::copy(
         parts::part(one, lent.start, lent.size),
         list,
-        bytes_of(lent.count) as usize,
+        bytes_of(count) as usize,
     );
-    number
+    count
 }
 
 // Just enough bytes, or more.
@@ -166,7 +167,7 @@ fn due_list(state: &mut u64, call: Call, bars: &[u8], rule: u32, list: &mut [u8]
     number::up_to(state, 20)
 }
 
-// Both engines on a call; the number that the library returned, and its list with how many conditions it has.
+// Both engines on a call: the library's list, and its count, 1,024 or more where it is refused.
 pub fn both(
     state: &mut u64,
     tally: &mut [u64],
@@ -174,7 +175,6 @@ pub fn both(
     bars: &[u8],
     enough: bool,
     list: &mut [u8],
-    count: &mut u32,
 ) -> u32 {
     let lent_bars = parts::part(bars, 0, call.bars);
     let rule = plain::rule(call, lent_bars);
@@ -184,7 +184,6 @@ pub fn both(
         size: size(state, bytes_of(due_count), enough),
         count: due_count,
     };
-    *count = due_count;
     hold(state, tally, call, lent_bars, rule, lent, list)
 }
 
@@ -212,10 +211,9 @@ pub fn alone(state: &mut u64, tally: &mut [u64], faults: u32) {
     let bars: &mut [u8] = &mut bars_space;
     let mut list_space = [0u8; ROOM];
     let list: &mut [u8] = &mut list_space;
-    let mut count: u32 = 0;
     let n = up_to_most(state, call::MAX_BIDDERS);
     let m = up_to_most(state, call::MAX_SLOTS);
     let right = call::right(state, n, m, bars);
     let asked = with_faults(state, right, bars, faults);
-    both(state, tally, asked, bars, false, list, &mut count);
+    both(state, tally, asked, bars, false, list);
 }

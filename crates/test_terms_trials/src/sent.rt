@@ -162,9 +162,8 @@ pub fn on_sheet(state: &mut u64, tally: &mut [u64], shape: u32) {
     let n = parts::bidders(honest);
     let m = parts::slots(honest);
     let asked = call::right(state, n, m, bars);
-    let mut count: u32 = 0;
-    let number = compare::both(state, tally, asked, bars, true, list, &mut count);
-    if number == 0 {
+    let count = compare::both(state, tally, asked, bars, true, list);
+    if count < MAX_CONSTRAINTS {
         put(
             state,
             tally,
