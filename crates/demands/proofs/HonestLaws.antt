@@ -8,7 +8,7 @@ use lib.IntN.{ℤ}
 use lib.ListN.{replicate}
 use lib.Signed.{_≤ℤ_}
 use Rattle.basis.proofs.FirstLaws.{answered-gives}
-use Rattle.sheet.specs.Sheet.{bidderCount, slotCount, bidField}
+use Rattle.sheet.specs.Sheet.{bidderCount, bidField}
 use Rattle.sheet.specs.Refusal.{Accepted}
 use Rattle.sheet.specs.Round.{roundOf, withFloors}
 use Rattle.downward.specs.Downward.{downward}
