@@ -167,6 +167,14 @@ sets-then {A} (x ∷ a) b l at =
     let e : at + length (x ∷ a) ≡ suc at + length a = omega arith in
     ap (λ (n : ℕ). sets (sets (set l at x) (suc at) a) n b) e ∙ sets-then a b (set l at x) (suc at)
 
+-- so lists of one length c, one after another, and the next of them where they end
+pub joined-stored : {A : Type 0} (f : ℕ → List A) (c : ℕ) → ((k : ℕ) → length (f k) ≡ c) → (out : List A) (at k : ℕ) →
+    sets (sets out at (joined f k)) (at + c * k) (f k) ≡ sets out at (joined f (suc k))
+unfolding joined
+joined-stored f c each out at k =
+    let place : at + c * k ≡ at + length (joined f k) = (let size = length-joined f c each k in omega arith) in
+    ap (λ (n : ℕ). sets (sets out at (joined f k)) n (f k)) place ∙ sets-then (joined f k) (f k) out at
+
 -- and one from index 0 replaces the front
 pub sets-front : {A : Type 0} (a l : List A) → length a ≤ length l → sets l 0 a ≡ a ++ drop (length a) l
 sets-front a l h = sets-eq a l 0 (omega arith) ∙ ap (λ (n : ℕ). a ++ drop n l) (zero-add (length a))

@@ -10,10 +10,9 @@ use native.Mathlib.Omega.{arith}
 use lib.ListN.{length, getD, set, take, drop, length-drop}
 use lib.Seq.{sets, length-take-le, take-suc, getD-drop, getD-set-same, getD-set-other}
 use Rattle.basis.specs.Bytes.{byteAt, bytes32}
-use Rattle.basis.specs.Rows.{joined}
 use Rattle.basis.proofs.BytesLaws.{word-bytes}
 use Rattle.basis.proofs.FirstLaws.{orElse-left, orElse-right, refused-leaves, answered-gives}
-use Rattle.basis.proofs.RowLaws.{length-joined, sets-then, sets-front}
+use Rattle.basis.proofs.RowLaws.{length-joined, sets-then, joined-stored, sets-front}
 use Rattle.sheet.specs.Sheet.{version, bidderCount, slotCount, constraintCount, constraintsStart}
 use Rattle.sheet.specs.Refusal.{refusalOf, Accepted}
 use Rattle.sheet.specs.Accepted.{fieldsNumber, orderNumber}
@@ -59,11 +58,8 @@ length-numbers numbers k = length-joined (λ i. numberBytes (getD numbers i 0)) 
 -- one number more is stored after the first k
 pub numbers-next : (numbers out : List ℕ) (at k : ℕ) →
     sets (sets out at (numbersBytes numbers k)) (at + 4 * k) (numberBytes (getD numbers k 0)) ≡ sets out at (numbersBytes numbers (suc k))
-unfolding numbersBytes joined
-numbers-next numbers out at k =
-    let front = numbersBytes numbers k in
-    let e : at + 4 * k ≡ at + length front = (let size = length-numbers numbers k in omega arith) in
-    ap (λ (n : ℕ). sets (sets out at front) n (numberBytes (getD numbers k 0))) e ∙ sets-then front (numberBytes (getD numbers k 0)) out at
+unfolding numbersBytes
+numbers-next numbers out at k = joined-stored (λ i. numberBytes (getD numbers i 0)) 4 (λ i. length-number (getD numbers i 0)) out at k
 
 -- and one byte more of the sheet after the first k
 pub copied-next : (s out : List ℕ) (at start k : ℕ) → start + k < length s →

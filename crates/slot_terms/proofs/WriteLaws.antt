@@ -16,7 +16,7 @@ use Rattle.basis.specs.First.{_when_otherwise_}
 use Rattle.basis.specs.Rows.{row, joined}
 use Rattle.basis.proofs.BytesLaws.{length-bytes32, word-bytes}
 use Rattle.basis.proofs.FirstLaws.{orElse-left, orElse-right, refused-leaves, answered-gives}
-use Rattle.basis.proofs.RowLaws.{length-row, length-joined, joined-same, sets-then, sets-front}
+use Rattle.basis.proofs.RowLaws.{length-row, joined-same, sets-then, joined-stored, sets-front}
 use Rattle.sheet.specs.Encoded.{Condition, on, quads}
 use Rattle.sheet.proofs.EncodedLaws.{quadBytes, quads-row, length-quads}
 use Rattle.slot_terms.specs.SlotTerms.{
@@ -111,13 +111,9 @@ beyond-words m owner limit hm ho =
 -- One number more is stored where those before it end.
 pub word-next : (word : ℕ → ℕ) (out : List ℕ) (at k : ℕ) →
     sets (sets out at (joined (λ i. bytes32 (word i)) k)) (at + 4 * k) (bytes32 (word k)) ≡ sets out at (joined (λ i. bytes32 (word i)) (k + 1))
-unfolding joined
 word-next word out at k =
-    let f : ℕ → List ℕ = λ i. bytes32 (word i) in
-    let place : at + 4 * k ≡ at + length (joined f k) = (let size = length-joined f 4 (λ i. length-bytes32 (word i)) k in omega arith) in
-    ap (λ (n : ℕ). sets (sets out at (joined f k)) n (f k)) place
-    ∙ sets-then (joined f k) (f k) out at
-    ∙ ap (λ (n : ℕ). sets out at (joined f n)) (sym (add-one k))
+    joined-stored (λ i. bytes32 (word i)) 4 (λ i. length-bytes32 (word i)) out at k
+    ∙ ap (λ (n : ℕ). sets out at (joined (λ i. bytes32 (word i)) n)) (sym (add-one k))
 
 -- The bytes of conditions are stored where those before them end,
 quads-append : (xs ys : List Condition) → quads (xs ++ ys) ≡ quads xs ++ quads ys
