@@ -153,10 +153,10 @@ extern "C" {
  *   pas_slot_terms        100           100           1,024
  *
  * These are measured and not proved: nothing in the toolchain bounds a stack. examples/c/stack measures them, on the
- * largest sheets, on refused ones and on random ones, and fails where a call takes more than its figure. The table is
- * for the archive that rattle-kit-5b makes of this version, with glibc 2.36. "First call" has what the dynamic linker
- * takes where it looks up memcpy and memset in that call. The figures of the calls that use these two leave 4 KB and
- * more above "measured", for that and for another C library.
+ * largest sheets and terms, on refused ones and on random ones, and fails where a call takes more than its figure. The
+ * table is for the archive that rattle-kit-5b makes of this version, with glibc 2.36. "First call" has what the dynamic
+ * linker takes where it looks up memcpy and memset in that call. The figures of the calls that use these two leave 4 KB
+ * and more above "measured", for that and for another C library.
  *
  * A thread with 64 KB of stack does for every call; by the figures one of 16 KB, PTHREAD_STACK_MIN, does for
  * pas_check, pas_owner_part and pas_slot_terms alone. A call that finds too little stack runs into the guard page and

@@ -180,7 +180,7 @@ pub fn same_round(one: &[u8], other: &[u8]) -> Result<bool, Refusal> {
 /// owner stands in one of the slots below its limit. The list is downward monotonic on every sheet with so many bidders and slots, and
 /// [`SheetBuilder::slot_terms`](crate::SheetBuilder::slot_terms) puts it on one. It is empty where the limit is the last slot and every bar is 0.
 ///
-/// Refused with 4, 5, 16 for the owner, 20 for a limit of 0 or below the last slot, 21 where there are not as many bars as bidders or one is above the number of
+/// Refused with 4, 5, 16 for the owner, 20 for a limit of 0 or above the number of slots, 21 where there are not as many bars as bidders or one is above the number of
 /// slots, or 22 for a bar against the owner that is not 0.
 ///
 /// ```

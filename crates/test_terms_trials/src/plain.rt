@@ -1,5 +1,5 @@
-// A second engine for top-of-page terms, made of document 02's words and for no speed: it goes through all conditions that an owner can have, in
-// rising order of their bytes, and keeps those that the terms forbid.
+// A second engine for top-of-page terms, made of document 02's words and for no speed: it goes through all triples of own slot, other bidder and other's slot,
+// in rising order of their bytes, and keeps those that the terms give.
 ghost use Prim.Native.Nat.{_<_};
 use crate::call::Call;
 use crate::call::MAX_BIDDERS;
