@@ -1,4 +1,3 @@
--- The engine's own: nothing here need be believed.
 -- Counting: how many of the first numbers pass a test.
 use Prim.Native.Nat.{ℕ, zero, suc, _+_}
 use mathlib.Core.Bool.{Bool, cond}

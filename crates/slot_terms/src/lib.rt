@@ -23,7 +23,7 @@ const OWN_STEP: u32 = 256;
 
 const OTHER_STEP: u32 = 65536;
 
-const OTHERS_STEP: u32 = 16777216;
+pub const OTHERS_STEP: u32 = 16777216;
 
 // What the call answers: a refusal's number, or 0 and how many constraints are written.
 pub struct Written {
@@ -32,7 +32,7 @@ pub struct Written {
 }
 
 // 4, 5 or 16, or 0 for an owner that a sheet of n bidders and m slots can have.
-fn owner_refusal(n: u32, m: u32, owner: u32) -> u32
+pub fn owner_refusal(n: u32, m: u32, owner: u32) -> u32
     ensures { λ r. ⌜ r ≡ ownerRefusal n m owner ⌝ }
 {
     if n == 0 {
@@ -130,7 +130,7 @@ fn sum_bars(bars: &[u8]) -> usize
 }
 
 // A constraint as the number of its four bytes, low byte first: the owner is the lowest.
-fn word_of(owner: Bidder, own: Slot, other: Bidder, others: Slot) -> u32
+pub fn word_of(owner: Bidder, own: Slot, other: Bidder, others: Slot) -> u32
     requires { ⌜ (owner .0 < 256) × (own .0 < 256) × (other .0 < 256) × (others .0 < 256) ⌝ }
     ensures { λ r. ⌜ r ≡ wordOf (owner .0) (own .0) (other .0) (others .0) ⌝ }
 {
@@ -141,7 +141,7 @@ fn word_of(owner: Bidder, own: Slot, other: Bidder, others: Slot) -> u32
 }
 
 // Numbers are written at an offset one after another, each a step above the one before it.
-fn put_run(result: &mut [u8], at: usize, first: u32, step: u32, count: usize)
+pub fn put_run(result: &mut [u8], at: usize, first: u32, step: u32, count: usize)
     requires { ⌜ (at + 4 * count ≤ length (now result)) × (first + step * count < 4294967296) ⌝ }
     ensures { λ r. ⌜ now (result .exit) ≡ sets (now (result .entry)) at (joined (λ k. bytes32 (first + step * k)) count) ⌝ }
 {
@@ -202,7 +202,7 @@ pub fn write(n: u32, m: u32, owner: u32, limit: u32, bars: &[u8], result: &mut [
 }
 
 // A refusal's number alone.
-fn refused(number: u32) -> Written
+pub fn refused(number: u32) -> Written
     ensures { λ r. ⌜ r ≡ record { refusal = number; count = 0 } ⌝ }
 {
     Written {

@@ -1,0 +1,2 @@
+pub mod AboveTerms
+pub mod EngineAbove

@@ -1,0 +1,2 @@
+pub mod BidderSets
+pub mod EngineSets

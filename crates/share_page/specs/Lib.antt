@@ -1,0 +1,2 @@
+pub mod SharePage
+pub mod EngineShare
