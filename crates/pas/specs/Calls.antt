@@ -18,6 +18,8 @@ use Rattle.best_search.specs.Call.{bestRefusal, bestFloorsRefusal, bestBuffer}
 use Rattle.owner_part.specs.OwnerPart.{partRefusal, bytesBefore, partLength}
 use Rattle.canonical.specs.Canonical.{canonicalSheet, canonicalRefusal, canonicalBuffer}
 use Rattle.slot_terms.specs.SlotTerms.{slotTerms, slotTermsRefusal, conditionsBuffer}
+use Rattle.above_terms.specs.AboveTerms.{aboveTerms, aboveTermsRefusal}
+use Rattle.share_page.specs.SharePage.{canShare, orderBuffer, shareRefusal}
 
 -- 1 yes, 0 no
 unfoldable pub yesNumber : Bool → ℕ
@@ -67,3 +69,15 @@ pub record SlotTermsGiven (n m owner limit : ℕ) (bars out : List ℕ) (before 
   pub number : returned ≡ slotTermsRefusal n m owner limit bars out
   pub buffer : out′ ≡ unlessRefused (slotTermsRefusal n m owner limit bars out) (conditionsBuffer (slotTerms n m owner limit bars) out) out
   pub written : after ≡ unlessRefused (slotTermsRefusal n m owner limit bars out) (length (slotTerms n m owner limit bars)) before
+
+-- an owner's conditions by its rivals in the buffer, and how many
+pub record AboveTermsGiven (n m owner : ℕ) (rivals out : List ℕ) (before returned : ℕ) (out′ : List ℕ) (after : ℕ) : Type 0 where
+  pub number : returned ≡ aboveTermsRefusal n m owner rivals out
+  pub buffer : out′ ≡ unlessRefused (aboveTermsRefusal n m owner rivals out) (conditionsBuffer (aboveTerms n m owner rivals) out) out
+  pub written : after ≡ unlessRefused (aboveTermsRefusal n m owner rivals out) (length (aboveTerms n m owner rivals)) before
+
+-- whether the members could share a page, and for a yes their first order in the buffer
+pub record SharePageGiven (n m : ℕ) (members sets out : List ℕ) (before returned : ℕ) (out′ : List ℕ) (after : ℕ) : Type 0 where
+  pub number : returned ≡ shareRefusal n m members sets out
+  pub buffer : out′ ≡ unlessRefused (shareRefusal n m members sets out) (orderBuffer n m members sets out) out
+  pub written : after ≡ unlessRefused (shareRefusal n m members sets out) (yesNumber (canShare n m members sets)) before

@@ -1,11 +1,11 @@
-// The eleven calls by the C convention, for programs that link the static library (include/pas.h is their manual).
+// The thirteen calls by the C convention, for programs that link the static library (include/pas.h is their manual).
 //
 // Each returns 0 or the number of the first rule that the call breaks. On a refusal nothing lent changes, the answer's own memory
 // included.
 ghost use mathlib.Core.Path.{_≡_};
 ghost use Rattle.sheet.specs.Refusal.{refusalOf};
 ghost use Rattle.play.specs.Play.{Played, PlayedFloors};
-ghost use Rattle.pas.specs.Calls.{DownwardGiven, GainGiven, GainFloorsGiven, BestPageGiven, BestFloorsPageGiven, PartGiven, CanonicalGiven, SlotTermsGiven, yesNumber};
+ghost use Rattle.pas.specs.Calls.{DownwardGiven, GainGiven, GainFloorsGiven, BestPageGiven, BestFloorsPageGiven, PartGiven, CanonicalGiven, SlotTermsGiven, AboveTermsGiven, SharePageGiven, yesNumber};
 
 // 1 to 13 or 26 to 28, or 0 for an accepted sheet.
 #[no_mangle]
@@ -188,5 +188,50 @@ pub extern "C" fn pas_slot_terms(
         return refusal;
     }
     *count = given.count;
+    0
+}
+
+// 4, 5, 16, 23 to 25 or 19; or 0, with the owner's constraints by its rivals at the front of the buffer, four bytes each in rising order, every later byte as
+// it was, and how many they are. No sheet is read.
+#[no_mangle]
+pub extern "C" fn pas_above_terms(
+    n: u32,
+    m: u32,
+    owner: u32,
+    rivals: &[u8],
+    result: &mut [u8],
+    count: &mut u32,
+) -> u32
+    ensures { λ r. ⌜ AboveTermsGiven n m owner (now (rivals .entry)) (now (result .entry)) (now (count .entry)) r (now (result .exit)) (now (count .exit)) ⌝ }
+{
+    let given = above_terms::write(n, m, owner, rivals, result);
+    let refusal = given.refusal;
+    if refusal != 0 {
+        return refusal;
+    }
+    *count = given.count;
+    0
+}
+
+// 4, 5, 23, 24 or 19; or 0, with 1 in the answer where the members could share a page, each above every rival of its own among them, and then their first such
+// order at the front of the buffer, one byte each, every later byte as it was; and with 0 in the answer where they could not, and every byte as it was.
+#[no_mangle]
+pub extern "C" fn pas_share_page(
+    n: u32,
+    m: u32,
+    members: &[u8],
+    rival_sets: &[u8],
+    result: &mut [u8],
+    answer: &mut u8,
+) -> u32
+    ensures { λ r. ⌜ SharePageGiven n m (now (members .entry)) (now (rival_sets .entry)) (now (result .entry)) (now (answer .entry)) r (now (result .exit)) (now (answer .exit)) ⌝ }
+{
+    let given = share_page::share(n, m, members, rival_sets, result);
+    let refusal = given.refusal;
+    if refusal != 0 {
+        return refusal;
+    }
+    let yes = given.yes;
+    *answer = yes_number(yes);
     0
 }
