@@ -1,7 +1,7 @@
 -- Again and again the lowest member that nobody left names: this finds the first order in the dictionary that puts each above every rival of its own, and where
 -- it is stuck there is none. So it gives what trying all orders gives. Assumes nothing.
 use Prim.Native.Nat.{ℕ, zero, suc, _+_, _<_, _≤_}
-use borrow.Author.Tests.{eq-eqb, ne-eqb, eqb-true, eqb-false, not-true, not-false, lt-ltb, ltb-true}
+use borrow.Author.Tests.{eq-eqb, ne-eqb, not-true, lt-ltb, ltb-true}
 use mathlib.Core.Bool.{Bool, true, false, cond, not, _&&_, _||_}
 use mathlib.Core.List.{List, [], _∷_, _++_, List·Memᴰ, List·Memᴰ·head, List·Memᴰ·tail, List·Memᴰ·cases-cons, List·Memᴰ·not-nil, List·Memᴰ·eq-of-singleton}
 use mathlib.Core.Logic.{_⊎_, inl, inr, ⊎-elim}
@@ -11,10 +11,11 @@ use native.Mathlib.Omega.{arith}
 use lib.Dec.{eqb, ltb}
 use lib.ListN.{length, getD}
 use Rattle.basis.specs.Rows.{row, joined}
-use Rattle.basis.specs.Tests.{anyBelow, allBelow, least}
+use Rattle.basis.specs.Tests.{allBelow, least}
 use Rattle.basis.proofs.CountLaws as counts
 use Rattle.basis.proofs.NumberLaws.{same-or-not, below-or-not}
 use Rattle.basis.proofs.RisingLaws.{mem-at, at-mem, mem-joined, rising-next}
+use Rattle.basis.proofs.RowLaws.{row-head, row-same}
 use Rattle.basis.proofs.TestLaws.{
   holds-or-fails,
   not-both,
@@ -32,7 +33,8 @@ use Rattle.basis.proofs.TestLaws.{
   any-where,
   all-at,
   at-all,
-  least-at-most,
+  all-head,
+  all-same,
   least-before,
   least-passes,
 }
@@ -184,35 +186,6 @@ module _ (named : ℕ → ℕ → Bool) where
         not-suc-le-zero (above-where named (x ∷ l) t (w .0) 0 (w .1) (omega arith) (subst (λ (y : ℕ). named y x ≡ true) (sym (w .2)) v)))),
     ordered-good (without f x) l (o .1) (tail-above x l t),
   )
-
--- a row and a test of all, head first
-row-head : (f : ℕ → ℕ) (k : ℕ) → row f (suc k) ≡ f 0 ∷ row (λ i. f (suc i)) k
-unfolding row
-row-head f zero = refl
-row-head f (suc k) = ap (λ (l : List ℕ). l ++ (f (suc k) ∷ [])) (row-head f k)
-
-row-same : (f g : ℕ → ℕ) (k : ℕ) → ((i : ℕ) → f i ≡ g i) → row f k ≡ row g k
-unfolding row
-row-same f g zero h = refl
-row-same f g (suc k) h = ap₂ (λ (l : List ℕ) (x : ℕ). l ++ (x ∷ [])) (row-same f g k h) (h k)
-
-all-head : (f : ℕ → Bool) (k : ℕ) → allBelow f (suc k) ≡ (f 0 && allBelow (λ i. f (suc i)) k)
-unfolding allBelow
-all-head f zero = one-only (f 0)
-  where
-    one-only : (x : Bool) → x ≡ (x && true)
-    one-only true = refl
-    one-only false = refl
-all-head f (suc k) = ap (λ (x : Bool). x && f (suc k)) (all-head f k) ∙ regroup (f 0) (allBelow (λ i. f (suc i)) k) (f (suc k))
-  where
-    regroup : (x y z : Bool) → ((x && y) && z) ≡ (x && (y && z))
-    regroup true y z = refl
-    regroup false y z = refl
-
-all-same : (f g : ℕ → Bool) (k : ℕ) → ((i : ℕ) → f i ≡ g i) → allBelow f k ≡ allBelow g k
-unfolding allBelow
-all-same f g zero h = refl
-all-same f g (suc k) h = ap₂ _&&_ (all-same f g k h) (h k)
 
 module _ (named : ℕ → ℕ → Bool) (n : ℕ) (member : ℕ → Bool) (within : (b : ℕ) → member b ≡ true → (0 < b) × (b ≤ n)) where
   -- the members in rising order, and sets of some of them
@@ -490,7 +463,7 @@ module _ (named : ℕ → ℕ → Bool) (n : ℕ) (member : ℕ → Bool) (withi
       row-head (λ k. nextIn named L (leftAfter named L f k)) c
       ∙ ap (λ (l : List ℕ). nextIn named L f ∷ l)
       (row-same (λ k. nextIn named L (leftAfter named L f (suc k))) (λ k. nextIn named L (leftAfter named L (without f (nextIn named L f)) k)) c
-      (λ i. ap (nextIn named L) (left-next f i))
+      (λ i h. ap (nextIn named L) (left-next f i))
       ∙ taken-turns c (without f (nextIn named L f)))
 
   goes-found : (c : ℕ) (f : ℕ → Bool) → allFound named L f c ≡ goes c f
@@ -501,7 +474,7 @@ module _ (named : ℕ → ℕ → Bool) (n : ℕ) (member : ℕ → Bool) (withi
       ∙ ap (λ (x : Bool). not (eqb (nextIn named L f) 0) && x)
       (all-same (λ k. not (eqb (nextIn named L (leftAfter named L f (suc k))) 0))
       (λ k. not (eqb (nextIn named L (leftAfter named L (without f (nextIn named L f)) k)) 0)) c
-      (λ i. ap (λ (g : ℕ → Bool). not (eqb (nextIn named L g) 0)) (left-next f i))
+      (λ i h. ap (λ (g : ℕ → Bool). not (eqb (nextIn named L g) 0)) (left-next f i))
       ∙ goes-found c (without f (nextIn named L f)))
 
   -- What the call needs: trying all orders and taking turns come to the same.
