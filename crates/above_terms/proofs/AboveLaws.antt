@@ -52,3 +52,33 @@ all-pairs-many owner others (suc m) =
     ∙ ap (λ (k : ℕ). k * length others) (let e : suc m - 1 ≡ m = omega arith in e)
     ∙ mul-comm m (length others))
     ∙ sym (mul-add (length others) (placesAbove m) m)
+
+-- one rival more
+pub place-pairs-more : (owner own : ℕ) (others : List ℕ) (j : ℕ) →
+    length (placePairs owner own others (j + 1)) ≡ length (placePairs owner own others j) + (own - 1)
+place-pairs-more owner own others j =
+    let before = place-pairs-many owner own others j in
+    let after = place-pairs-many owner own others (j + 1) in
+    let next = ap (λ (k : ℕ). (own - 1) * k) (add-one j) ∙ mul-suc (own - 1) j in
+    omega arith
+
+pub place-pairs-within : (owner own : ℕ) (others : List ℕ) (i j : ℕ) → i ≤ j →
+    length (placePairs owner own others i) ≤ length (placePairs owner own others j)
+place-pairs-within owner own others i j l =
+    let first = place-pairs-many owner own others i in
+    let second = place-pairs-many owner own others j in
+    let more = mul-le-mul-left {m = i} {n = j} (own - 1) l in
+    omega arith
+
+-- The conditions of one rival are numbers, one after another,
+pub pairs-words : (owner own other : ℕ) → owner ≤ 64 → own ≤ 16 → other ≤ 64 →
+    joined (λ k. bytes32 (wordOf owner own other 1 + 16777216 * k)) (own - 1) ≡ quads (pairsAt owner own other)
+unfolding pairsAt
+pairs-words owner own other ho hp hj = others-words owner own other (own - 1) ho hp hj (omega arith)
+
+-- stored where those of the rivals before it end
+pub place-pairs-next : (owner own : ℕ) (others out : List ℕ) (start at j : ℕ) → at ≡ start + 4 * length (placePairs owner own others j) →
+    sets (sets out start (quads (placePairs owner own others j))) at (quads (pairsAt owner own (getD others j 0)))
+    ≡ sets out start (quads (placePairs owner own others (j + 1)))
+unfolding placePairs
+place-pairs-next owner own others out start at j e = quads-next (λ i. pairsAt owner own (getD others i 0)) out start at j e
