@@ -1,8 +1,8 @@
 -- `above_terms::put_slot` meets its contract: after j turns the conditions of the first j rivals stand at the offset, and those of the next are stored where
 -- they end. Assumes nothing.
-use Prim.Native.Nat.{ℕ, suc, _+_, _-_, _*_, _<_, _≤_}
+use Prim.Native.Nat.{ℕ, _+_, _-_, _*_, _≤_}
 use mathlib.Core.List.{List}
-use mathlib.Core.Path.{_≡_, refl, sym, _∙_, ap, ap₂}
+use mathlib.Core.Path.{_≡_, refl, _∙_, ap, ap₂}
 use native.Mathlib.Nat.{le-antisymm}
 use native.Mathlib.Omega.{arith}
 use lib.ListN.{length, getD}
@@ -11,13 +11,9 @@ use Rattle.basis.specs.Bytes.{bytes32}
 use Rattle.basis.specs.Rows.{joined}
 use Rattle.sheet.specs.Encoded.{quads}
 use Rattle.above_terms.specs.EngineAbove.{placePairs}
-use Rattle.above_terms.proofs.AboveLaws.{place-pairs-more, place-pairs-within, pairs-words, place-pairs-next}
+use Rattle.above_terms.proofs.AboveLaws.{place-pairs-more, place-pairs-room, pairs-words, place-pairs-next}
 use Rattle.above_terms.proofs.put_slot.Statement.{statement}
 use Rattle.above_terms.proofs.put_slot.Tie as tie
-use Rattle.above_terms.proofs.put_slot.Reads as reads
-use Rattle.above_terms.proofs.put_slot.Lts as lts
-use Rattle.slot_terms.proofs.put_run.Reads as put-run-reads
-use Rattle.slot_terms.proofs.word_of.Reads as word-of-reads
 
 record Put (result₀ : List ℕ) (start owner own : ℕ) (others result : List ℕ) (at j : ℕ) : Type 0 where
   some : j ≤ length others
@@ -37,12 +33,6 @@ start-of c = c .before .before .before .before .before
 
 low-rival : (c : tie.In-loop Inv-loop μ-loop) → getD (start-of c .args .others .now) (c .before .loop .j) 0 ≤ 64
 low-rival c = start-of c .pre .3 (c .before .loop .j) (c .loop-test .taken)
-
--- the rivals up to the next have no more conditions than all
-next-within : (owner own : ℕ) (others : List ℕ) (j : ℕ) → j < length others →
-    length (placePairs owner own others j) + (own - 1) ≤ length (placePairs owner own others (length others))
-next-within owner own others j l =
-    omega (arith, place-pairs-more owner own others j, place-pairs-within owner own others (j + 1) (length others) (omega arith))
 
 cast-above : tie.Need-cast-above Inv-loop μ-loop
 cast-above c = omega arith
@@ -76,7 +66,7 @@ put-run-requires c κs =
     let tested = c .before .before .before in
     let first = start-of tested in
     let a = first .args in
-    let more = next-within (a .owner .0) (a .own .0) (a .others .now) (tested .before .loop .j) (tested .loop-test .taken) in
+    let more = place-pairs-room (a .owner .0) (a .own .0) (a .others .now) (tested .before .loop .j) (tested .loop-test .taken) in
     let low = low-rival tested in
     let owned = first .pre .0 in
     let placed = first .pre .2 in
@@ -94,7 +84,7 @@ add-at c =
     let tested = c .before .before .before .before .before .before in
     let first = start-of tested in
     let a = first .args in
-    let more = next-within (a .owner .0) (a .own .0) (a .others .now) (tested .before .loop .j) (tested .loop-test .taken) in
+    let more = place-pairs-room (a .owner .0) (a .own .0) (a .others .now) (tested .before .loop .j) (tested .loop-test .taken) in
     let end = tested .before .loop .inv .end in
     let room = first .pre .4 in
     omega arith
