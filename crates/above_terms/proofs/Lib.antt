@@ -1,0 +1,2 @@
+pub mod AboveLaws
+pub mod WriteLaws
