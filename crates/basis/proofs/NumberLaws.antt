@@ -32,6 +32,10 @@ same-or-not a b = decided (ℕ-discrete a b)
     decided (yes e) = inl e
     decided (no h) = inr h
 
+-- and are so told either way round
+pub eqb-turned : (a b : ℕ) → eqb a b ≡ eqb b a
+eqb-turned a b = same-tests (eqb a b) (eqb b a) (λ e. eq-eqb b a (sym (eqb-true a b e))) (λ e. eq-eqb a b (sym (eqb-true b a e)))
+
 -- one number is below another or not
 pub below-or-not : (a b : ℕ) → (a < b) ⊎ (b ≤ a)
 below-or-not a b =

@@ -15,6 +15,7 @@ use Rattle.basis.specs.Rows.{joined}
 use Rattle.basis.specs.Tests.{anyBelow}
 use Rattle.basis.proofs.BitLaws.{bit-zero}
 use Rattle.basis.proofs.CountLaws.{count-at-most}
+use Rattle.basis.proofs.NumberLaws.{eqb-turned}
 use Rattle.basis.proofs.RisingLaws.{mem-joined, at-mem}
 use Rattle.basis.proofs.RowLaws.{sets-then, sets-front}
 use Rattle.basis.proofs.TestLaws.{same-tests}
@@ -27,9 +28,6 @@ same-bit a b some some′ =
     same-tests (eqb (a - 1) (b - 1)) (eqb a b)
     (λ e. eq-eqb a b (let same = eqb-true (a - 1) (b - 1) e in omega arith))
     (λ e. eq-eqb (a - 1) (b - 1) (let same = eqb-true a b e in omega arith))
-
-eqb-turned : (a b : ℕ) → eqb a b ≡ eqb b a
-eqb-turned a b = same-tests (eqb a b) (eqb b a) (λ e. eq-eqb b a (sym (eqb-true a b e))) (λ e. eq-eqb a b (sym (eqb-true b a e)))
 
 -- bidder b is among the first k numbers of a list
 abbrev pub among : List ℕ → ℕ → ℕ → Bool
