@@ -1,10 +1,23 @@
--- A set in one word: bidder b's bit is the one before it, and a list read so far has the bidders of its numbers so far. Assumes nothing.
-use Prim.Native.Nat.{ℕ, _-_, _<_}
+-- A set in one word: a bidder's bit is the one below its number; a list that is read has the bidders of its numbers, those so far and the next. And the list of
+-- a set: its bidders so far and the next, if that is a member. Assumes nothing.
+use Prim.Native.Nat.{ℕ, zero, suc, _+_, _-_, _<_, _≤_}
 use borrow.Author.Tests.{eq-eqb, eqb-true}
-use mathlib.Core.Path.{_≡_, sym}
+use mathlib.Core.Bool.{Bool, true, false, cond, _||_}
+use mathlib.Core.List.{List, [], _∷_, _++_, append-nil}
+use mathlib.Core.Path.{_≡_, refl, sym, _∙_, ap, ap₂}
+use native.Mathlib.Nat.{zero-add}
 use native.Mathlib.Omega.{arith}
 use lib.Dec.{eqb}
+use lib.ListN.{length, getD, set, length-append}
+use lib.Seq.{sets}
+use Rattle.basis.specs.Counting.{countTo}
+use Rattle.basis.specs.Rows.{joined}
+use Rattle.basis.specs.Tests.{anyBelow}
+use Rattle.basis.proofs.BitLaws.{bit-zero}
+use Rattle.basis.proofs.CountLaws.{count-at-most}
+use Rattle.basis.proofs.RowLaws.{sets-then}
 use Rattle.basis.proofs.TestLaws.{same-tests}
+use Rattle.bidder_sets.specs.EngineSets.{inWord, Holds, listed}
 
 -- two bidders have the same bit where they are the same
 pub same-bit : (a b : ℕ) → 0 < a → 0 < b → eqb (a - 1) (b - 1) ≡ eqb a b
@@ -13,5 +26,48 @@ same-bit a b some some′ =
     (λ e. eq-eqb a b (let same = eqb-true (a - 1) (b - 1) e in omega arith))
     (λ e. eq-eqb (a - 1) (b - 1) (let same = eqb-true a b e in omega arith))
 
-pub same-either-way : (a b : ℕ) → eqb a b ≡ eqb b a
-same-either-way a b = same-tests (eqb a b) (eqb b a) (λ e. eq-eqb b a (sym (eqb-true a b e))) (λ e. eq-eqb a b (sym (eqb-true b a e)))
+eqb-turned : (a b : ℕ) → eqb a b ≡ eqb b a
+eqb-turned a b = same-tests (eqb a b) (eqb b a) (λ e. eq-eqb b a (sym (eqb-true a b e))) (λ e. eq-eqb a b (sym (eqb-true b a e)))
+
+-- bidder b is among the first k numbers of a list
+abbrev pub among : List ℕ → ℕ → ℕ → Bool
+among list k b = anyBelow (λ j. eqb (getD list j 0) b) k
+
+pub none-among : (list : List ℕ) → Holds 0 (among list 0)
+unfolding anyBelow
+none-among list b some most = bit-zero (b - 1)
+
+pub next-among : (list : List ℕ) (k word more : ℕ) → Holds word (among list k) → Holds more (λ b. inWord word b || eqb b (getD list k 0)) →
+    Holds more (among list (suc k))
+unfolding anyBelow
+next-among list k word more held added b some most = added b some most ∙ ap₂ _||_ (held b some most) (eqb-turned b (getD list k 0))
+
+module _ (member : ℕ → Bool) where
+  -- the list of a set with one bidder more, who is a member,
+  pub listed-member : (i : ℕ) → member (suc i) ≡ true → listed member (suc i) ≡ listed member i ++ (suc i ∷ [])
+  unfolding listed joined
+  listed-member i e = ap (λ (t : Bool). listed member i ++ cond t (suc i ∷ []) []) e
+
+  -- or is not
+  pub listed-other : (i : ℕ) → member (suc i) ≡ false → listed member (suc i) ≡ listed member i
+  unfolding listed joined
+  listed-other i e = ap (λ (t : Bool). listed member i ++ cond t (suc i ∷ []) []) e ∙ append-nil (listed member i)
+
+  -- it has each member once
+  pub length-listed : (n : ℕ) → length (listed member n) ≡ countTo (λ i. member (suc i)) n
+  unfolding listed joined countTo
+  length-listed zero = refl
+  length-listed (suc n) =
+      length-append (listed member n) (cond (member (suc n)) (suc n ∷ []) [])
+      ∙ ap₂ _+_ (length-listed n) (one (member (suc n)))
+    where
+      one : (t : Bool) → length (cond t (suc n ∷ []) []) ≡ cond t 1 0
+      one true = refl
+      one false = refl
+
+  pub listed-few : (n : ℕ) → length (listed member n) ≤ n
+  listed-few n = let same = length-listed n in let most = count-at-most (λ i. member (suc i)) n in omega arith
+
+-- a number stored where a list ends
+pub stored-next : (out list : List ℕ) (end x : ℕ) → end ≡ length list → set (sets out 0 list) end x ≡ sets out 0 (list ++ (x ∷ []))
+stored-next out list end x e = ap (λ (n : ℕ). set (sets out 0 list) n x) (e ∙ sym (zero-add (length list))) ∙ sets-then list (x ∷ []) out 0

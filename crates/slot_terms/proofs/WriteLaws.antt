@@ -94,12 +94,17 @@ words-quads word a b c d n low =
     (λ k l. let here = low k l in ap bytes32 (here .4) ∙ word-quad (a k) (b k) (c k) (d k) (here .0) (here .1) (here .2) (here .3))
     ∙ sym (quads-row (λ k. on (a k) (b k) (c k) (d k)) n)
 
+-- those of one other bidder at places 1 to its last, with the owner at one place or any
+pub others-words : (owner own other last : ℕ) → owner ≤ 64 → own ≤ 16 → other ≤ 64 → last ≤ 16 →
+    joined (λ k. bytes32 (wordOf owner own other 1 + 16777216 * k)) last ≡ quads (row (λ k. on owner own other (suc k)) last)
+others-words owner own other last ho hp hj hl =
+    words-quads (λ k. wordOf owner own other 1 + 16777216 * k) (λ k. owner) (λ k. own) (λ k. other) (λ k. suc k) last
+    (λ k l. (omega arith, omega arith, omega arith, omega arith, omega arith))
+
 pub barred-words : (owner other bar : ℕ) → owner ≤ 64 → other ≤ 64 → bar ≤ 16 →
     joined (λ k. bytes32 (wordOf owner 0 other 1 + 16777216 * k)) bar ≡ quads (barred owner other bar)
 unfolding barred
-barred-words owner other bar ho hj hb =
-    words-quads (λ k. wordOf owner 0 other 1 + 16777216 * k) (λ k. owner) (λ k. 0) (λ k. other) (λ k. suc k) bar
-    (λ k l. (omega arith, omega arith, omega arith, omega arith, omega arith))
+barred-words owner other bar ho hj hb = others-words owner 0 other bar ho (omega arith) hj hb
 
 pub beyond-words : (m owner limit : ℕ) → m ≤ 16 → owner ≤ 64 →
     joined (λ k. bytes32 (wordOf owner (limit + 1) 0 0 + 256 * k)) (m - limit) ≡ quads (beyond m owner limit)
@@ -129,15 +134,21 @@ quads-then xs ys out start end e =
     ∙ sets-then (quads xs) (quads ys) out start
     ∙ ap (sets out start) (sym (quads-append xs ys))
 
--- those of one bar more,
+-- those of lists one after another where the lists before them end,
+pub quads-next : (f : ℕ → List Condition) (out : List ℕ) (start at k : ℕ) → at ≡ start + 4 * length (joined f k) →
+    sets (sets out start (quads (joined f k))) at (quads (f k)) ≡ sets out start (quads (joined f (k + 1)))
+unfolding joined
+quads-next f out start at k e =
+    quads-then (joined f k) (f k) out start at e ∙ ap (λ (n : ℕ). sets out start (quads (joined f n))) (sym (add-one k))
+
+-- so those of one bar more
 pub barred-next : (owner : ℕ) (bars out : List ℕ) (start at i : ℕ) → at ≡ start + 4 * barsTo bars i →
     sets (sets out start (quads (allBarred owner bars i))) at (quads (barred owner (i + 1) (getD bars i 0)))
     ≡ sets out start (quads (allBarred owner bars (i + 1)))
-unfolding joined barFor
+unfolding barFor
 barred-next owner bars out start at i e =
     ap (λ (j : ℕ). sets (sets out start (quads (allBarred owner bars i))) at (quads (barred owner j (getD bars i 0)))) (add-one i)
-    ∙ quads-then (allBarred owner bars i) (barred owner (suc i) (getD bars i 0)) out start at (let size = length-all-barred owner bars i in omega arith)
-    ∙ ap (λ (n : ℕ). sets out start (quads (allBarred owner bars n))) (sym (add-one i))
+    ∙ quads-next (λ j. barred owner (suc j) (barFor bars (suc j))) out start at i (let size = length-all-barred owner bars i in omega arith)
 
 -- The call's ways out: a number, and the conditions.
 module _ (n m owner limit : ℕ) (bars out : List ℕ) where
