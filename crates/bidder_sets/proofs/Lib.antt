@@ -1,2 +1,2 @@
-pub mod SetLaws
 pub mod ListedLaws
+pub mod SetLaws

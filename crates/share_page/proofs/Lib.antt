@@ -1,1 +1,3 @@
+pub mod GoodLaws
+pub mod SharingLaws
 pub mod TableLaws
