@@ -1,22 +1,38 @@
 -- How the order is found, in words and in sets. Only what stands in the list of members matters: two sets, and two ways of naming, that agree on the members
 -- give the same turns, so the table's words and the lent sets do. Assumes nothing.
 use Prim.Native.Nat.{ℕ, zero, suc, _-_, _<_, _≤_}
-use borrow.Author.Tests.{eq-eqb, ltb-true, ltb-false}
+use borrow.Author.Tests.{eq-eqb, ne-eqb, ltb-true, ltb-false}
 use mathlib.Core.Bool.{Bool, true, false, cond, not, _&&_}
-use mathlib.Core.List.{List, [], _∷_, _++_}
+use mathlib.Core.List.{List, [], _∷_}
 use mathlib.Core.Logic.{⊎-elim}
 use mathlib.Core.Path.{_≡_, refl, sym, _∙_, ap, ap₂}
 use native.Mathlib.Omega.{arith}
 use lib.Dec.{eqb, ltb}
-use lib.ListN.{length, getD, List·getD-eq-default}
+use lib.ListN.{length, getD, set, List·getD-eq-default}
+use lib.Seq.{sets}
 use Rattle.basis.specs.Rows.{row, joined}
 use Rattle.basis.specs.Tests.{allBelow, least}
 use Rattle.basis.proofs.RisingLaws.{at-mem}
-use Rattle.basis.proofs.RowLaws.{joined-same}
-use Rattle.basis.proofs.TestLaws.{holds-or-fails, not-both, fails, not-fails, any-same, all-at, least-at-most, least-before, least-passes, least-is}
+use Rattle.basis.proofs.RowLaws.{length-row, row-same, joined-same}
+use Rattle.basis.proofs.TestLaws.{
+  holds-or-fails,
+  not-both,
+  fails,
+  and-holds,
+  not-holds,
+  not-fails,
+  any-same,
+  all-same,
+  all-at,
+  least-at-most,
+  least-before,
+  least-passes,
+  least-is,
+}
 use Rattle.bidder_sets.specs.BidderSets.{inSet, rivalsOf}
 use Rattle.bidder_sets.specs.EngineSets.{inWord, Holds, listed}
 use Rattle.bidder_sets.proofs.ListedLaws.{listed-where}
+use Rattle.bidder_sets.proofs.SetLaws.{stored-next}
 use Rattle.share_page.specs.SharePage.{names}
 use Rattle.share_page.specs.EngineShare.{inTable, namedIn, firstIn, nextIn, leftAfter, turns, allFound}
 
@@ -76,26 +92,48 @@ module _ (named named′ : ℕ → ℕ → Bool) (members : List ℕ)
     turn-same i = next-same (leftAfter named members left i) (leftAfter named′ members left′ i) (left-same i)
 
     pub turns-same : (k : ℕ) → turns named members left k ≡ turns named′ members left′ k
-    unfolding turns row
-    turns-same zero = refl
-    turns-same (suc k) = ap₂ (λ (l : List ℕ) (x : ℕ). l ++ (x ∷ [])) (turns-same k) (turn-same k)
+    unfolding turns
+    turns-same k = row-same _ _ k (λ i l. turn-same i)
 
     pub found-same : (k : ℕ) → allFound named members left k ≡ allFound named′ members left′ k
-    unfolding allFound allBelow
-    found-same zero = refl
-    found-same (suc k) = ap₂ (λ (t : Bool) (x : ℕ). t && not (eqb x 0)) (found-same k) (turn-same k)
+    unfolding allFound
+    found-same k = all-same _ _ k (λ i l. ap (λ (x : ℕ). not (eqb x 0)) (turn-same i))
 
 -- One turn more.
 module _ (named : ℕ → ℕ → Bool) (members : List ℕ) (left : ℕ → Bool) where
-  abbrev turnOf : ℕ → ℕ
+  abbrev pub turnOf : ℕ → ℕ
   turnOf i = nextIn named members (leftAfter named members left i)
 
-  -- a turn that finds none ends the search
+  -- a turn that finds one,
+  pub one-left : (k word word′ : ℕ) → Holds word (leftAfter named members left k) → Holds word′ (λ b. inWord word b && not (eqb b (turnOf k))) →
+      Holds word′ (leftAfter named members left (suc k))
+  unfolding leftAfter
+  one-left k word word′ held taken b some most = taken b some most ∙ ap (λ (t : Bool). t && not (eqb b (turnOf k))) (held b some most)
+
+  pub one-found : (k : ℕ) → allFound named members left k ≡ true → (turnOf k ≡ 0 → ⊥) → allFound named members left (suc k) ≡ true
+  unfolding allFound allBelow
+  one-found k e h = and-holds e (not-holds (ne-eqb (turnOf k) 0 h))
+
+  pub one-turned : (out : List ℕ) (k : ℕ) → set (sets out 0 (turns named members left k)) k (turnOf k) ≡ sets out 0 (turns named members left (suc k))
+  unfolding turns row
+  one-turned out k = stored-next out (turns named members left k) k (turnOf k) (sym (length-row turnOf k))
+
+  -- and one that finds none, which ends the search
   pub none-found : (k n : ℕ) → k < n → turnOf k ≡ 0 → allFound named members left n ≡ false
   unfolding allFound
   none-found k n l e =
       fails (allBelow (λ i. not (eqb (turnOf i) 0)) n)
       (λ h. not-both (all-at (λ i. not (eqb (turnOf i) 0)) n h k l) (not-fails (eq-eqb (turnOf k) 0 e)))
+
+-- The next one as the words give it, of members from 1 to 64.
+pub words-next : (named : ℕ → ℕ → Bool) (members : List ℕ) → ((k : ℕ) → k < length members → (0 < getD members k 0) × (getD members k 0 ≤ 64)) →
+    (left : ℕ → Bool) (word out free : ℕ) → Holds word left → ((x : ℕ) → inWord out x ≡ namedIn named members (inWord word) x) →
+    ((x : ℕ) → inWord free x ≡ (inWord word x && not (inWord out x))) → firstIn members (inWord free) ≡ nextIn named members left
+unfolding nextIn
+words-next named members inside left word out free held told rest =
+    first-same members (inWord free) (λ x. inWord word x && not (namedIn named members (inWord word) x))
+    (λ k l. rest (getD members k 0) ∙ ap (λ (t : Bool). inWord word (getD members k 0) && not t) (told (getD members k 0)))
+    ∙ next-same named named members (λ j k l l′. refl) (inWord word) left (λ k l. held (getD members k 0) (inside k l .0) (inside k l .1))
 
 -- Words that hold the lent sets: those of the table the rivals of each bidder, the one word the members.
 module _ (n : ℕ) (few : n ≤ 64) (sets members table : List ℕ) (word : ℕ)
