@@ -1,3 +1,4 @@
 pub mod GoodLaws
 pub mod SharingLaws
 pub mod TableLaws
+pub mod SetsLaws

@@ -41,7 +41,7 @@ fn size_refusal(n: u32, m: u32) -> u32
 
 // 23 or 24; or 0, with the rival set of each bidder in a word of the table.
 fn read_sets(table: &mut [u64; 64], rivals: &[u8], n: u32) -> u32
-    requires { ⌜ n ≤ 64 ⌝ }
+    requires { ⌜ (n ≤ 64) × (length (now table) ≡ 64) ⌝ }
     ensures { λ r. ⌜ (r ≡ setsRefusal n (now (rivals .entry))) × (r ≡ 0 → (i : ℕ) → i < n → Holds (getD (now (table .exit)) i 0) (inSet (rivalsOf (now (rivals .entry)) (suc i)))) ⌝ }
 {
     let mut own = false;
