@@ -3,19 +3,20 @@
 use Prim.Native.Nat.{ℕ, zero, suc, _+_, _-_, _<_, _≤_}
 use borrow.Author.Tests.{eq-eqb, eqb-true}
 use mathlib.Core.Bool.{Bool, true, false, cond, _||_}
-use mathlib.Core.List.{List, [], _∷_, _++_, append-nil}
+use mathlib.Core.List.{List, [], _∷_, _++_, append-nil, List·Memᴰ, List·Memᴰ·eq-of-singleton, List·Memᴰ·not-nil}
 use mathlib.Core.Path.{_≡_, refl, sym, _∙_, ap, ap₂}
 use native.Mathlib.Nat.{zero-add}
 use native.Mathlib.Omega.{arith}
 use lib.Dec.{eqb}
-use lib.ListN.{length, getD, set, length-append}
-use lib.Seq.{sets}
+use lib.ListN.{length, getD, set, take, drop, length-append}
+use lib.Seq.{sets, take-at}
 use Rattle.basis.specs.Counting.{countTo}
 use Rattle.basis.specs.Rows.{joined}
 use Rattle.basis.specs.Tests.{anyBelow}
 use Rattle.basis.proofs.BitLaws.{bit-zero}
 use Rattle.basis.proofs.CountLaws.{count-at-most}
-use Rattle.basis.proofs.RowLaws.{sets-then}
+use Rattle.basis.proofs.RisingLaws.{mem-joined, at-mem}
+use Rattle.basis.proofs.RowLaws.{sets-then, sets-front}
 use Rattle.basis.proofs.TestLaws.{same-tests}
 use Rattle.bidder_sets.specs.EngineSets.{inWord, Holds, listed}
 
@@ -67,6 +68,27 @@ module _ (member : ℕ → Bool) where
 
   pub listed-few : (n : ℕ) → length (listed member n) ≤ n
   listed-few n = let same = length-listed n in let most = count-at-most (λ i. member (suc i)) n in omega arith
+
+  -- what stands in it are members of 1 to n
+  here : (k x : ℕ) (t : Bool) → List·Memᴰ x (cond t (suc k ∷ []) []) → (x ≡ suc k) × (t ≡ true)
+  here k x true m = (List·Memᴰ·eq-of-singleton m, refl)
+  here k x false m = absurd (List·Memᴰ·not-nil m)
+
+  pub listed-at : (n j : ℕ) → j < length (listed member n) →
+      (0 < getD (listed member n) j 0) × (getD (listed member n) j 0 ≤ n) × (member (getD (listed member n) j 0) ≡ true)
+  unfolding listed
+  listed-at n j l =
+      let x = getD (listed member n) j 0 in
+      let w = mem-joined (λ i. cond (member (suc i)) (suc i ∷ []) []) n x (at-mem (listed member n) 0 j l) in
+      let below : w .0 < n = w .1 in
+      let found = here (w .0) x (member (suc (w .0))) (w .2) in
+      let same : x ≡ suc (w .0) = found .0 in
+      (omega arith, omega arith, ap member same ∙ found .1)
+
+-- a list at the front of a space is taken back from there
+pub list-front : (space list : List ℕ) (count : ℕ) → count ≡ length list → length list ≤ length space → take count (sets space 0 list) ≡ list
+list-front space list count e room =
+    ap (take count) (sets-front list space room) ∙ take-at list (drop (length list) space) count (sym e)
 
 -- a number stored where a list ends
 pub stored-next : (out list : List ℕ) (end x : ℕ) → end ≡ length list → set (sets out 0 list) end x ≡ sets out 0 (list ++ (x ∷ []))

@@ -12,7 +12,7 @@ use lib.Dec.{ltb}
 use lib.ListN.{length, getD, drop, length-append}
 use lib.Seq.{sets}
 use Rattle.basis.specs.Bytes.{bytes32}
-use Rattle.basis.specs.First.{_when_otherwise_}
+use Rattle.basis.specs.First.{_when_otherwise_, unlessRefused}
 use Rattle.basis.specs.Rows.{row, joined}
 use Rattle.basis.proofs.BytesLaws.{length-bytes32, word-bytes}
 use Rattle.basis.proofs.FirstLaws.{orElse-left, orElse-right, refused-leaves, answered-gives}
@@ -150,6 +150,26 @@ barred-next owner bars out start at i e =
     ap (λ (j : ℕ). sets (sets out start (quads (allBarred owner bars i))) at (quads (barred owner j (getD bars i 0)))) (add-one i)
     ∙ quads-next (λ j. barred owner (suc j) (barFor bars (suc j))) out start at i (let size = length-all-barred owner bars i in omega arith)
 
+-- What a call that writes conditions leaves: nothing where it is refused, and else the conditions.
+module _ (number : ℕ) (terms : List Condition) (out : List ℕ) where
+  pub refused-left : (returned : Written) (k : ℕ) → returned ≡ record { refusal = k; count = 0 } → k ≡ number → (k ≡ 0 → ⊥) →
+      (returned .refusal ≡ number)
+      × (returned .count ≡ unlessRefused number (length terms) 0)
+      × (out ≡ unlessRefused number (conditionsBuffer terms out) out)
+  refused-left returned k e same h = (
+    ap (λ (t : Written). t .refusal) e ∙ same,
+    ap (λ (t : Written). t .count) e ∙ refused-leaves number k (length terms) 0 same h,
+    refused-leaves number k (conditionsBuffer terms out) out same h,
+  )
+
+  pub terms-left : number ≡ 0 → 4 * length terms ≤ length out → sets out 0 (quads terms) ≡ unlessRefused number (conditionsBuffer terms out) out
+  unfolding conditionsBuffer
+  terms-left none room =
+      let long = length-quads terms in
+      sets-front (quads terms) out (omega arith)
+      ∙ ap (λ (k : ℕ). quads terms ++ drop k out) long
+      ∙ answered-gives number (conditionsBuffer terms out) out none
+
 -- The call's ways out: a number, and the conditions.
 module _ (n m owner limit : ℕ) (bars out : List ℕ) where
   abbrev number : ℕ
@@ -161,11 +181,8 @@ module _ (n m owner limit : ℕ) (bars out : List ℕ) where
   left : (returned : Written) (k : ℕ) → returned ≡ record { refusal = k; count = 0 } → k ≡ number → (k ≡ 0 → ⊥) →
       SlotTermsWritten n m owner limit bars out returned out
   left returned k e same h =
-      record {
-        number = ap (λ (t : Written). t .refusal) e ∙ same;
-        count = ap (λ (t : Written). t .count) e ∙ refused-leaves number k (length terms) 0 same h;
-        buffer = refused-leaves number k (conditionsBuffer terms out) out same h;
-      }
+      let parts = refused-left number terms out returned k e same h in
+      record { number = parts .0; count = parts .1; buffer = parts .2 }
 
   pub owner-refused : (returned : Written) (k : ℕ) → returned ≡ record { refusal = k; count = 0 } → k ≡ ownerRefusal n m owner → (k ≡ 0 → ⊥) →
       SlotTermsWritten n m owner limit bars out returned out
@@ -207,13 +224,12 @@ module _ (n m owner limit : ℕ) (bars out : List ℕ) where
           at ≡ 4 * barsTo bars (length bars) → front ≡ sets out 0 (quads (allBarred owner bars (length bars))) →
           word ≡ wordOf owner (limit + 1) 0 0 → runs ≡ m - limit → whole ≡ sets front at (joined (λ k. bytes32 (word + 256 * k)) runs) →
           SlotTermsWritten n m owner limit bars out (record { refusal = 0; count = count }) whole
-      unfolding conditionsBuffer slotTerms
+      unfolding slotTerms
       terms-written front whole at count word runs e room place f g h w =
           let fits = fits-owner n m owner owned in
           let size = many in
           let all = as-many in
           let none : number ≡ 0 = last-test ∙ simp (le-ltb (length out) (4 * length terms) (omega arith)) in
-          let long = length-quads terms in
           record {
             number = sym none;
             count = e ∙ size ∙ answered-gives number (length terms) 0 none;
@@ -224,7 +240,5 @@ module _ (n m owner limit : ℕ) (bars out : List ℕ) where
                 ∙ quads-then (allBarred owner bars (length bars)) (beyond m owner limit) out 0 at
                 (let bars-many = length-all-barred owner bars (length bars) in omega arith)
                 ∙ ap (λ (k : ℕ). sets out 0 (quads (allBarred owner bars k ++ beyond m owner limit))) all
-                ∙ sets-front (quads terms) out (omega arith)
-                ∙ ap (λ (k : ℕ). quads terms ++ drop k out) long
-                ∙ answered-gives number (conditionsBuffer terms out) out none;
+                ∙ terms-left number terms out none (omega arith);
           }
