@@ -19,6 +19,7 @@ use Rattle.basis.proofs.RisingLaws.{mem-joined, at-mem}
 use Rattle.basis.proofs.RowLaws.{sets-then, sets-front}
 use Rattle.basis.proofs.TestLaws.{same-tests}
 use Rattle.bidder_sets.specs.EngineSets.{inWord, Holds, listed}
+use Rattle.bidder_sets.proofs.ListedLaws.{listed-many}
 
 -- two bidders have the same bit where they are the same
 pub same-bit : (a b : ℕ) → 0 < a → 0 < b → eqb (a - 1) (b - 1) ≡ eqb a b
@@ -54,20 +55,9 @@ module _ (member : ℕ → Bool) where
   unfolding listed joined
   listed-other i e = ap (λ (t : Bool). listed member i ++ cond t (suc i ∷ []) []) e ∙ append-nil (listed member i)
 
-  -- it has each member once
-  pub length-listed : (n : ℕ) → length (listed member n) ≡ countTo (λ i. member (suc i)) n
-  unfolding listed joined countTo
-  length-listed zero = refl
-  length-listed (suc n) =
-      length-append (listed member n) (cond (member (suc n)) (suc n ∷ []) [])
-      ∙ ap₂ _+_ (length-listed n) (one (member (suc n)))
-    where
-      one : (t : Bool) → length (cond t (suc n ∷ []) []) ≡ cond t 1 0
-      one true = refl
-      one false = refl
-
+  -- it has at most all
   pub listed-few : (n : ℕ) → length (listed member n) ≤ n
-  listed-few n = let same = length-listed n in let most = count-at-most (λ i. member (suc i)) n in omega arith
+  listed-few n = let same = listed-many member n in let most = count-at-most (λ i. member (suc i)) n in omega arith
 
   -- what stands in it are members of 1 to n
   here : (k x : ℕ) (t : Bool) → List·Memᴰ x (cond t (suc k ∷ []) []) → (x ≡ suc k) × (t ≡ true)
