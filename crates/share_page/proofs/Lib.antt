@@ -2,3 +2,4 @@ pub mod GoodLaws
 pub mod SharingLaws
 pub mod TableLaws
 pub mod SetsLaws
+pub mod WriteLaws

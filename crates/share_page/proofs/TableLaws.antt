@@ -12,7 +12,6 @@ use lib.ListN.{length, getD, set, List·getD-eq-default}
 use lib.Seq.{sets}
 use Rattle.basis.specs.Rows.{row, joined}
 use Rattle.basis.specs.Tests.{allBelow, least}
-use Rattle.basis.proofs.RisingLaws.{at-mem}
 use Rattle.basis.proofs.RowLaws.{length-row, row-same, joined-same}
 use Rattle.basis.proofs.TestLaws.{
   holds-or-fails,
@@ -31,8 +30,7 @@ use Rattle.basis.proofs.TestLaws.{
 }
 use Rattle.bidder_sets.specs.BidderSets.{inSet, rivalsOf}
 use Rattle.bidder_sets.specs.EngineSets.{inWord, Holds, listed}
-use Rattle.bidder_sets.proofs.ListedLaws.{listed-where}
-use Rattle.bidder_sets.proofs.SetLaws.{stored-next}
+use Rattle.bidder_sets.proofs.SetLaws.{listed-at, stored-next}
 use Rattle.share_page.specs.SharePage.{names}
 use Rattle.share_page.specs.EngineShare.{inTable, namedIn, firstIn, nextIn, leftAfter, turns, allFound}
 
@@ -148,11 +146,6 @@ module _ (n : ℕ) (few : n ≤ 64) (sets members table : List ℕ) (word : ℕ)
   abbrev rising : List ℕ
   rising = listed (inSet members) n
 
-  listed-inside : (k : ℕ) → k < length rising → (0 < getD rising k 0) × (getD rising k 0 ≤ n)
-  listed-inside k l =
-      let h = listed-where (inSet members) n (getD rising k 0) (at-mem rising 0 k l) in
-      (h .1, h .2)
-
   names-tabled : (x y : ℕ) → 0 < x → x ≤ n → 0 < y → y ≤ n → inTable table x y ≡ names sets x y
   names-tabled zero y a b p q = absurd (omega arith)
   names-tabled (suc i) y a b p q =
@@ -162,12 +155,12 @@ module _ (n : ℕ) (few : n ≤ 64) (sets members table : List ℕ) (word : ℕ)
   agree-named : (j k : ℕ) → j < length rising → k < length rising →
       inTable table (getD rising j 0) (getD rising k 0) ≡ names sets (getD rising j 0) (getD rising k 0)
   agree-named j k l l′ =
-      let one = listed-inside j l in
-      let other = listed-inside k l′ in
+      let one = listed-at (inSet members) n j l in
+      let other = listed-at (inSet members) n k l′ in
       names-tabled (getD rising j 0) (getD rising k 0) (one .0) (one .1) (other .0) (other .1)
 
   agree-held : (k : ℕ) → k < length rising → inWord word (getD rising k 0) ≡ inSet members (getD rising k 0)
-  agree-held k l = let h = listed-inside k l in let some = h .0 in let most = h .1 in held (getD rising k 0) some (omega arith)
+  agree-held k l = let h = listed-at (inSet members) n k l in let some = h .0 in let most = h .1 in held (getD rising k 0) some (omega arith)
 
   -- the turns and whether each finds one are those of the sets
   pub words-turns : (k : ℕ) → turns (inTable table) rising (inWord word) k ≡ turns (names sets) rising (inSet members) k
