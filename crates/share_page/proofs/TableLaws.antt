@@ -10,7 +10,7 @@ use native.Mathlib.Omega.{arith}
 use lib.Dec.{eqb, ltb}
 use lib.ListN.{length, getD, set, List·getD-eq-default}
 use lib.Seq.{sets}
-use Rattle.basis.specs.Rows.{row, joined}
+use Rattle.basis.specs.Rows.{row}
 use Rattle.basis.specs.Tests.{allBelow, least}
 use Rattle.basis.proofs.RowLaws.{length-row, row-same, joined-same}
 use Rattle.basis.proofs.TestLaws.{
