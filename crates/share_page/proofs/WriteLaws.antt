@@ -1,10 +1,10 @@
 -- The call's ways out: each number, a no and a yes. The turns that the words give are those of the sets, and so come to what trying all orders does.
 -- Assumes nothing.
-use Prim.Native.Nat.{ℕ, zero, suc, _<_, _≤_}
+use Prim.Native.Nat.{ℕ, suc, _<_, _≤_}
 use borrow.Author.Tests.{eqb-true, eqb-false, lt-ltb, le-ltb, ltb-false, le-leb, lt-leb}
 use mathlib.Core.Bool.{Bool, true, false, cond, _&&_, _||_, and-false}
 use mathlib.Core.List.{List, [], _++_}
-use mathlib.Core.Path.{_≡_, refl, sym, _∙_, ap, ap₂}
+use mathlib.Core.Path.{_≡_, sym, _∙_, ap}
 use native.Mathlib.Omega.{arith}
 use lib.Dec.{eqb, ltb, leb}
 use lib.ListN.{length, getD, drop}
@@ -50,8 +50,8 @@ set-within n set right b there =
     let w = any-where (λ k. eqb (getD set k 0) b) (length set) there in
     let same = eqb-true (getD set (w .0) 0) b (w .2) in
     let parts =
-        or-none (eqb (getD set (w .0) 0) 0) (ltb n (getD set (w .0) 0))
-        (any-none (λ k. eqb (getD set k 0) 0 || ltb n (getD set k 0)) (length set) right (w .0) (w .1)) in
+    or-none (eqb (getD set (w .0) 0) 0) (ltb n (getD set (w .0) 0))
+    (any-none (λ k. eqb (getD set k 0) 0 || ltb n (getD set k 0)) (length set) right (w .0) (w .1)) in
     let some = eqb-false (getD set (w .0) 0) 0 (parts .0) in
     let most = ltb-false n (getD set (w .0) 0) (parts .1) in
     (omega arith, omega arith)
@@ -137,46 +137,52 @@ module _ (n m : ℕ) (members rivals out : List ℕ) where
                     ∙ answered-gives number (orderBuffer n m members rivals out) out none;
               }
 
--- The turns of the words, for the list that the word gives.
-module _ (n m : ℕ) (members rivals : List ℕ) (few : n ≤ 64) (right : numbersWrong n members ≡ false) (table : List ℕ) (word : ℕ)
-  (tabled : (i : ℕ) → i < n → Holds (getD table i 0) (inSet (rivalsOf rivals (suc i)))) (held : Holds word (inSet members)) (rising : List ℕ)
-  (listing : rising ≡ listed (inWord word) n) where
+-- What the call has read past its numbers: the members in a word and in rising order, and the rivals of each bidder in a word of the table.
+pub record Words (n : ℕ) (members rivals table : List ℕ) (word : ℕ) (rising : List ℕ) : Type 0 where
+  pub few : n ≤ 64
+  pub right : numbersWrong n members ≡ false
+  pub tabled : (i : ℕ) → i < n → Holds (getD table i 0) (inSet (rivalsOf rivals (suc i)))
+  pub held : Holds word (inSet members)
+  pub listing : rising ≡ listed (inWord word) n
+
+module _ (n m : ℕ) (members rivals table : List ℕ) (word : ℕ) (rising : List ℕ) (read : Words n members rivals table word rising) where
   abbrev all : List ℕ
   all = listed (inSet members) n
 
   rising-is : rising ≡ all
-  rising-is = listing ∙ word-listed n few rivals members table word tabled held
+  rising-is = read .listing ∙ word-listed n (read .few) rivals members table word (read .tabled) (read .held)
 
   many : length all ≡ membersOf n members
   unfolding membersOf
   many = listed-many (inSet members) n
 
+  size-is : length rising ≡ membersOf n members
+  size-is = ap length rising-is ∙ many
+
+  -- each turn finds one where some order of all passes,
   abbrev found : Bool
   found = allFound (inTable table) rising (inWord word) (length rising)
 
   found-sets : found ≡ allFound (names rivals) all (inSet members) (membersOf n members)
   found-sets =
       ap (λ (l : List ℕ). allFound (inTable table) l (inWord word) (length l)) rising-is
-      ∙ words-found n few rivals members table word tabled held (length all)
+      ∙ words-found n (read .few) rivals members table word (read .tabled) (read .held) (length all)
       ∙ ap (allFound (names rivals) all (inSet members)) many
 
   found-some : found ≡ someOf (putsAbove (names rivals)) (memberOrders n members)
   unfolding membersOf
-  found-some = found-sets ∙ sym (some-found (names rivals) n (inSet members) (set-within n members right))
+  found-some = found-sets ∙ sym (some-found (names rivals) n (inSet members) (set-within n members (read .right)))
 
-  -- the first order,
+  -- and then they are the first that does
   pub turns-first : found ≡ true → turns (inTable table) rising (inWord word) (length rising) ≡ firstOf (putsAbove (names rivals)) (memberOrders n members)
   unfolding membersOf
   turns-first e =
       ap (λ (l : List ℕ). turns (inTable table) l (inWord word) (length l)) rising-is
-      ∙ words-turns n few rivals members table word tabled held (length all)
+      ∙ words-turns n (read .few) rivals members table word (read .tabled) (read .held) (length all)
       ∙ ap (turns (names rivals) all (inSet members)) many
-      ∙ sym (first-found (names rivals) n (inSet members) (set-within n members right) (sym found-sets ∙ e))
+      ∙ sym (first-found (names rivals) n (inSet members) (set-within n members (read .right)) (sym found-sets ∙ e))
 
-  -- a no for too many members or where a turn finds none, and a yes
-  size-is : length rising ≡ membersOf n members
-  size-is = ap length rising-is ∙ many
-
+  -- so it is a no for too many members or where a turn finds none, and else a yes
   pub too-many : m < length rising → canShare n m members rivals ≡ false
   unfolding canShare
   too-many more =

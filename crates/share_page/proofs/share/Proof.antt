@@ -15,6 +15,7 @@ use Rattle.bidder_sets.proofs.SetLaws.{listed-at, listed-few, list-front}
 use Rattle.share_page.specs.SharePage.{names, putsAbove, firstOf, memberOrders, canShare, sizeRefusal, setsRefusal}
 use Rattle.share_page.specs.EngineShare.{inTable, turns}
 use Rattle.share_page.proofs.WriteLaws.{
+  Words,
   sizes-few,
   size-refused,
   members-wrong,
@@ -30,15 +31,6 @@ use Rattle.share_page.proofs.WriteLaws.{
 }
 use Rattle.share_page.proofs.share.Statement.{statement}
 use Rattle.share_page.proofs.share.Tie as tie
-use Rattle.share_page.proofs.share.Reads as reads
-use Rattle.share_page.proofs.share.Lts as lts
-use Rattle.bidder_sets.proofs.list.Reads as list-reads
-use Rattle.bidder_sets.proofs.read.Reads as read-reads
-use Rattle.share_page.proofs.put_bytes.Reads as put-bytes-reads
-use Rattle.share_page.proofs.put_in_order.Reads as put-in-order-reads
-use Rattle.share_page.proofs.read_sets.Reads as read-sets-reads
-use Rattle.share_page.proofs.refused.Reads as refused-reads
-use Rattle.share_page.proofs.size_refusal.Reads as size-refusal-reads
 
 -- where the call started, and what is known past each of its tests
 abbrev start : tie.Else1 → tie.Start
@@ -86,6 +78,17 @@ rising-is c =
     ap (take (c .list .result)) (c .list .ensures .1)
     ∙ list-front (replicate 64 0) (listed (inWord (word c)) (given c .args .n)) (c .list .result) (c .list .ensures .0) (listed-most c)
 
+words : (c : tie.After-list) → Words (given c .args .n) (given c .args .members .now) (given c .args .rivals .now) (table c) (word c) (rising c)
+words c =
+    let read = known (past c) in
+    record {
+      few = few (read .before .before);
+      right = right read;
+      tabled = past c .before .read-sets .ensures .1 (past c .if3 .left);
+      held = read .before .read .ensures .1 (read .if2 .left);
+      listing = rising-is c;
+    }
+
 rising-many : (c : tie.After-list) → length (rising c) ≡ c .list .result
 rising-many c = ap length (rising-is c) ∙ sym (c .list .ensures .0)
 
@@ -116,11 +119,7 @@ can : (c : tie.Else5) → Can (turned (c .before)) true
 can c =
     let l = turned (c .before) in
     let a = given l .args in
-    one-passes (a .n) (a .m) (a .members .now) (a .rivals .now) (few (known (past l) .before .before)) (right (known (past l))) (table l) (word l)
-    (past l .before .read-sets .ensures .1 (past l .if3 .left))
-    (known (past l) .before .read .ensures .1 (known (past l) .if2 .left))
-    (rising l)
-    (rising-is l)
+    one-passes (a .n) (a .m) (a .members .now) (a .rivals .now) (table l) (word l) (rising l) (words l)
     (let size = rising-many l in let fit = c .before .before .before .before .if4 .left in omega arith)
     (sym (c .before .put-in-order .ensures .0) ∙ all-found c)
 
@@ -131,11 +130,7 @@ order-first : (c : tie.Else5) →
 order-first c =
     let l = turned (c .before) in
     let a = given l .args in
-    turns-first (a .n) (a .m) (a .members .now) (a .rivals .now) (few (known (past l) .before .before)) (right (known (past l))) (table l) (word l)
-    (past l .before .read-sets .ensures .1 (past l .if3 .left))
-    (known (past l) .before .read .ensures .1 (known (past l) .if2 .left))
-    (rising l)
-    (rising-is l)
+    turns-first (a .n) (a .m) (a .members .now) (a .rivals .now) (table l) (word l) (rising l) (words l)
     (sym (c .before .put-in-order .ensures .0) ∙ all-found c)
 
 size-refusal-requires : tie.Need-size-refusal-requires
@@ -203,11 +198,7 @@ returns-4 c =
     let a = given l .args in
     no-answered (a .n) (a .m) (a .members .now) (a .rivals .now) (a .result .now) (sized (known (past l) .before .before)) (right (known (past l))) (lent (past l)) _
     (c .refused4 .ensures)
-    (too-many (a .n) (a .m) (a .members .now) (a .rivals .now) (few (known (past l) .before .before)) (right (known (past l))) (table l) (word l)
-    (past l .before .read-sets .ensures .1 (past l .if3 .left))
-    (known (past l) .before .read .ensures .1 (known (past l) .if2 .left))
-    (rising l)
-    (rising-is l)
+    (too-many (a .n) (a .m) (a .members .now) (a .rivals .now) (table l) (word l) (rising l) (words l)
     (let size = rising-many l in let more = c .before .if4 .taken in omega arith))
 
 put-in-order-requires : tie.Need-put-in-order-requires
@@ -233,11 +224,7 @@ returns-5 c =
     let a = given l .args in
     no-answered (a .n) (a .m) (a .members .now) (a .rivals .now) (a .result .now) (sized (known (past l) .before .before)) (right (known (past l))) (lent (past l)) _
     (c .refused5 .ensures)
-    (none-passes (a .n) (a .m) (a .members .now) (a .rivals .now) (few (known (past l) .before .before)) (right (known (past l))) (table l) (word l)
-    (past l .before .read-sets .ensures .1 (past l .if3 .left))
-    (known (past l) .before .read .ensures .1 (known (past l) .if2 .left))
-    (rising l)
-    (rising-is l)
+    (none-passes (a .n) (a .m) (a .members .now) (a .rivals .now) (table l) (word l) (rising l) (words l)
     (sym (placed .put-in-order .ensures .0) ∙ not-true (placed .put-in-order .result) (c .before .if5 .taken)))
 
 refused-requires-6 : tie.Need-refused-requires-6
