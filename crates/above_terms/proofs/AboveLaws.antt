@@ -4,7 +4,7 @@ use borrow.Author.Tests.{eqb-true, leb-true}
 use mathlib.Core.Bool.{Bool, true, false, cond}
 use mathlib.Core.List.{List, [], _∷_, _++_, append-nil}
 use mathlib.Core.Logic.{⊎-elim}
-use mathlib.Core.Path.{_≡_, refl, sym, _∙_, ap, ap₂, subst}
+use mathlib.Core.Path.{_≡_, refl, sym, _∙_, ap, ap₂}
 use native.Mathlib.Nat.{eq-or-lt-of-le, le-of-suc-le-suc, mul-add, mul-comm, mul-zero}
 use native.Mathlib.Numerals.{add-one}
 use native.Mathlib.Omega.{arith}
@@ -12,11 +12,11 @@ use lib.Dec.{eqb, leb}
 use lib.ListN.{length, getD, length-append, List·getD-append}
 use lib.Seq.{sets, getD-append-seam}
 use Rattle.basis.specs.Bytes.{bytes32}
-use Rattle.basis.specs.Rows.{row, joined}
+use Rattle.basis.specs.Rows.{joined}
 use Rattle.basis.specs.Tests.{allBelow}
 use Rattle.basis.proofs.RowLaws.{length-row, length-joined, joined-same}
 use Rattle.basis.proofs.TestLaws.{all-at, holds-or-fails}
-use Rattle.sheet.specs.Encoded.{Condition, on, quads}
+use Rattle.sheet.specs.Encoded.{on, quads}
 use Rattle.slot_terms.specs.EngineTerms.{wordOf}
 use Rattle.slot_terms.proofs.WriteLaws.{others-words, quads-next}
 use Rattle.bidder_sets.specs.BidderSets.{inSet}
@@ -34,6 +34,9 @@ pub places-half : (m : ℕ) → m < 17 → (m - 1) * (m + 1 - 1) / 2 ≡ placesA
 unfolding allBelow placesAbove
 places-half m few =
     eqb-true ((m - 1) * (m + 1 - 1) / 2) (placesAbove m) (all-at (λ k. eqb ((k - 1) * (k + 1 - 1) / 2) (placesAbove k)) 17 refl m few)
+
+pub places-most : (m : ℕ) → m < 17 → placesAbove m ≤ 120
+places-most m few = let half = places-half m few in let most = places-product m few in omega arith
 
 -- How many conditions one rival gives with the owner at one place,
 pairs-many : (owner own other : ℕ) → length (pairsAt owner own other) ≡ own - 1
@@ -89,7 +92,8 @@ module _ (owner own : ℕ) (others : List ℕ) where
 
 -- and one own place more
 module _ (owner : ℕ) (others : List ℕ) where
-  pub all-pairs-more : (k : ℕ) → length (allPairs owner others (k + 1)) ≡ length (allPairs owner others k) + length (placePairs owner (k + 1) others (length others))
+  pub all-pairs-more : (k : ℕ) →
+      length (allPairs owner others (k + 1)) ≡ length (allPairs owner others k) + length (placePairs owner (k + 1) others (length others))
   unfolding allPairs
   all-pairs-more k =
       joined-more (λ i. placePairs owner (suc i) others (length others)) k
@@ -123,3 +127,54 @@ unfolding allPairs
 all-pairs-next owner others out at k e =
     ap (λ (i : ℕ). sets (sets out 0 (quads (allPairs owner others k))) at (quads (placePairs owner i others (length others)))) (add-one k)
     ∙ quads-next (λ i. placePairs owner (suc i) others (length others)) out 0 at k (omega arith)
+
+-- The list of a set. Lists for each of its numbers, one after another: with one number more,
+module _ {A : Type 0} (g : ℕ → List A) where
+  abbrev forEach : List ℕ → List A
+  forEach l = joined (λ i. g (getD l i 0)) (length l)
+
+  each-more : (l : List ℕ) (x : ℕ) → forEach (l ++ (x ∷ [])) ≡ forEach l ++ g x
+  unfolding joined
+  each-more l x =
+      let more = l ++ (x ∷ []) in
+      let size : length more ≡ suc (length l) = (let long = length-append l (x ∷ []) in omega arith) in
+      ap (joined (λ i. g (getD more i 0))) size
+      ∙ ap₂ _++_
+      (joined-same (λ i. g (getD more i 0)) (λ i. g (getD l i 0)) (length l) (λ i h. ap g (List·getD-append l (x ∷ []) 0 i h)))
+      (ap g (getD-append-seam l x [] 0))
+
+  -- so they are lists for each of 1 to n, where a number that is no member has none
+  each-listed : (member : ℕ → Bool) (n : ℕ) → forEach (listed member n) ≡ joined (λ j. cond (member (suc j)) (g (suc j)) []) n
+  unfolding joined listed
+  each-listed member zero = refl
+  each-listed member (suc n) =
+      let before = joined (λ j. cond (member (suc j)) (g (suc j)) []) n in
+      ⊎-elim
+      (λ (e : member (suc n) ≡ true).
+      ap forEach (listed-member member n e)
+      ∙ each-more (listed member n) (suc n)
+      ∙ ap₂ (λ (l : List A) (t : Bool). l ++ cond t (g (suc n)) []) (each-listed member n) (sym e))
+      (λ (e : member (suc n) ≡ false).
+      ap forEach (listed-other member n e)
+      ∙ each-listed member n
+      ∙ sym (append-nil before)
+      ∙ ap (λ (t : Bool). before ++ cond t (g (suc n)) []) (sym e))
+      (holds-or-fails (member (suc n)))
+
+-- The conditions of the list of a set are those of the set.
+pub set-pairs : (n m owner word : ℕ) (rivals : List ℕ) → n ≤ 64 → Holds word (inSet rivals) →
+    allPairs owner (listed (inWord word) n) m ≡ aboveTerms n m owner rivals
+unfolding allPairs placePairs aboveTerms
+set-pairs n m owner word rivals most held =
+    let others = listed (inWord word) n in
+    joined-same
+    (λ k. placePairs owner (suc k) others (length others))
+    (λ k. joined (λ j. cond (inSet rivals (suc j)) (pairsAt owner (suc k) (suc j)) []) n)
+    m
+    (λ k l.
+    each-listed (pairsAt owner (suc k)) (inWord word) n
+    ∙ joined-same
+    (λ j. cond (inWord word (suc j)) (pairsAt owner (suc k) (suc j)) [])
+    (λ j. cond (inSet rivals (suc j)) (pairsAt owner (suc k) (suc j)) [])
+    n
+    (λ j h. ap (λ (t : Bool). cond t (pairsAt owner (suc k) (suc j)) []) (held (suc j) (omega arith) (omega arith))))

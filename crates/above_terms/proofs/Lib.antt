@@ -1,1 +1,4 @@
 pub mod AboveLaws
+pub mod WriteLaws
+pub mod TermsLaws
+pub mod RefusalLaws

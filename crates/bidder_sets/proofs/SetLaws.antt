@@ -1,6 +1,6 @@
 -- A set in one word: a bidder's bit is the one below its number; a list that is read has the bidders of its numbers, those so far and the next. And the list of
 -- a set: its bidders so far and the next, if that is a member. Assumes nothing.
-use Prim.Native.Nat.{ℕ, zero, suc, _+_, _-_, _<_, _≤_}
+use Prim.Native.Nat.{ℕ, suc, _+_, _-_, _<_, _≤_}
 use borrow.Author.Tests.{eq-eqb, eqb-true}
 use mathlib.Core.Bool.{Bool, true, false, cond, _||_}
 use mathlib.Core.List.{List, [], _∷_, _++_, append-nil, List·Memᴰ, List·Memᴰ·eq-of-singleton, List·Memᴰ·not-nil}
@@ -8,13 +8,13 @@ use mathlib.Core.Path.{_≡_, refl, sym, _∙_, ap, ap₂}
 use native.Mathlib.Nat.{zero-add}
 use native.Mathlib.Omega.{arith}
 use lib.Dec.{eqb}
-use lib.ListN.{length, getD, set, take, drop, length-append}
+use lib.ListN.{length, getD, set, take, drop}
 use lib.Seq.{sets, take-at}
-use Rattle.basis.specs.Counting.{countTo}
 use Rattle.basis.specs.Rows.{joined}
 use Rattle.basis.specs.Tests.{anyBelow}
 use Rattle.basis.proofs.BitLaws.{bit-zero}
 use Rattle.basis.proofs.CountLaws.{count-at-most}
+use Rattle.basis.proofs.NumberLaws.{eqb-turned}
 use Rattle.basis.proofs.RisingLaws.{mem-joined, at-mem}
 use Rattle.basis.proofs.RowLaws.{sets-then, sets-front}
 use Rattle.basis.proofs.TestLaws.{same-tests}
@@ -27,9 +27,6 @@ same-bit a b some some′ =
     same-tests (eqb (a - 1) (b - 1)) (eqb a b)
     (λ e. eq-eqb a b (let same = eqb-true (a - 1) (b - 1) e in omega arith))
     (λ e. eq-eqb (a - 1) (b - 1) (let same = eqb-true a b e in omega arith))
-
-eqb-turned : (a b : ℕ) → eqb a b ≡ eqb b a
-eqb-turned a b = same-tests (eqb a b) (eqb b a) (λ e. eq-eqb b a (sym (eqb-true a b e))) (λ e. eq-eqb a b (sym (eqb-true b a e)))
 
 -- bidder b is among the first k numbers of a list
 abbrev pub among : List ℕ → ℕ → ℕ → Bool

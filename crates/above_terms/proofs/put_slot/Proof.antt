@@ -111,7 +111,9 @@ loop-again c =
       end = (let next = place-pairs-more owner own others (turn .j) in let end = turn .inv .end in omega arith);
       run =
           done .put-run .ensures
-          ∙ ap₂ (λ (l : List ℕ) (w : ℕ). sets l (turn .at) (joined (λ k. bytes32 (w + 16777216 * k)) (own - 1))) (turn .inv .run) (done .before .before .word-of .ensures)
+          ∙ ap₂ (λ (l : List ℕ) (w : ℕ). sets l (turn .at) (joined (λ k. bytes32 (w + 16777216 * k)) (own - 1)))
+          (turn .inv .run)
+          (done .before .before .word-of .ensures)
           ∙ ap (sets (sets (a .result .now) (a .start) (quads (placePairs owner own others (turn .j)))) (turn .at))
           (pairs-words owner own (getD others (turn .j) 0) (first .pre .0) (first .pre .2) (low-rival tested))
           ∙ place-pairs-next owner own others (a .result .now) (a .start) (turn .at) (turn .j) (turn .inv .end);

@@ -1,9 +1,6 @@
 -- `bidder_sets::has` meets its contract: a digit that is not 0 is a bit that is set. Assumes nothing.
-use mathlib.Core.Bool.{not, Bool·not-not}
-use mathlib.Core.Path.{_∙_, ap}
 use Prim.Native.Nat.{_-_}
-use Rattle.basis.specs.Bits.{bitOf}
-use Rattle.basis.proofs.BitLaws.{bit-clear}
+use Rattle.basis.proofs.BitLaws.{bit-set}
 use borrow.Author.Needs.{needs}
 use Rattle.bidder_sets.proofs.has.Statement.{statement}
 use Rattle.bidder_sets.proofs.has.Tie as tie
@@ -18,9 +15,7 @@ shr-result : tie.Need-shr-result
 shr-result c = search needs
 
 returns : tie.Need-returns
-returns c =
-    let a = c .before .before .args in
-    ap not (bit-clear (a .set .0) (a .bidder .0 - 1)) ∙ Bool·not-not (bitOf (a .set .0) (a .bidder .0 - 1))
+returns c = let a = c .before .before .args in bit-set (a .set .0) (a .bidder .0 - 1)
 
 pub has-spec : {M : Type 1} → statement M
 has-spec = tie.close (tie.spec sub-result cast-result shr-result returns)

@@ -62,7 +62,8 @@ returns-2 c =
     let tested = c .before .before .before .before .before in
     let a = tested .before .before .before .args in
     let turn = tested .before .loop in
-    told (a .set .now) (a .n) (turn .bidders .0) (turn .k) (tested .loop-test .taken) (or-right (eqb (getD (a .set .now) (turn .k) 0) 0) (lt-ltb (a .n) _ (c .if2 .taken)))
+    told (a .set .now) (a .n) (turn .bidders .0) (turn .k) (tested .loop-test .taken)
+    (or-right (eqb (getD (a .set .now) (turn .k) 0) 0) (lt-ltb (a .n) _ (c .if2 .taken)))
 
 with-requires : tie.Need-with-requires Inv-loop μ-loop
 with-requires c κs =
