@@ -14,11 +14,11 @@ use Rattle.bidder_sets.specs.EngineSets.{inWord, listed}
 use Rattle.bidder_sets.proofs.SetLaws.{listed-at, listed-few, list-front}
 use Rattle.share_page.specs.SharePage.{names, putsAbove, firstOf, memberOrders, canShare, sizeRefusal, setsRefusal}
 use Rattle.share_page.specs.EngineShare.{inTable, turns}
+use Rattle.share_page.proofs.RefusalLaws.{sized}
 use Rattle.share_page.proofs.WriteLaws.{
   Words,
-  sizes-few,
   size-refused,
-  members-wrong,
+  members-refused,
   sets-refused,
   no-answered,
   buffer-short,
@@ -36,11 +36,11 @@ use Rattle.share_page.proofs.share.Tie as tie
 abbrev start : tie.Else1 → tie.Start
 start c = c .before .before .before .before .before
 
-sized : (c : tie.Else1) → sizeRefusal (start c .args .n) (start c .args .m) ≡ 0
-sized c = sym (c .before .size-refusal .ensures) ∙ c .if1 .left
+fits : (c : tie.Else1) → sizeRefusal (start c .args .n) (start c .args .m) ≡ 0
+fits c = sym (c .before .size-refusal .ensures) ∙ c .if1 .left
 
 few : (c : tie.Else1) → start c .args .n ≤ 64
-few c = sizes-few (start c .args .n) (start c .args .m) (sized c) .0
+few c = sized (start c .args .n) (start c .args .m) (fits c) .1
 
 abbrev first : tie.Else2 → tie.Start
 first c = start (c .before .before)
@@ -155,7 +155,7 @@ returns-2 : tie.Need-returns-2
 returns-2 c =
     let named = c .before .before in
     let a = start (named .before) .args in
-    members-wrong (a .n) (a .m) (a .members .now) (a .rivals .now) (a .result .now) (sized (named .before)) _ (c .refused2 .ensures)
+    members-refused (a .n) (a .m) (a .members .now) (a .rivals .now) (a .result .now) (fits (named .before)) _ (c .refused2 .ensures)
     (sym (named .read .ensures .0) ∙ c .before .if2 .taken)
 
 read-sets-requires : tie.Need-read-sets-requires
@@ -169,7 +169,7 @@ returns-3 c =
     let tested = c .before .before in
     let past = tested .before .before in
     let a = first past .args in
-    sets-refused (a .n) (a .m) (a .members .now) (a .rivals .now) (a .result .now) (sized (past .before .before)) (right past) _ _ (c .refused3 .ensures)
+    sets-refused (a .n) (a .m) (a .members .now) (a .rivals .now) (a .result .now) (fits (past .before .before)) (right past) _ _ (c .refused3 .ensures)
     (tested .read-sets .ensures .0)
     (c .before .if3 .taken)
 
@@ -196,7 +196,7 @@ returns-4 : tie.Need-returns-4
 returns-4 c =
     let l = c .before .before .before in
     let a = given l .args in
-    no-answered (a .n) (a .m) (a .members .now) (a .rivals .now) (a .result .now) (sized (known (past l) .before .before)) (right (known (past l))) (lent (past l)) _
+    no-answered (a .n) (a .m) (a .members .now) (a .rivals .now) (a .result .now) (fits (known (past l) .before .before)) (right (known (past l))) (lent (past l)) _
     (c .refused4 .ensures)
     (too-many (a .n) (a .m) (a .members .now) (a .rivals .now) (table l) (word l) (rising l) (words l)
     (let size = rising-many l in let more = c .before .if4 .taken in omega arith))
@@ -222,7 +222,7 @@ returns-5 c =
     let placed = c .before .before in
     let l = turned placed in
     let a = given l .args in
-    no-answered (a .n) (a .m) (a .members .now) (a .rivals .now) (a .result .now) (sized (known (past l) .before .before)) (right (known (past l))) (lent (past l)) _
+    no-answered (a .n) (a .m) (a .members .now) (a .rivals .now) (a .result .now) (fits (known (past l) .before .before)) (right (known (past l))) (lent (past l)) _
     (c .refused5 .ensures)
     (none-passes (a .n) (a .m) (a .members .now) (a .rivals .now) (table l) (word l) (rising l) (words l)
     (sym (placed .put-in-order .ensures .0) ∙ not-true (placed .put-in-order .result) (c .before .if5 .taken)))
@@ -235,7 +235,7 @@ returns-6 c =
     let tested = c .before .before in
     let l = turned (tested .before) in
     let a = given l .args in
-    buffer-short (a .n) (a .m) (a .members .now) (a .rivals .now) (a .result .now) (sized (known (past l) .before .before)) (right (known (past l))) (lent (past l))
+    buffer-short (a .n) (a .m) (a .members .now) (a .rivals .now) (a .result .now) (fits (known (past l) .before .before)) (right (known (past l))) (lent (past l))
     (order (tested .before))
     (can tested)
     (order-first tested)
@@ -274,7 +274,7 @@ returns-7 c =
     let tested = room .before in
     let l = turned (tested .before) in
     let a = given l .args in
-    order-written (a .n) (a .m) (a .members .now) (a .rivals .now) (a .result .now) (sized (known (past l) .before .before)) (right (known (past l))) (lent (past l))
+    order-written (a .n) (a .m) (a .members .now) (a .rivals .now) (a .result .now) (fits (known (past l) .before .before)) (right (known (past l))) (lent (past l))
     (order (tested .before))
     (can tested)
     (order-first tested)
