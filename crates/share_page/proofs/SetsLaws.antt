@@ -1,21 +1,22 @@
 -- What is known after i rival sets are read, and which number that gives: a set that runs past the bytes makes the n sets longer than the bytes are.
 -- Assumes nothing.
 use Prim.Native.Nat.{ℕ, zero, suc, _<_, _≤_}
-use borrow.Author.Tests.{eq-eqb, ne-eqb, ltb-true}
-use mathlib.Core.Bool.{Bool, true, false, not, _||_}
+use borrow.Author.Tests.{ltb-true}
+use mathlib.Core.Bool.{Bool, true, false, _||_}
 use mathlib.Core.List.{List}
 use mathlib.Core.Logic.{⊎-elim}
 use mathlib.Core.Path.{_≡_, refl, sym, _∙_, ap, ap₂}
 use native.Mathlib.Nat.{eq-or-lt-of-le, le-of-suc-le-suc}
 use native.Mathlib.Omega.{arith}
-use lib.Dec.{eqb, ltb}
+use lib.Dec.{ltb}
 use lib.ListN.{length, getD, set, length-set}
 use lib.Seq.{getD-set-same, getD-set-other}
 use Rattle.basis.specs.Tests.{anyBelow}
-use Rattle.basis.proofs.TestLaws.{or-parts, or-left, or-right, or-fails, not-holds, not-fails, any-at, none-any}
+use Rattle.basis.proofs.TestLaws.{or-parts, any-where, any-none}
 use Rattle.bidder_sets.specs.BidderSets.{inSet, numbersWrong, setAt, endAt, setsEnd, rivalsOf}
 use Rattle.bidder_sets.specs.EngineSets.{inWord, Holds}
 use Rattle.share_page.specs.SharePage.{names, setsRefusal}
+use Rattle.share_page.proofs.RefusalLaws.{sets-not, sets-wrong, sets-own, sets-none}
 
 -- more sets end later
 end-grows : (sets : List ℕ) (i n : ℕ) → i ≤ n → setsEnd sets i ≤ setsEnd sets n
@@ -27,21 +28,7 @@ end-grows sets i (suc n) l =
     (λ (lt : i < suc n). let less = end-grows sets i n (le-of-suc-le-suc lt) in omega arith)
     (eq-or-lt-of-le l)
 
--- the two tests of 23 and the one of 24
-abbrev notSets : (n : ℕ) → List ℕ → Bool
-notSets n sets = not (eqb (setsEnd sets n) (length sets)) || anyBelow (λ i. numbersWrong n (rivalsOf sets (suc i))) n
-
-abbrev ownNamed : (n : ℕ) → List ℕ → Bool
-ownNamed n sets = anyBelow (λ i. names sets (suc i) (suc i)) n
-
 module _ (n : ℕ) (sets : List ℕ) where
-  twenty-three : notSets n sets ≡ true → setsRefusal n sets ≡ 23
-  unfolding setsRefusal
-  twenty-three e = simp e
-
-  not-exactly : (setsEnd sets n ≡ length sets → ⊥) → setsRefusal n sets ≡ 23
-  not-exactly h = twenty-three (or-left _ (not-holds (ne-eqb (setsEnd sets n) (length sets) h)))
-
   -- the set after i others runs past the bytes, or has a wrong number
   pub set-wrong : (i at : ℕ) → i < n → at ≡ setsEnd sets i → (ltb (length sets) (endAt sets at) || numbersWrong n (setAt sets at)) ≡ true → setsRefusal n sets ≡ 23
   unfolding setsEnd rivalsOf
@@ -51,11 +38,8 @@ module _ (n : ℕ) (sets : List ℕ) where
       let past = ltb-true (length sets) (endAt sets at) t in
       let end = ap (endAt sets) place in
       let more = end-grows sets (suc i) n inside in
-      not-exactly (λ h. absurd (omega arith)))
-      (λ (t : numbersWrong n (setAt sets at) ≡ true).
-      twenty-three
-      (or-right (not (eqb (setsEnd sets n) (length sets)))
-      (any-at (λ i. numbersWrong n (rivalsOf sets (suc i))) n i inside (ap (λ (x : ℕ). numbersWrong n (setAt sets x)) (sym place) ∙ t))))
+      sets-not n sets (λ h. absurd (omega arith)))
+      (λ (t : numbersWrong n (setAt sets at) ≡ true). sets-wrong n sets i inside (ap (λ (x : ℕ). numbersWrong n (setAt sets x)) (sym place) ∙ t))
       (or-parts (ltb (length sets) (endAt sets at)) (numbersWrong n (setAt sets at)) e)
 
 -- i sets are read: they end at a byte, their numbers are right, each stands in its word, and whether one has its own bidder is known
@@ -63,7 +47,7 @@ pub record SetsRead (n : ℕ) (sets table : List ℕ) (own : Bool) (at i : ℕ) 
   pub size : length table ≡ 64
   pub end : at ≡ setsEnd sets i
   pub right : (j : ℕ) → j < i → numbersWrong n (rivalsOf sets (suc j)) ≡ false
-  pub self : own ≡ ownNamed i sets
+  pub self : own ≡ anyBelow (λ j. names sets (suc j) (suc j)) i
   pub tabled : (j : ℕ) → j < i → Holds (getD table j 0) (inSet (rivalsOf sets (suc j)))
 
 module _ (n : ℕ) (sets table : List ℕ) where
@@ -101,18 +85,13 @@ module _ (n : ℕ) (sets table : List ℕ) where
 
   module _ (own : Bool) (at : ℕ) (read : SetsRead n sets table own at n) where
     pub not-all : (at ≡ length sets → ⊥) → setsRefusal n sets ≡ 23
-    not-all h = not-exactly n sets (λ e. h (read .end ∙ e))
+    not-all h = sets-not n sets (λ e. h (read .end ∙ e))
 
     module _ (all : at ≡ length sets) where
-      whole : notSets n sets ≡ false
-      whole =
-          or-fails (not-fails (eq-eqb (setsEnd sets n) (length sets) (sym (read .end) ∙ all)))
-          (none-any (λ i. numbersWrong n (rivalsOf sets (suc i))) n (read .right))
-
       pub own-there : own ≡ true → setsRefusal n sets ≡ 24
-      unfolding setsRefusal
-      own-there e = simp (whole, sym (read .self) ∙ e)
+      own-there e =
+          let w = any-where (λ j. names sets (suc j) (suc j)) n (sym (read .self) ∙ e) in
+          sets-own n sets (sym (read .end) ∙ all) (read .right) (w .0) (w .1) (w .2)
 
       pub all-right : own ≡ false → setsRefusal n sets ≡ 0
-      unfolding setsRefusal
-      all-right e = simp (whole, sym (read .self) ∙ e)
+      all-right e = sets-none n sets (sym (read .end) ∙ all) (read .right) (any-none (λ j. names sets (suc j) (suc j)) n (sym (read .self) ∙ e))

@@ -64,7 +64,7 @@ first-same members test test′ agree =
 
 -- Two ways of naming that agree on the members.
 module _ (named named′ : ℕ → ℕ → Bool) (members : List ℕ)
-  (same : (j k : ℕ) → j < length members → k < length members → named (getD members j 0) (getD members k 0) ≡ named′ (getD members j 0) (getD members k 0)) where
+    (same : (j k : ℕ) → j < length members → k < length members → named (getD members j 0) (getD members k 0) ≡ named′ (getD members j 0) (getD members k 0)) where
   abbrev pub Agree : (left left′ : ℕ → Bool) → Type 0
   Agree left left′ = (k : ℕ) → k < length members → left (getD members k 0) ≡ left′ (getD members k 0)
 
@@ -135,7 +135,7 @@ words-next named members inside left word out free held told rest =
 
 -- Words that hold the lent sets: those of the table the rivals of each bidder, the one word the members.
 module _ (n : ℕ) (few : n ≤ 64) (sets members table : List ℕ) (word : ℕ)
-  (tabled : (i : ℕ) → i < n → Holds (getD table i 0) (inSet (rivalsOf sets (suc i)))) (held : Holds word (inSet members)) where
+    (tabled : (i : ℕ) → i < n → Holds (getD table i 0) (inSet (rivalsOf sets (suc i)))) (held : Holds word (inSet members)) where
   -- the list that the word gives
   pub word-listed : listed (inWord word) n ≡ listed (inSet members) n
   unfolding listed

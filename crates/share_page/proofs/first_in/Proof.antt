@@ -14,9 +14,6 @@ use Rattle.bidder_sets.specs.EngineSets.{inWord}
 use Rattle.share_page.proofs.TableLaws.{first-at}
 use Rattle.share_page.proofs.first_in.Statement.{statement}
 use Rattle.share_page.proofs.first_in.Tie as tie
-use Rattle.share_page.proofs.first_in.Reads as reads
-use Rattle.share_page.proofs.first_in.Lts as lts
-use Rattle.bidder_sets.proofs.has.Reads as has-reads
 
 -- what is known of the first k members
 record Sought (members : List ℕ) (set first k : ℕ) : Type 0 where
@@ -32,8 +29,10 @@ abbrev μ-loop : tie.MeasureT-loop
 μ-loop members set first₀ k₀ first k = length members - k
 
 -- the member of a turn
-inside : (c : tie.In-loop Inv-loop μ-loop) →
-    (0 < getD (c .before .before .before .args .members .now) (c .before .loop .k) 0) × (getD (c .before .before .before .args .members .now) (c .before .loop .k) 0 ≤ 64)
+abbrev member : tie.In-loop Inv-loop μ-loop → ℕ
+member c = getD (c .before .before .before .args .members .now) (c .before .loop .k) 0
+
+inside : (c : tie.In-loop Inv-loop μ-loop) → (0 < member c) × (member c ≤ 64)
 inside c = c .before .before .before .pre (c .before .loop .k) (c .loop-test .taken)
 
 -- a turn that changes nothing, and one that finds the first

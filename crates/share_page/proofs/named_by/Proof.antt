@@ -16,10 +16,6 @@ use Rattle.bidder_sets.specs.declared.Bidders.{Bidders}
 use Rattle.share_page.specs.EngineShare.{inTable, namedIn}
 use Rattle.share_page.proofs.named_by.Statement.{statement}
 use Rattle.share_page.proofs.named_by.Tie as tie
-use Rattle.share_page.proofs.named_by.Reads as reads
-use Rattle.share_page.proofs.named_by.Lts as lts
-use Rattle.bidder_sets.proofs.either.Reads as either-reads
-use Rattle.bidder_sets.proofs.has.Reads as has-reads
 
 -- the member at an index is left and names x, and one of the first k members does
 abbrev naming : (table members : List ℕ) (left x j : ℕ) → Bool
@@ -39,8 +35,10 @@ abbrev μ-loop : tie.MeasureT-loop
 μ-loop table members left named₀ k₀ named k = length members - k
 
 -- the member of a turn
-inside : (c : tie.In-loop Inv-loop μ-loop) →
-    (0 < getD (c .before .before .before .args .members .now) (c .before .loop .k) 0) × (getD (c .before .before .before .args .members .now) (c .before .loop .k) 0 ≤ 64)
+abbrev member : tie.In-loop Inv-loop μ-loop → ℕ
+member c = getD (c .before .before .before .args .members .now) (c .before .loop .k) 0
+
+inside : (c : tie.In-loop Inv-loop μ-loop) → (0 < member c) × (member c ≤ 64)
 inside c = c .before .before .before .pre (c .before .loop .k) (c .loop-test .taken)
 
 loop-holds : tie.Need-loop-holds Inv-loop μ-loop

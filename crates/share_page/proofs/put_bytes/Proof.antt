@@ -1,7 +1,7 @@
 -- `share_page::put_bytes` meets its contract: after k turns the first k bytes stand at the front. Assumes nothing.
 use Prim.Native.Nat.{ℕ, _-_, _≤_}
 use mathlib.Core.List.{List}
-use mathlib.Core.Path.{_≡_, refl, sym, _∙_, ap, ap₂}
+use mathlib.Core.Path.{_≡_, refl, sym, _∙_, ap}
 use native.Mathlib.Nat.{le-antisymm}
 use native.Mathlib.Numerals.{add-one}
 use native.Mathlib.Omega.{arith}
@@ -10,8 +10,6 @@ use lib.Seq.{sets, length-take-le, take-suc, take-length}
 use Rattle.bidder_sets.proofs.SetLaws.{stored-next}
 use Rattle.share_page.proofs.put_bytes.Statement.{statement}
 use Rattle.share_page.proofs.put_bytes.Tie as tie
-use Rattle.share_page.proofs.put_bytes.Reads as reads
-use Rattle.share_page.proofs.put_bytes.Lts as lts
 
 record Put (result₀ bytes result : List ℕ) (k : ℕ) : Type 0 where
   some : k ≤ length bytes

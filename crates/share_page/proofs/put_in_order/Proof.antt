@@ -1,7 +1,7 @@
 -- `share_page::put_in_order` meets its contract: after k turns those that were found stand at the front and the word has who is left; the next is the first
 -- member that is left and that nobody left names. Assumes nothing.
 use Prim.Native.Nat.{ℕ, _-_, _<_, _≤_}
-use mathlib.Core.Bool.{true, false, not, _&&_, false≢true}
+use mathlib.Core.Bool.{true, not, _&&_, false≢true}
 use mathlib.Core.List.{List}
 use mathlib.Core.Path.{_≡_, refl, sym, _∙_, ap, ap₂, subst}
 use native.Mathlib.Nat.{le-antisymm}
@@ -18,12 +18,6 @@ use Rattle.share_page.specs.EngineShare.{inTable, leftAfter, turns, allF
 use Rattle.share_page.proofs.TableLaws.{turnOf, first-member, words-next, one-left, one-found, one-turned, none-found}
 use Rattle.share_page.proofs.put_in_order.Statement.{statement}
 use Rattle.share_page.proofs.put_in_order.Tie as tie
-use Rattle.share_page.proofs.put_in_order.Reads as reads
-use Rattle.share_page.proofs.put_in_order.Lts as lts
-use Rattle.bidder_sets.proofs.but.Reads as but-reads
-use Rattle.bidder_sets.proofs.without.Reads as without-reads
-use Rattle.share_page.proofs.first_in.Reads as first-in-reads
-use Rattle.share_page.proofs.named_by.Reads as named-by-reads
 
 record Ordered (order₀ table members : List ℕ) (set : ℕ) (order : List ℕ) (left k : ℕ) : Type 0 where
   within : k ≤ length members
@@ -83,8 +77,8 @@ returns c =
     let turn = c .before .before .before .before in
     let a = start turn .args in
     let none =
-        none-found (inTable (a .table .now)) (a .members .now) (inWord (a .set .0)) (turn .before .loop .k) (length (a .members .now)) (turn .loop-test .taken)
-        (sym (next-is (c .before)) ∙ c .if1 .taken) in
+    none-found (inTable (a .table .now)) (a .members .now) (inWord (a .set .0)) (turn .before .loop .k) (length (a .members .now)) (turn .loop-test .taken)
+    (sym (next-is (c .before)) ∙ c .if1 .taken) in
     (sym none, λ e. absurd (false≢true e))
 
 element-write-order : tie.Need-element-write-order Inv-loop μ-loop
@@ -128,8 +122,7 @@ returns-2 c =
     let v = c .before .loop .inv in
     let a = c .before .before .before .args in
     let all = le-antisymm (v .within) (c .loop-test .left) in
-    let named = inTable (a .table .now) in
-    (
+    let named = inTable (a .table .now) in (
       sym (v .found) ∙ ap (allFound named (a .members .now) (inWord (a .set .0))) all,
       λ e. v .run ∙ ap (λ (n : ℕ). sets (a .order .now) 0 (turns named (a .members .now) (inWord (a .set .0)) n)) all,
     )

@@ -11,10 +11,6 @@ use Rattle.bidder_sets.specs.EngineSets.{inWord}
 use Rattle.share_page.proofs.SetsLaws.{SetsRead, set-wrong, none-read, one-read, not-all, own-there, all-right}
 use Rattle.share_page.proofs.read_sets.Statement.{statement}
 use Rattle.share_page.proofs.read_sets.Tie as tie
-use Rattle.share_page.proofs.read_sets.Reads as reads
-use Rattle.share_page.proofs.read_sets.Lts as lts
-use Rattle.bidder_sets.proofs.has.Reads as has-reads
-use Rattle.bidder_sets.proofs.read_at.Reads as read-at-reads
 
 abbrev Inv-loop : tie.InvT-loop
 Inv-loop table₀ rivals n own₀ at₀ bidder₀ table own at bidder = (0 < bidder) × (bidder ≤ n + 1) × SetsRead n rivals table own at (bidder - 1)
@@ -95,15 +91,17 @@ loop-again c =
     let this : turn .loop .bidder ≡ suc i = omega arith in
     let told = lent .ensures .1 (known .if1 .left) in
     let parts =
-        or-none (ltb (length rivals) (endAt rivals (turn .loop .at))) (numbersWrong (a .n) (setAt rivals (turn .loop .at)))
-        (sym (lent .ensures .0) ∙ known .if1 .left) in
+    or-none (ltb (length rivals) (endAt rivals (turn .loop .at))) (numbersWrong (a .n) (setAt rivals (turn .loop .at)))
+    (sym (lent .ensures .0) ∙ known .if1 .left) in
     let own = turn .loop .own || c .has .result in
     let table = set (turn .loop .table) i (lent .result .bidders .0) in (
       omega arith,
       omega arith,
       subst (λ (e : ℕ). SetsRead (a .n) rivals table own e (turn .loop .bidder + 1 - 1)) (sym (told .0))
           (subst (SetsRead (a .n) rivals table own (endAt rivals (turn .loop .at))) next
-          (one-read (a .n) rivals (turn .loop .table) (turn .loop .own) (turn .loop .at) i (turn .loop .inv .2) (lent .result .bidders .0) (c .has .result) (omega arith)
+          (one-read (a .n) rivals (turn .loop .table) (turn .loop .own) (turn .loop .at) i (turn .loop .inv .2) (lent .result .bidders .0)
+          (c .has .result)
+          (omega arith)
           (parts .1)
           (told .1)
           (c .has .ensures ∙ ap (inWord (lent .result .bidders .0)) this))),
@@ -112,8 +110,10 @@ loop-again c =
 returns-2 : tie.Need-returns-2 Inv-loop μ-loop
 returns-2 c =
     let end = c .before in
-    let a = start (end .before) .args in
-    (sym (not-all (a .n) (a .rivals .now) (end .before .loop .table) (end .before .loop .own) (end .before .loop .at) (all-read end) (c .if2 .taken)), λ e. absurd (omega arith))
+    let a = start (end .before) .args in (
+      sym (not-all (a .n) (a .rivals .now) (end .before .loop .table) (end .before .loop .own) (end .before .loop .at) (all-read end) (c .if2 .taken)),
+      λ e. absurd (omega arith),
+    )
 
 returns-3 : tie.Need-returns-3 Inv-loop μ-loop
 returns-3 c =

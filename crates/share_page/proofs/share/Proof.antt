@@ -14,10 +14,11 @@ use Rattle.bidder_sets.specs.EngineSets.{inWord, listed}
 use Rattle.bidder_sets.proofs.SetLaws.{listed-at, listed-few, list-front}
 use Rattle.share_page.specs.SharePage.{names, putsAbove, firstOf, memberOrders, canShare, sizeRefusal, setsRefusal}
 use Rattle.share_page.specs.EngineShare.{inTable, turns}
+use Rattle.share_page.proofs.RefusalLaws.{sized}
 use Rattle.share_page.proofs.WriteLaws.{
-  sizes-few,
+  Words,
   size-refused,
-  members-wrong,
+  members-refused,
   sets-refused,
   no-answered,
   buffer-short,
@@ -30,25 +31,16 @@ use Rattle.share_page.proofs.WriteLaws.{
 }
 use Rattle.share_page.proofs.share.Statement.{statement}
 use Rattle.share_page.proofs.share.Tie as tie
-use Rattle.share_page.proofs.share.Reads as reads
-use Rattle.share_page.proofs.share.Lts as lts
-use Rattle.bidder_sets.proofs.list.Reads as list-reads
-use Rattle.bidder_sets.proofs.read.Reads as read-reads
-use Rattle.share_page.proofs.put_bytes.Reads as put-bytes-reads
-use Rattle.share_page.proofs.put_in_order.Reads as put-in-order-reads
-use Rattle.share_page.proofs.read_sets.Reads as read-sets-reads
-use Rattle.share_page.proofs.refused.Reads as refused-reads
-use Rattle.share_page.proofs.size_refusal.Reads as size-refusal-reads
 
 -- where the call started, and what is known past each of its tests
 abbrev start : tie.Else1 → tie.Start
 start c = c .before .before .before .before .before
 
-sized : (c : tie.Else1) → sizeRefusal (start c .args .n) (start c .args .m) ≡ 0
-sized c = sym (c .before .size-refusal .ensures) ∙ c .if1 .left
+fits : (c : tie.Else1) → sizeRefusal (start c .args .n) (start c .args .m) ≡ 0
+fits c = sym (c .before .size-refusal .ensures) ∙ c .if1 .left
 
 few : (c : tie.Else1) → start c .args .n ≤ 64
-few c = sizes-few (start c .args .n) (start c .args .m) (sized c) .0
+few c = sized (start c .args .n) (start c .args .m) (fits c) .1
 
 abbrev first : tie.Else2 → tie.Start
 first c = start (c .before .before)
@@ -86,6 +78,17 @@ rising-is c =
     ap (take (c .list .result)) (c .list .ensures .1)
     ∙ list-front (replicate 64 0) (listed (inWord (word c)) (given c .args .n)) (c .list .result) (c .list .ensures .0) (listed-most c)
 
+words : (c : tie.After-list) → Words (given c .args .n) (given c .args .members .now) (given c .args .rivals .now) (table c) (word c) (rising c)
+words c =
+    let read = known (past c) in
+    record {
+      few = few (read .before .before);
+      right = right read;
+      tabled = past c .before .read-sets .ensures .1 (past c .if3 .left);
+      held = read .before .read .ensures .1 (read .if2 .left);
+      listing = rising-is c;
+    }
+
 rising-many : (c : tie.After-list) → length (rising c) ≡ c .list .result
 rising-many c = ap length (rising-is c) ∙ sym (c .list .ensures .0)
 
@@ -116,11 +119,7 @@ can : (c : tie.Else5) → Can (turned (c .before)) true
 can c =
     let l = turned (c .before) in
     let a = given l .args in
-    one-passes (a .n) (a .m) (a .members .now) (a .rivals .now) (few (known (past l) .before .before)) (right (known (past l))) (table l) (word l)
-    (past l .before .read-sets .ensures .1 (past l .if3 .left))
-    (known (past l) .before .read .ensures .1 (known (past l) .if2 .left))
-    (rising l)
-    (rising-is l)
+    one-passes (a .n) (a .m) (a .members .now) (a .rivals .now) (table l) (word l) (rising l) (words l)
     (let size = rising-many l in let fit = c .before .before .before .before .if4 .left in omega arith)
     (sym (c .before .put-in-order .ensures .0) ∙ all-found c)
 
@@ -131,11 +130,7 @@ order-first : (c : tie.Else5) →
 order-first c =
     let l = turned (c .before) in
     let a = given l .args in
-    turns-first (a .n) (a .m) (a .members .now) (a .rivals .now) (few (known (past l) .before .before)) (right (known (past l))) (table l) (word l)
-    (past l .before .read-sets .ensures .1 (past l .if3 .left))
-    (known (past l) .before .read .ensures .1 (known (past l) .if2 .left))
-    (rising l)
-    (rising-is l)
+    turns-first (a .n) (a .m) (a .members .now) (a .rivals .now) (table l) (word l) (rising l) (words l)
     (sym (c .before .put-in-order .ensures .0) ∙ all-found c)
 
 size-refusal-requires : tie.Need-size-refusal-requires
@@ -160,7 +155,7 @@ returns-2 : tie.Need-returns-2
 returns-2 c =
     let named = c .before .before in
     let a = start (named .before) .args in
-    members-wrong (a .n) (a .m) (a .members .now) (a .rivals .now) (a .result .now) (sized (named .before)) _ (c .refused2 .ensures)
+    members-refused (a .n) (a .m) (a .members .now) (a .rivals .now) (a .result .now) (fits (named .before)) _ (c .refused2 .ensures)
     (sym (named .read .ensures .0) ∙ c .before .if2 .taken)
 
 read-sets-requires : tie.Need-read-sets-requires
@@ -174,7 +169,7 @@ returns-3 c =
     let tested = c .before .before in
     let past = tested .before .before in
     let a = first past .args in
-    sets-refused (a .n) (a .m) (a .members .now) (a .rivals .now) (a .result .now) (sized (past .before .before)) (right past) _ _ (c .refused3 .ensures)
+    sets-refused (a .n) (a .m) (a .members .now) (a .rivals .now) (a .result .now) (fits (past .before .before)) (right past) _ _ (c .refused3 .ensures)
     (tested .read-sets .ensures .0)
     (c .before .if3 .taken)
 
@@ -201,13 +196,9 @@ returns-4 : tie.Need-returns-4
 returns-4 c =
     let l = c .before .before .before in
     let a = given l .args in
-    no-answered (a .n) (a .m) (a .members .now) (a .rivals .now) (a .result .now) (sized (known (past l) .before .before)) (right (known (past l))) (lent (past l)) _
+    no-answered (a .n) (a .m) (a .members .now) (a .rivals .now) (a .result .now) (fits (known (past l) .before .before)) (right (known (past l))) (lent (past l)) _
     (c .refused4 .ensures)
-    (too-many (a .n) (a .m) (a .members .now) (a .rivals .now) (few (known (past l) .before .before)) (right (known (past l))) (table l) (word l)
-    (past l .before .read-sets .ensures .1 (past l .if3 .left))
-    (known (past l) .before .read .ensures .1 (known (past l) .if2 .left))
-    (rising l)
-    (rising-is l)
+    (too-many (a .n) (a .m) (a .members .now) (a .rivals .now) (table l) (word l) (rising l) (words l)
     (let size = rising-many l in let more = c .before .if4 .taken in omega arith))
 
 put-in-order-requires : tie.Need-put-in-order-requires
@@ -231,13 +222,9 @@ returns-5 c =
     let placed = c .before .before in
     let l = turned placed in
     let a = given l .args in
-    no-answered (a .n) (a .m) (a .members .now) (a .rivals .now) (a .result .now) (sized (known (past l) .before .before)) (right (known (past l))) (lent (past l)) _
+    no-answered (a .n) (a .m) (a .members .now) (a .rivals .now) (a .result .now) (fits (known (past l) .before .before)) (right (known (past l))) (lent (past l)) _
     (c .refused5 .ensures)
-    (none-passes (a .n) (a .m) (a .members .now) (a .rivals .now) (few (known (past l) .before .before)) (right (known (past l))) (table l) (word l)
-    (past l .before .read-sets .ensures .1 (past l .if3 .left))
-    (known (past l) .before .read .ensures .1 (known (past l) .if2 .left))
-    (rising l)
-    (rising-is l)
+    (none-passes (a .n) (a .m) (a .members .now) (a .rivals .now) (table l) (word l) (rising l) (words l)
     (sym (placed .put-in-order .ensures .0) ∙ not-true (placed .put-in-order .result) (c .before .if5 .taken)))
 
 refused-requires-6 : tie.Need-refused-requires-6
@@ -248,7 +235,7 @@ returns-6 c =
     let tested = c .before .before in
     let l = turned (tested .before) in
     let a = given l .args in
-    buffer-short (a .n) (a .m) (a .members .now) (a .rivals .now) (a .result .now) (sized (known (past l) .before .before)) (right (known (past l))) (lent (past l))
+    buffer-short (a .n) (a .m) (a .members .now) (a .rivals .now) (a .result .now) (fits (known (past l) .before .before)) (right (known (past l))) (lent (past l))
     (order (tested .before))
     (can tested)
     (order-first tested)
@@ -287,7 +274,7 @@ returns-7 c =
     let tested = room .before in
     let l = turned (tested .before) in
     let a = given l .args in
-    order-written (a .n) (a .m) (a .members .now) (a .rivals .now) (a .result .now) (sized (known (past l) .before .before)) (right (known (past l))) (lent (past l))
+    order-written (a .n) (a .m) (a .members .now) (a .rivals .now) (a .result .now) (fits (known (past l) .before .before)) (right (known (past l))) (lent (past l))
     (order (tested .before))
     (can tested)
     (order-first tested)
