@@ -5,7 +5,7 @@ use mathlib.Core.Bool.{Bool, true, false, cond}
 use mathlib.Core.List.{List, [], _∷_, _++_, append-nil}
 use mathlib.Core.Logic.{⊎-elim}
 use mathlib.Core.Path.{_≡_, refl, sym, _∙_, ap, ap₂}
-use native.Mathlib.Nat.{eq-or-lt-of-le, le-of-suc-le-suc, mul-add, mul-comm, mul-zero}
+use native.Mathlib.Nat.{eq-or-lt-of-le, le-of-suc-le-suc, mul-add, mul-comm, mul-suc, mul-zero, suc-mul}
 use native.Mathlib.Numerals.{add-one}
 use native.Mathlib.Omega.{arith}
 use lib.Dec.{eqb, leb}
@@ -19,8 +19,9 @@ use Rattle.basis.proofs.TestLaws.{all-at, holds-or-fails}
 use Rattle.sheet.specs.Encoded.{on, quads}
 use Rattle.slot_terms.specs.EngineTerms.{wordOf}
 use Rattle.slot_terms.proofs.WriteLaws.{others-words, quads-next}
-use Rattle.bidder_sets.specs.BidderSets.{inSet}
-use Rattle.bidder_sets.specs.EngineSets.{inWord, Holds, listed}
+use Rattle.bidder_sets.specs.BidderSets.{inSet, membersOf}
+use Rattle.bidder_sets.specs.EngineSets.{listed}
+use Rattle.bidder_sets.proofs.ListedLaws.{listed-many}
 use Rattle.bidder_sets.proofs.SetLaws.{listed-member, listed-other}
 use Rattle.above_terms.specs.AboveTerms.{pairsAt, aboveTerms}
 use Rattle.above_terms.specs.EngineAbove.{placePairs, allPairs, placesAbove}
@@ -161,20 +162,51 @@ module _ {A : Type 0} (g : ℕ → List A) where
       ∙ ap (λ (t : Bool). before ++ cond t (g (suc n)) []) (sym e))
       (holds-or-fails (member (suc n)))
 
--- The conditions of the list of a set are those of the set.
-pub set-pairs : (n m owner word : ℕ) (rivals : List ℕ) → n ≤ 64 → Holds word (inSet rivals) →
-    allPairs owner (listed (inWord word) n) m ≡ aboveTerms n m owner rivals
+-- The conditions of the list of a set are those of the set,
+pub set-pairs : (n m owner : ℕ) (member : ℕ → Bool) (rivals : List ℕ) → ((j : ℕ) → j < n → member (suc j) ≡ inSet rivals (suc j)) →
+    allPairs owner (listed member n) m ≡ aboveTerms n m owner rivals
 unfolding allPairs placePairs aboveTerms
-set-pairs n m owner word rivals most held =
-    let others = listed (inWord word) n in
+set-pairs n m owner member rivals same =
+    let others = listed member n in
     joined-same
     (λ k. placePairs owner (suc k) others (length others))
     (λ k. joined (λ j. cond (inSet rivals (suc j)) (pairsAt owner (suc k) (suc j)) []) n)
     m
     (λ k l.
-    each-listed (pairsAt owner (suc k)) (inWord word) n
+    each-listed (pairsAt owner (suc k)) member n
     ∙ joined-same
-    (λ j. cond (inWord word (suc j)) (pairsAt owner (suc k) (suc j)) [])
+    (λ j. cond (member (suc j)) (pairsAt owner (suc k) (suc j)) [])
     (λ j. cond (inSet rivals (suc j)) (pairsAt owner (suc k) (suc j)) [])
     n
-    (λ j h. ap (λ (t : Bool). cond t (pairsAt owner (suc k) (suc j)) []) (held (suc j) (omega arith) (omega arith))))
+    (λ j h. ap (λ (t : Bool). cond t (pairsAt owner (suc k) (suc j)) []) (same j h)))
+
+-- and so many: m × (m − 1) / 2 for each rival.
+places-twice : (m : ℕ) → 2 * placesAbove m ≡ m * (m - 1)
+unfolding placesAbove
+places-twice zero = refl
+places-twice (suc zero) = refl
+places-twice (suc (suc k)) =
+    let before = places-twice (suc k) in
+    let less : suc (suc k) - 1 ≡ suc k = omega arith in
+    let less′ : suc k - 1 ≡ k = omega arith in
+    let product = ap (λ (x : ℕ). suc (suc k) * x) less in
+    let product′ = ap (λ (x : ℕ). suc k * x) less′ in
+    let one = suc-mul (suc k) (suc k) in
+    let other = mul-suc (suc k) k in
+    omega arith
+
+pub terms-many : (n m owner : ℕ) (rivals : List ℕ) → length (aboveTerms n m owner rivals) ≡ membersOf n rivals * placesAbove m
+unfolding membersOf
+terms-many n m owner rivals =
+    let others = listed (inSet rivals) n in
+    ap length (sym (set-pairs n m owner (inSet rivals) rivals (λ j l. refl)))
+    ∙ all-pairs-many owner others m
+    ∙ ap (λ (k : ℕ). k * placesAbove m) (listed-many (inSet rivals) n)
+
+pub terms-twice : (n m owner : ℕ) (rivals : List ℕ) → 2 * length (aboveTerms n m owner rivals) ≡ membersOf n rivals * (m * (m - 1))
+terms-twice n m owner rivals =
+    let many = terms-many n m owner rivals in
+    let both = mul-add (membersOf n rivals) (placesAbove m) (placesAbove m) in
+    let twice : placesAbove m + placesAbove m ≡ m * (m - 1) = (let h = places-twice m in omega arith) in
+    let same = ap (λ (k : ℕ). membersOf n rivals * k) twice in
+    omega arith

@@ -1,6 +1,6 @@
 -- `above_terms::write` meets its contract: each refusal comes before anything is written, and what is written are the conditions of the set's list.
 -- Assumes nothing.
-use Prim.Native.Nat.{ℕ, _*_, _<_, _≤_}
+use Prim.Native.Nat.{ℕ, suc, _*_, _<_, _≤_}
 use borrow.Author.Needs.{needs}
 use mathlib.Core.Bool.{false}
 use mathlib.Core.List.{List}
@@ -91,7 +91,8 @@ pairs : (c : tie.After-list) →
 pairs c =
     let a = begun c .args in
     ap (λ (l : List ℕ). allPairs (a .owner) l (a .m)) (front c)
-    ∙ set-pairs (a .n) (a .m) (a .owner) (word c) (a .rivals .now) (fits c .most-bidders) (held (set-read c))
+    ∙ set-pairs (a .n) (a .m) (a .owner) (inWord (word c)) (a .rivals .now)
+    (λ j l. (let few = fits c .most-bidders in held (set-read c) (suc j) (omega arith) (omega arith)))
 
 -- and their number is known before
 counted : (c : tie.After-places-above) →
