@@ -637,7 +637,8 @@ fn a_round_by_rivals_has_a_page_with_the_members_exactly_where_they_can_share_on
             builder = builder.above_terms(owner, set.iter().copied().map(pas::Bidder));
         }
         let sheet = builder.build().expect("rivals that are right");
-        let constraints: Vec<_> = sheet.as_bytes()[9 + 4 * (slots + bidders)..].as_chunks().0.to_vec();
+        let fields = sheet.as_bytes()[9 + 4 * (slots + bidders)..].chunks_exact(4);
+        let constraints = fields.map(|field| [field[0], field[1], field[2], field[3]]).collect();
         let round = slow::Round { tick: None, effects: sheet.effects(), bids: sheet.bids(), constraints, floors: Vec::new() };
         let wanted: Vec<_> = of.members.iter().copied().map(pas::Bidder).collect();
         let order = pas::share_page(bidders, slots, &wanted, &of.rival_sets).expect("a group that is right");

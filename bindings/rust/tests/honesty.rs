@@ -21,13 +21,18 @@ fn made_downward(random: &mut Random, size: Size, bidder: u8) -> Vec<slow::Const
     list
 }
 
+/// The constraints of bytes that the library has written.
+fn constraints(written: &[u8]) -> Vec<slow::Constraint> {
+    written.chunks_exact(4).map(|field| [field[0], field[1], field[2], field[3]]).collect()
+}
+
 /// The list that the library writes from top-of-page terms: nobody has tested it.
 fn of_terms(random: &mut Random, size: Size, bidder: u8) -> Vec<slow::Constraint> {
     let mut of = terms(random, size.bidders, size.slots);
     of.bars[usize::from(bidder) - 1] = 0;
     let (mut result, limit) = ([0; 4092], Slot(of.limit as u8));
     let count = pas::slot_terms_into(size.bidders, size.slots, Bidder(bidder), limit, &of.bars, &mut result).expect("terms that are right");
-    result.as_chunks().0[..count].to_vec()
+    constraints(&result[..4 * count])
 }
 
 /// The list that the library writes from a set of rivals: nobody has tested it either.
@@ -36,7 +41,7 @@ fn of_rivals(random: &mut Random, size: Size, bidder: u8) -> Vec<slow::Constrain
     set.retain(|&rival| rival != Bidder(bidder));
     let mut result = [0; 4056];
     let count = pas::above_terms_into(size.bidders, size.slots, Bidder(bidder), &set, &mut result).expect("rivals that are right");
-    result.as_chunks().0[..count].to_vec()
+    constraints(&result[..4 * count])
 }
 
 fn sheet(round: &slow::Round) -> Sheet {
