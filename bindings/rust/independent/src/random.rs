@@ -388,6 +388,8 @@ fn wrong_bidder(random: &mut Random, bidders: u32) -> u8 {
 pub enum Sets {
     /// Each bidder names whom it likes.
     Any,
+    /// Nobody names anyone.
+    Empty,
     /// Each names at most three of those that come after it in some order, so that all can stand in that order.
     Few,
     /// Each names as many as it can while the members can still stand in some order.
@@ -400,12 +402,13 @@ pub enum Sets {
 
 impl Sets {
     /// All kinds.
-    pub const ALL: [Sets; 5] = [Sets::Any, Sets::Few, Sets::Full, Sets::Longest, Sets::Circle];
+    pub const ALL: [Sets; 6] = [Sets::Any, Sets::Empty, Sets::Few, Sets::Full, Sets::Longest, Sets::Circle];
 
     /// The kind in words, for a table.
     pub fn name(self) -> &'static str {
         match self {
             Sets::Any => "any sets",
+            Sets::Empty => "empty sets",
             Sets::Few => "small sets",
             Sets::Full => "full sets",
             Sets::Longest => "longest",
@@ -424,6 +427,7 @@ pub fn group(random: &mut Random, bidders: usize, slots: usize, members: usize, 
         let set = &mut sets[usize::from(bidder) - 1];
         match kind {
             Sets::Any => *set = some_of(random, (1..=bidders as u8).filter(|&rival| rival != bidder)),
+            Sets::Empty => {}
             Sets::Few | Sets::Circle => {
                 *set = order[at + 1..].to_vec();
                 random.shuffle(set);
