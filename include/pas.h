@@ -401,7 +401,7 @@ uint32_t pas_slot_terms(uint32_t n, uint32_t m, uint32_t owner, uint32_t limit, 
  * Writes the conditions of a bidder that will stand only above certain others, its rivals: for each rival, all pairs in
  * which the rival's place is above the owner's. No sheet is read: n and m are those of the sheet that the conditions
  * are meant for. The rivals are a set: rivals_len bytes, each the number of a bidder, in any order. A repeat counts
- * once, there may be as many as one likes, and there may be no rival at all.
+ * once, so that there may be more bytes than bidders, and there may be none at all.
  *
  * A rival j gives (owner, k, j, l) for each k from 2 to m and each l from 1 to k - 1: the owner will not stand at place
  * k while j is at place l. These are m (m - 1) / 2 conditions for each rival, and none where m is 1. A page that has
@@ -447,7 +447,8 @@ uint32_t pas_above_terms(uint32_t n, uint32_t m, uint32_t owner, const uint8_t *
  * pas_above_terms writes from its set: after a yes the page with the members on the first places, in the order that is
  * written, and nobody else, breaks no condition; and after a no every page on which all the members stand breaks one.
  *
- * Time: no order is tried. Each set is read once, and then each member is looked at once for each member.
+ * Time: no order is tried. Each set is read once, and then the members are gone through once for each of them. (This is
+ * how the search goes; no time is proved.)
  *
  * Refused with 4, 5, 23 where a member is 0 or above n, where the bytes are not exactly n rival sets or where a rival
  * is 0 or above n, 24 where a bidder, member or not, is in its own set, or 19 for a yes where result_len is below the
