@@ -1,7 +1,8 @@
 -- `above_terms::places_above` meets its contract: each m is tried. Assumes nothing.
 use borrow.Author.Needs.{needs}
+use native.Mathlib.Nat.{div-le-self, lt-of-le-of-lt, mul-le-mul}
 use native.Mathlib.Omega.{arith}
-use Rattle.above_terms.proofs.AboveLaws.{places-product, places-half}
+use Rattle.above_terms.proofs.AboveLaws.{places-half}
 use Rattle.above_terms.proofs.places_above.Statement.{statement}
 use Rattle.above_terms.proofs.places_above.Tie as tie
 
@@ -14,11 +15,12 @@ add-result c = search needs
 sub-result-2 : tie.Need-sub-result-2
 sub-result-2 c = search needs
 
+-- the product of two numbers up to 17
 mul-result : tie.Need-mul-result
-mul-result c = let most = places-product (c .args .m) (omega arith) in omega arith
+mul-result c = record { fits = lt-of-le-of-lt (mul-le-mul {n₂ = 17} {m₂ = 17} (omega arith) (omega arith)) (omega arith) }
 
 cast-result : tie.Need-cast-result
-cast-result c = let most = places-product (c .args .m) (omega arith) in omega arith
+cast-result c = record { fits = lt-of-le-of-lt (div-le-self _ 2) (lt-of-le-of-lt (mul-le-mul {n₂ = 17} {m₂ = 17} (omega arith) (omega arith)) (omega arith)) }
 
 returns : tie.Need-returns
 returns c = places-half (c .args .m) (omega arith)
