@@ -154,19 +154,19 @@ fn with_numbers(state: &mut u64, call: Call, fault: u32) -> Call {
     other
 }
 
-// The call with one fault more. Of the sets any byte may change, a length too.
+// The call with one fault more. Of the sets any byte may change, a length too; or the last bidder comes into its own set, where that has rivals.
 pub fn with_fault(state: &mut u64, call: Call, list: &mut [u8], sets: &mut [u8]) -> Call {
     let fault = number::up_to(state, 8);
     if fault < 4 {
         return with_numbers(state, call, fault);
     }
     let value = doubtful(state, call);
-    if fault < 6 {
-        let at = number::up_to(state, call.listed);
-        parts::set_byte(list, at as usize, value);
-    } else {
-        let at = number::up_to(state, call.bytes);
-        parts::set_byte(sets, at as usize, value);
+    let at = number::up_to(state, call.bytes);
+    let last = std::num::wrapping_sub_u32(call.bytes, 1);
+    match fault {
+        4 | 5 => parts::set_byte(list, number::up_to(state, call.listed) as usize, value),
+        6 | 7 => parts::set_byte(sets, at as usize, value),
+        _ => parts::set_byte(sets, last as usize, call.n),
     }
     call
 }

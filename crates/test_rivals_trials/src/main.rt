@@ -44,7 +44,8 @@ fn main() {
     let tally: &mut [u64] = &mut numbers;
     all_calls(&mut state, tally, false, 64);
     all_calls(&mut state, tally, true, 6);
-    all_calls(&mut state, tally, true, 64);
+    calls(&mut state, tally, true, 8, 0, 6000);
+    calls(&mut state, tally, true, 64, 1, 6000);
     sheets(&mut state, tally, rounds::SMALL, 4000);
     sheets(&mut state, tally, rounds::MIDDLE, 500);
     counts::report(tally);
