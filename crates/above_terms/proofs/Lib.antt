@@ -1,0 +1,4 @@
+pub mod AboveLaws
+pub mod WriteLaws
+pub mod TermsLaws
+pub mod RefusalLaws

@@ -1,6 +1,6 @@
 -- Request S-2, the source's identity-specific profile: "a set of rivals becomes, for each rival, all pairs in which the rival's place is above the owner's.
 -- … The conditions are written in rising order of their four bytes, each once; their number is returned and later bytes stay."
-use Prim.Native.Nat.{ℕ, zero, suc, _-_, _*_, _<_, _≤_}
+use Prim.Native.Nat.{ℕ, suc, _-_, _*_, _<_, _≤_}
 use mathlib.Core.Bool.{true, cond}
 use mathlib.Core.List.{List, []}
 use mathlib.Core.Path.{_≡_}

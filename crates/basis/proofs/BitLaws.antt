@@ -2,7 +2,7 @@
 -- Assumes nothing.
 use Prim.Native.Nat.{ℕ, zero, suc, _+_, _-_, _*_, _/_, _%_, _^_, _<_, _≤_}
 use borrow.Author.Tests.{eq-eqb, ne-eqb, eqb-true, eqb-false, le-leb, leb-true, leb-false}
-use mathlib.Core.Bool.{Bool, true, false, cond, not, _&&_, _||_, or-false}
+use mathlib.Core.Bool.{Bool, true, false, cond, not, _&&_, _||_, or-false, Bool·not-not}
 use mathlib.Core.List.{List}
 use mathlib.Core.Logic.{_⊎_, inl, inr, ⊎-elim}
 use mathlib.Core.Path.{_≡_, refl, sym, _∙_, ap, ap₂, subst}
@@ -40,6 +40,10 @@ bit-clear x i = ap (λ (d : ℕ). eqb d 0) (bit-digit x i) ∙ by-test (bitOf x 
     by-test : (t : Bool) → eqb (cond t 1 0) 0 ≡ not t
     by-test true = refl
     by-test false = refl
+
+-- and a test for a digit that is not 0 that it is
+pub bit-set : (x i : ℕ) → not (eqb (x / 2 ^ i % 2) 0) ≡ bitOf x i
+bit-set x i = ap not (bit-clear x i) ∙ Bool·not-not (bitOf x i)
 
 -- an operation on two words is one on their digits
 module _ (op : ℕ → ℕ → ℕ) (test : Bool → Bool → Bool) (shr : (a b k : ℕ) → op a b / 2 ^ k ≡ op (a / 2 ^ k) (b / 2 ^ k))

@@ -1,6 +1,6 @@
 -- Two numbers compared, by cases; multiples of one number, and how a multiplication tells them; numbers of two digits. Assumes nothing.
 use Prim.Native.Nat.{ℕ, suc, _+_, _*_, _/_, _%_, _<_, _≤_}
-use borrow.Author.Tests.{eqb-true, ltb-true, ltb-false, lt-ltb, le-ltb, eq-eqb, ne-eqb}
+use borrow.Author.Tests.{eqb-true, eqb-false, ltb-true, ltb-false, lt-ltb, le-ltb, eq-eqb, ne-eqb}
 use mathlib.Core.Bool.{true, false, _&&_, _||_}
 use mathlib.Core.Logic.{_⊎_, inl, inr, ⊎-elim}
 use mathlib.Core.Path.{_≡_, sym, _∙_, ap}
@@ -22,7 +22,7 @@ use native.Mathlib.Nat.{
 use native.Mathlib.Numerals.{add-one}
 use native.Mathlib.Omega.{arith}
 use lib.Dec.{eqb, ltb}
-use Rattle.basis.proofs.TestLaws.{holds-or-fails, same-tests}
+use Rattle.basis.proofs.TestLaws.{holds-or-fails, same-tests, or-left, or-right, or-none, or-fails}
 
 -- two numbers are equal or not
 pub same-or-not : (a b : ℕ) → (a ≡ b) ⊎ (a ≡ b → ⊥)
@@ -32,10 +32,28 @@ same-or-not a b = decided (ℕ-discrete a b)
     decided (yes e) = inl e
     decided (no h) = inr h
 
+-- and are so told either way round
+pub eqb-turned : (a b : ℕ) → eqb a b ≡ eqb b a
+eqb-turned a b = same-tests (eqb a b) (eqb b a) (λ e. eq-eqb b a (sym (eqb-true a b e))) (λ e. eq-eqb a b (sym (eqb-true b a e)))
+
 -- one number is below another or not
 pub below-or-not : (a b : ℕ) → (a < b) ⊎ (b ≤ a)
 below-or-not a b =
     ⊎-elim (λ (t : ltb a b ≡ true). inl (ltb-true a b t)) (λ (t : ltb a b ≡ false). inr (ltb-false a b t)) (holds-or-fails (ltb a b))
+
+-- a number from 1 to a largest one, and any other
+pub outside : (x most : ℕ) → (x ≡ 0) ⊎ (most < x) → (eqb x 0 || ltb most x) ≡ true
+outside x most bad =
+    ⊎-elim (λ (e : x ≡ 0). or-left (ltb most x) (eq-eqb x 0 e)) (λ (l : most < x). or-right (eqb x 0) (lt-ltb most x l)) bad
+
+pub inside : (x most : ℕ) → 0 < x → x ≤ most → (eqb x 0 || ltb most x) ≡ false
+inside x most some within = or-fails (ne-eqb x 0 (omega arith)) (le-ltb most x within)
+
+pub from-inside : (x most : ℕ) → (eqb x 0 || ltb most x) ≡ false → (0 < x) × (x ≤ most)
+from-inside x most e =
+    let parts = or-none (eqb x 0) (ltb most x) e in
+    let some : x ≡ 0 → ⊥ = eqb-false x 0 (parts .0) in
+    (omega arith, ltb-false most x (parts .1))
 
 -- of two multiples of t, the larger is larger by t at least
 pub multiple-above : (t a b : ℕ) → a % t ≡ 0 → b % t ≡ 0 → a < b → a + t ≤ b

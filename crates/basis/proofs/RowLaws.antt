@@ -90,9 +90,15 @@ module _ {A : Type 0} (f : ℕ → A) where
       List·getD-eq-default (padded f k n blank) blank (omega arith))
       (holds-or-fails (ltb i n))
 
+-- a row, head first
+pub row-head : {A : Type 0} (f : ℕ → A) (k : ℕ) → row f (suc k) ≡ f 0 ∷ row (λ i. f (suc i)) k
+unfolding row
+row-head f zero = refl
+row-head f (suc k) = ap (λ r. r ++ (f (suc k) ∷ [])) (row-head f k)
+
 module _ {A : Type 0} (f g : ℕ → A) where
   -- functions that agree below k have the same row
-  row-same : (k : ℕ) → ((j : ℕ) → j < k → f j ≡ g j) → row f k ≡ row g k
+  pub row-same : (k : ℕ) → ((j : ℕ) → j < k → f j ≡ g j) → row f k ≡ row g k
   unfolding row
   row-same zero h = refl
   row-same (suc k) h = ap₂ (λ (r : List A) (a : A). r ++ (a ∷ [])) (row-same k (λ j l. h j (omega arith))) (h k (omega arith))

@@ -187,6 +187,20 @@ module _ (f : ℕ → Bool) where
       (eq-or-lt-of-le (le-of-suc-le-suc lt)))
       (eq-or-lt-of-le l)
 
+-- a test of all, the first apart
+pub all-head : (f : ℕ → Bool) (k : ℕ) → allBelow f (suc k) ≡ (f 0 && allBelow (λ i. f (suc i)) k)
+unfolding allBelow
+all-head f zero = one-only (f 0)
+  where
+    one-only : (x : Bool) → x ≡ (x && true)
+    one-only true = refl
+    one-only false = refl
+all-head f (suc k) = ap (λ (x : Bool). x && f (suc k)) (all-head f k) ∙ regroup (f 0) (allBelow (λ i. f (suc i)) k) (f (suc k))
+  where
+    regroup : (x y z : Bool) → ((x && y) && z) ≡ (x && (y && z))
+    regroup true y z = refl
+    regroup false y z = refl
+
 -- tests that agree below a count
 module _ (f g : ℕ → Bool) (n : ℕ) where
   pub any-same : ((i : ℕ) → i < n → f i ≡ g i) → anyBelow f n ≡ anyBelow g n
@@ -194,6 +208,12 @@ module _ (f g : ℕ → Bool) (n : ℕ) where
       same-tests (anyBelow f n) (anyBelow g n)
       (λ e. let w = any-where f n e in any-at g n (w .0) (w .1) (sym (h (w .0) (w .1)) ∙ w .2))
       (λ e. let w = any-where g n e in any-at f n (w .0) (w .1) (h (w .0) (w .1) ∙ w .2))
+
+  pub all-same : ((i : ℕ) → i < n → f i ≡ g i) → allBelow f n ≡ allBelow g n
+  all-same h =
+      same-tests (allBelow f n) (allBelow g n)
+      (λ e. at-all g n (λ k l. sym (h k l) ∙ all-at f n e k l))
+      (λ e. at-all f n (λ k l. h k l ∙ all-at g n e k l))
 
   -- one of two tests
   pub any-or : anyBelow (λ i. f i || g i) n ≡ (anyBelow f n || anyBelow g n)

@@ -1,0 +1,4 @@
+pub mod ListedLaws
+pub mod SetLaws
+pub mod NumberedLaws
+pub mod LentLaws

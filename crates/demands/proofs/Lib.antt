@@ -7,5 +7,6 @@ pub mod TickLaws
 pub mod OwnerOrderLaws
 pub mod SameRoundLaws
 pub mod CanonicalLaws
+pub mod ListLaws
 pub mod SlotTermsLaws
 pub mod Demands

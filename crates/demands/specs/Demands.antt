@@ -1,9 +1,9 @@
--- The three demands, over the contracts of the eleven calls that programs link (pas/src/lib.rt), and then what the requests of document 02 that have
+-- The three demands, over the contracts of the thirteen calls that programs link (pas/src/lib.rt), and then what the requests of document 02 that have
 -- landed add. Each call promises one record or equation, for every input; here is what follows for a reader, and the proofs are in proofs/Demands.antt. Lists of
 -- numbers are bytes; s is a sheet, out and out′ are a result buffer before and after a call, `number` is what a call returns.
-use Prim.Native.Nat.{ℕ, suc, _+_, _*_, _%_, _<_, _≤_}
+use Prim.Native.Nat.{ℕ, suc, _+_, _-_, _*_, _%_, _<_, _≤_}
 use mathlib.Core.Bool.{true, false, not, _&&_, _||_}
-use mathlib.Core.List.{List, [], _++_}
+use mathlib.Core.List.{List, [], _∷_, _++_}
 use mathlib.Core.Logic.{_⊎_}
 use mathlib.Core.Path.{_≡_}
 use lib.IntN.{ℤ}
@@ -11,7 +11,7 @@ use lib.ListN.{length, take, drop, getD, replicate}
 use lib.Signed.{_≤ℤ_}
 use denote.Ref.{RefT}
 use Rattle.basis.specs.Bytes.{word32At}
-use Rattle.basis.specs.Rows.{row}
+use Rattle.basis.specs.Rows.{row, joined}
 use Rattle.sheet.specs.declared.Page.{Page}
 use Rattle.sheet.specs.declared.Round.{Round}
 use Rattle.sheet.specs.Sheet.{version, bidderCount, slotCount, constraintCount, constraintsStart, tickField, bidField, ownerField}
@@ -40,7 +40,10 @@ use Rattle.owner_part.specs.declared.Before.{Before}
 use Rattle.owner_part.specs.OwnerPart.{partRefusal, bytesBefore, constraintsOf, partLength, beforeOf, PartHanded}
 use Rattle.canonical.specs.Canonical.{canonicalSheet, canonicalRefusal, canonicalBuffer, SameRound}
 use Rattle.slot_terms.specs.SlotTerms.{barFor, ByLimit, ByBar, slotTerms, slotTermsRefusal, conditionsBuffer, OwnerFits, TermsFit}
-use Rattle.pas.specs.Calls.{yesNumber, DownwardGiven, GainGiven, GainFloorsGiven, BestPageGiven, BestFloorsPageGiven, PartGiven, CanonicalGiven, SlotTermsGiven}
+use Rattle.bidder_sets.specs.BidderSets.{inSet, membersOf, rivalsOf}
+use Rattle.above_terms.specs.AboveTerms.{RivalAbove, aboveTerms, aboveTermsRefusal}
+use Rattle.share_page.specs.SharePage.{names, canShare, orderBuffer, shareRefusal, OrderOf, FirstOrder}
+use Rattle.pas.specs.Calls.{yesNumber, DownwardGiven, GainGiven, GainFloorsGiven, BestPageGiven, BestFloorsPageGiven, PartGiven, CanonicalGiven, SlotTermsGiven, AboveTermsGiven, SharePageGiven}
 
 -- DEMAND 1. "Every sheet or call that breaks a rule gets the first number that applies, and no lent byte changes; every other gets its full
 -- result."
@@ -89,6 +92,14 @@ pub record DemandOne : Type 0 where
   pub slot-terms : (n m owner limit : ℕ) (bars out out′ : List ℕ) (before number after : ℕ) → SlotTermsGiven n m owner limit bars out before number out′ after →
       Owed number (slotTermsRefusal n m owner limit bars out) ((out′ ≡ out) × (after ≡ before))
       ((out′ ≡ conditionsBuffer (slotTerms n m owner limit bars) out) × (after ≡ length (slotTerms n m owner limit bars)))
+  -- pas_above_terms, 4, 5, 16, 23 to 25, 19
+  pub above-terms : (n m owner : ℕ) (rivals out out′ : List ℕ) (before number after : ℕ) → AboveTermsGiven n m owner rivals out before number out′ after →
+      Owed number (aboveTermsRefusal n m owner rivals out) ((out′ ≡ out) × (after ≡ before))
+      ((out′ ≡ conditionsBuffer (aboveTerms n m owner rivals) out) × (after ≡ length (aboveTerms n m owner rivals)))
+  -- pas_share_page, 4, 5, 23, 24, 19
+  pub share-page : (n m : ℕ) (members sets out out′ : List ℕ) (before number after : ℕ) → SharePageGiven n m members sets out before number out′ after →
+      Owed number (shareRefusal n m members sets out) ((out′ ≡ out) × (after ≡ before))
+      ((out′ ≡ orderBuffer n m members sets out) × (after ≡ yesNumber (canShare n m members sets)))
 
 -- DEMAND 2. "The page is the greedy page. A price is the smallest bid with which its winner, all else unchanged, still wins that place. Up to 8
 -- bidders and 8 places, the best page breaks no condition and no other such page has a larger total." With request S-4 "a price becomes the smallest
@@ -415,17 +426,16 @@ pub record ListSent (s : List ℕ) (i : ℕ) (bytes : List ℕ) (count : ℕ) : 
 abbrev pub Below : Condition → Condition → Type 0
 Below p q = fieldsBelow (p .owner) (p .own) (p .other) (p .others) (q .owner) (q .own) (q .other) (q .others) ≡ true
 
--- What pas_slot_terms has written, where it is not refused.
-pub record TermsRight (n m owner limit : ℕ) (bars out out′ : List ℕ) (count : ℕ) : Type 0 where
-  -- the own-place conditions for places L + 1 to m, and for each bidder the other's-place conditions for places 1 to its bar, and nothing else
-  pub conditions : (q : Condition) →
-      Exactly (Among out′ count q) ((q .owner ≡ owner) × (ByLimit m limit q ⊎ ByBar n bars q))
+-- What a call that writes one bidder's list has written, where it is not refused: `count` conditions at the front of the buffer, those of the owner that
+-- are `Given`.
+pub record ListWritten (n m owner : ℕ) (Given : Condition → Type 0) (out out′ : List ℕ) (count : ℕ) : Type 0 where
+  -- these, and nothing else
+  pub conditions : (q : Condition) → Exactly (Among out′ count q) ((q .owner ≡ owner) × Given q)
   -- each below the next in the order of their four bytes, so that none is there twice
   pub rising : (j k : ℕ) → j < k → k < count → Below (conditionIn out′ j) (conditionIn out′ k)
   -- each passes 10 to 13 of a sheet with that n and m
   pub pass : (q : Condition) → Among out′ count q → fieldsRefusal n m (q .owner) (q .own) (q .other) (q .others) ≡ 0
-  -- they are never more than 1,023, so such a list alone fits on every sheet; there was room for them, and "later bytes stay"
-  pub most : count ≤ 1_023
+  -- there was room for them, and "later bytes stay"
   pub room : 4 * count ≤ length out
   pub later : drop (4 * count) out′ ≡ drop (4 * count) out
   -- the list is downward monotonic for that m; so in an accepted sheet with that m the test of 01 passes
@@ -434,27 +444,28 @@ pub record TermsRight (n m owner limit : ℕ) (bars out out′ : List ℕ) (coun
   -- and with that n too pas_downward answers 1
   pub tested : (s : List ℕ) (before number after : ℕ) → Accepted s → bidderCount s ≡ n → slotCount s ≡ m → ListSent s owner out′ count →
       DownwardGiven s owner before number after → (number ≡ 0) × (after ≡ 1)
-
-pub record RequestOne : Type 0 where
-  -- what is written, wherever the call is not refused
-  pub written : (n m owner limit : ℕ) (bars out out′ : List ℕ) (before count : ℕ) →
-      SlotTermsGiven n m owner limit bars out before 0 out′ count → TermsRight n m owner limit bars out out′ count
   -- demand 3 with the list written as the list sent instead, on a sheet with that n and m and with no test made
-  pub honest : (n m i limit : ℕ) (bars out out′ : List ℕ) (before count : ℕ) → SlotTermsGiven n m i limit bars out before 0 out′ count →
-      (honest instead : List ℕ) (worth : ℕ) → Accepted honest → Accepted instead → DifferOnlyInList i honest instead →
-      bidderCount instead ≡ n → slotCount instead ≡ m → ListSent instead i out′ count → bidField honest i ≤ worth → worth ≤ 1_000_000_000 →
+  pub honest : (honest instead : List ℕ) (worth : ℕ) → Accepted honest → Accepted instead → DifferOnlyInList owner honest instead →
+      bidderCount instead ≡ n → slotCount instead ≡ m → ListSent instead owner out′ count → bidField honest owner ≤ worth → worth ≤ 1_000_000_000 →
       (before-honest before-instead : ℤ) (number-honest number-instead : ℕ) (gain-honest gain-instead : ℤ) →
-      GainGiven honest honest i worth before-honest number-honest gain-honest →
-      GainGiven instead honest i worth before-instead number-instead gain-instead →
+      GainGiven honest honest owner worth before-honest number-honest gain-honest →
+      GainGiven instead honest owner worth before-instead number-instead gain-instead →
       (number-honest ≡ 0) × (number-instead ≡ 0) × (gain-instead ≤ℤ gain-honest)
   -- and with floors, the same for both sheets
-  pub honest-floors : (n m i limit : ℕ) (bars out out′ : List ℕ) (before count : ℕ) → SlotTermsGiven n m i limit bars out before 0 out′ count →
-      (floors honest instead : List ℕ) (worth : ℕ) → Floored floors honest → Accepted instead → DifferOnlyInList i honest instead →
-      bidderCount instead ≡ n → slotCount instead ≡ m → ListSent instead i out′ count → bidField honest i ≤ worth → worth ≤ 1_000_000_000 →
+  pub honest-floors : (floors honest instead : List ℕ) (worth : ℕ) → Floored floors honest → Accepted instead → DifferOnlyInList owner honest instead →
+      bidderCount instead ≡ n → slotCount instead ≡ m → ListSent instead owner out′ count → bidField honest owner ≤ worth → worth ≤ 1_000_000_000 →
       (before-honest before-instead : ℤ) (number-honest number-instead : ℕ) (gain-honest gain-instead : ℤ) →
-      GainFloorsGiven floors honest honest i worth before-honest number-honest gain-honest →
-      GainFloorsGiven floors instead honest i worth before-instead number-instead gain-instead →
+      GainFloorsGiven floors honest honest owner worth before-honest number-honest gain-honest →
+      GainFloorsGiven floors instead honest owner worth before-instead number-instead gain-instead →
       (number-honest ≡ 0) × (number-instead ≡ 0) × (gain-instead ≤ℤ gain-honest)
+
+pub record RequestOne : Type 0 where
+  -- what is written, wherever the call is not refused: the own-place conditions for places L + 1 to m, and for each bidder the other's-place conditions for
+  -- places 1 to its bar
+  pub written : (n m owner limit : ℕ) (bars out out′ : List ℕ) (before count : ℕ) → SlotTermsGiven n m owner limit bars out before 0 out′ count →
+      ListWritten n m owner (λ q. ByLimit m limit q ⊎ ByBar n bars q) out out′ count
+  -- these are never more than 1,023, so such a list alone fits on every sheet
+  pub most : (n m owner limit : ℕ) (bars out out′ : List ℕ) (before count : ℕ) → SlotTermsGiven n m owner limit bars out before 0 out′ count → count ≤ 1_023
   -- the call's numbers: 4, 5 and 16 first,
   pub four : (n m owner limit : ℕ) (bars out : List ℕ) → (n ≡ 0) ⊎ (64 < n) → slotTermsRefusal n m owner limit bars out ≡ 4
   pub five : (n m owner limit : ℕ) (bars out : List ℕ) → 0 < n → n ≤ 64 → (m ≡ 0) ⊎ (16 < m) → slotTermsRefusal n m owner limit bars out ≡ 5
@@ -473,3 +484,118 @@ pub record RequestOne : Type 0 where
       (out : List ℕ) → Exactly (slotTermsRefusal n m owner limit bars out ≡ 19) (length out < 4 * count)
   pub enough : (n m owner limit : ℕ) (bars into into′ : List ℕ) (before count : ℕ) → SlotTermsGiven n m owner limit bars into before 0 into′ count →
       (out : List ℕ) → 4 * count ≤ length out → slotTermsRefusal n m owner limit bars out ≡ 0
+
+-- REQUEST S-2. "Seal makers want to say only "above these". Add the identity-specific profile: a set of rivals becomes, for each rival, all pairs in which the
+-- rival's place is above the owner's. A set is a list of bidder numbers in which a repeat counts once; the n rival sets below are lent one after another from
+-- bidder 1's, each with its length in one byte before it. The conditions are written in rising order of their four bytes, each once; their number is returned
+-- and later bytes stay. Buyers' groups also want to know if a given set of bidders, with one rival set for each of the n bidders, could share a page. The reply
+-- is yes exactly when the set has at most m members and some order of them puts each above every rival of its own in the set; a yes writes the first such order
+-- in dictionary order, one byte a member, and no later byte. A no writes nothing. Turned away: after 4, 5 and 16, 23 for rival sets whose bytes are not exactly
+-- n sets or for any set with a number 0 or above n, 24 for an owner in its own set, 25, only where conditions are written, for more than 1,024 of them, and then
+-- 19."
+
+-- the numbers of a set are from 1 to n; and n sets are lent one after another from bidder 1's, each with its length before it
+abbrev pub Numbered : (n : ℕ) → List ℕ → Type 0
+Numbered n set = (k : ℕ) → k < length set → (0 < getD set k 0) × (getD set k 0 ≤ n)
+
+abbrev pub Lent : (n : ℕ) (sets : List ℕ) (set : ℕ → List ℕ) → Type 0
+Lent n sets set = sets ≡ joined (λ i. length (set (suc i)) ∷ set (suc i)) n
+
+-- What each of the calls asks for: n, m and an owner that a sheet can have and a set of others; n, m, a set, and n sets without their own bidder.
+pub record RivalsFit (n m owner : ℕ) (rivals : List ℕ) : Type 0 where
+  pub owner-fits : OwnerFits n m owner
+  pub numbered : Numbered n rivals
+  pub not-itself : inSet rivals owner ≡ false
+
+pub record SetsFit (n m : ℕ) (members sets : List ℕ) : Type 0 where
+  pub some-bidders : 0 < n
+  pub most-bidders : n ≤ 64
+  pub some-slots : 0 < m
+  pub most-slots : m ≤ 16
+  pub numbered : Numbered n members
+  pub lent : Lent n sets (rivalsOf sets)
+  pub each-numbered : (i : ℕ) → 0 < i → i ≤ n → Numbered n (rivalsOf sets i)
+  pub not-itself : (i : ℕ) → 0 < i → i ≤ n → names sets i i ≡ false
+
+-- What pas_share_page has answered, where it is not refused.
+pub record SharedRight (n m : ℕ) (members sets out out′ : List ℕ) (answer : ℕ) : Type 0 where
+  pub yes-or-no : (answer ≡ 1) ⊎ (answer ≡ 0)
+  -- "yes exactly when the set has at most m members and some order of them puts each above every rival of its own in the set"
+  pub yes : Exactly (answer ≡ 1) ((membersOf n members ≤ m) × (l : List ℕ) × OrderOf (names sets) (inSet members) l)
+  -- "a yes writes the first such order in dictionary order, one byte a member, and no later byte. A no writes nothing."
+  pub first : answer ≡ 1 → FirstOrder (names sets) (inSet members) (take (membersOf n members) out′)
+  pub room : answer ≡ 1 → membersOf n members ≤ length out
+  pub later : answer ≡ 1 → drop (membersOf n members) out′ ≡ drop (membersOf n members) out
+  pub nothing : answer ≡ 0 → out′ ≡ out
+
+-- A sheet's lists all come from the profile, with these rival sets: each bidder's list has the pairs in which a rival of its own set stands above it, each in any
+-- order and any number of times, and no other.
+pub record AllNamed (s sets : List ℕ) : Type 0 where
+  pub each : (q : Condition) → 0 < q .owner → q .owner ≤ bidderCount s → RivalAbove (slotCount s) (rivalsOf sets (q .owner)) q →
+      (k : ℕ) × (k < constraintCount s) × (conditionField s k ≡ q)
+  pub no-other : (k : ℕ) → k < constraintCount s → RivalAbove (slotCount s) (rivalsOf sets (ownerField s k)) (conditionField s k)
+
+-- all members have a place on a page, and nobody else has
+abbrev pub HasAll : Page → List ℕ → Type 0
+HasAll p members = (b : ℕ) → inSet members b ≡ true → placed p b ≡ true
+
+abbrev pub HasJust : Page → List ℕ → Type 0
+HasJust p members = (b : ℕ) → 0 < b → placed p b ≡ inSet members b
+
+pub record RequestTwo : Type 0 where
+  -- what is written, wherever the call is not refused: for each rival all pairs in which its place is above the owner's
+  pub written : (n m owner : ℕ) (rivals out out′ : List ℕ) (before count : ℕ) → AboveTermsGiven n m owner rivals out before 0 out′ count →
+      ListWritten n m owner (RivalAbove m rivals) out out′ count
+  -- m × (m − 1) / 2 for each rival, and never more than 1,024
+  pub many : (n m owner : ℕ) (rivals out out′ : List ℕ) (before count : ℕ) → AboveTermsGiven n m owner rivals out before 0 out′ count →
+      (2 * count ≡ membersOf n rivals * (m * (m - 1))) × (count ≤ 1_024)
+  -- "a repeat counts once": lists with the same members are one set, for both calls
+  pub same-set : (n m owner : ℕ) (rivals rivals′ : List ℕ) → ((b : ℕ) → inSet rivals b ≡ inSet rivals′ b) → aboveTerms n m owner rivals ≡ aboveTerms n m owner rivals′
+  pub same-members : (n m : ℕ) (members members′ sets out : List ℕ) → ((b : ℕ) → inSet members b ≡ inSet members′ b) →
+      (canShare n m members sets ≡ canShare n m members′ sets) × (orderBuffer n m members sets out ≡ orderBuffer n m members′ sets out)
+  -- sets lent one after another, each with its length before it, are read as they were lent
+  pub read : (n : ℕ) (sets : List ℕ) (set : ℕ → List ℕ) → Lent n sets set → (i : ℕ) → 0 < i → i ≤ n → rivalsOf sets i ≡ set i
+  -- the answer, wherever the call is not refused
+  pub shared : (n m : ℕ) (members sets out out′ : List ℕ) (before answer : ℕ) → SharePageGiven n m members sets out before 0 out′ answer →
+      SharedRight n m members sets out out′ answer
+  -- lists written by the one call, with the rival sets lent to the other, are such lists
+  pub all-written : (n m : ℕ) (s sets : List ℕ) → Accepted s → bidderCount s ≡ n → slotCount s ≡ m →
+      ((i : ℕ) → 0 < i → i ≤ n → (out out′ : List ℕ) × (before count : ℕ) × AboveTermsGiven n m i (rivalsOf sets i) out before 0 out′ count × ListSent s i out′ count) →
+      AllNamed s sets
+  -- on a round with such lists, the members of a yes stand on the first places in the order written, nobody else stands anywhere, and no condition is broken
+  pub on-first-places : (n m : ℕ) (members sets out out′ : List ℕ) (before : ℕ) → SharePageGiven n m members sets out before 0 out′ 1 →
+      (s : List ℕ) → Accepted s → bidderCount s ≡ n → slotCount s ≡ m → AllNamed s sets →
+      (p : Page) × ((k : ℕ) → at p (suc k) ≡ getD (take (membersOf n members) out′) k 0) × HasJust p members × Allowed (roundOf s) p
+  -- and where the answer is no, no page of that round has all of them, be others there or not, without breaking one
+  pub on-no-page : (n m : ℕ) (members sets out out′ : List ℕ) (before : ℕ) → SharePageGiven n m members sets out before 0 out′ 0 →
+      (s : List ℕ) → Accepted s → bidderCount s ≡ n → slotCount s ≡ m → AllNamed s sets →
+      (p : Page) → PageOf (roundOf s) p → breaks (roundOf s) p ≡ false → HasAll p members → ⊥
+  -- the numbers of the profile's call: 4, 5 and 16 first, then 23 and 24,
+  pub four : (n m owner : ℕ) (rivals out : List ℕ) → (n ≡ 0) ⊎ (64 < n) → aboveTermsRefusal n m owner rivals out ≡ 4
+  pub five : (n m owner : ℕ) (rivals out : List ℕ) → 0 < n → n ≤ 64 → (m ≡ 0) ⊎ (16 < m) → aboveTermsRefusal n m owner rivals out ≡ 5
+  pub sixteen : (n m owner : ℕ) (rivals out : List ℕ) → 0 < n → n ≤ 64 → 0 < m → m ≤ 16 → (owner ≡ 0) ⊎ (n < owner) → aboveTermsRefusal n m owner rivals out ≡ 16
+  pub twenty-three : (n m owner : ℕ) (rivals out : List ℕ) → OwnerFits n m owner → (k : ℕ) → k < length rivals → (getD rivals k 0 ≡ 0) ⊎ (n < getD rivals k 0) →
+      aboveTermsRefusal n m owner rivals out ≡ 23
+  pub twenty-four : (n m owner : ℕ) (rivals out : List ℕ) → OwnerFits n m owner → Numbered n rivals → inSet rivals owner ≡ true → aboveTermsRefusal n m owner rivals out ≡ 24
+  -- then 25 for more than 1,024 conditions, 19 for a buffer shorter than four bytes for each, and none for any other
+  pub twenty-five : (n m owner : ℕ) (rivals out : List ℕ) → RivalsFit n m owner rivals → 2_048 < membersOf n rivals * (m * (m - 1)) → aboveTermsRefusal n m owner rivals out ≡ 25
+  pub nineteen : (n m owner : ℕ) (rivals out : List ℕ) → RivalsFit n m owner rivals → membersOf n rivals * (m * (m - 1)) ≤ 2_048 →
+      length out < 2 * (membersOf n rivals * (m * (m - 1))) → aboveTermsRefusal n m owner rivals out ≡ 19
+  pub answered : (n m owner : ℕ) (rivals out : List ℕ) → RivalsFit n m owner rivals → membersOf n rivals * (m * (m - 1)) ≤ 2_048 →
+      2 * (membersOf n rivals * (m * (m - 1))) ≤ length out → aboveTermsRefusal n m owner rivals out ≡ 0
+  -- the numbers of the sharing call: 4 and 5, then 23 for a number of the members, for bytes that are not n sets, and for a number of a set,
+  pub share-four : (n m : ℕ) (members sets out : List ℕ) → (n ≡ 0) ⊎ (64 < n) → shareRefusal n m members sets out ≡ 4
+  pub share-five : (n m : ℕ) (members sets out : List ℕ) → 0 < n → n ≤ 64 → (m ≡ 0) ⊎ (16 < m) → shareRefusal n m members sets out ≡ 5
+  pub members-wrong : (n m : ℕ) (members sets out : List ℕ) → 0 < n → n ≤ 64 → 0 < m → m ≤ 16 →
+      (k : ℕ) → k < length members → (getD members k 0 ≡ 0) ⊎ (n < getD members k 0) → shareRefusal n m members sets out ≡ 23
+  pub not-sets : (n m : ℕ) (members sets out : List ℕ) → 0 < n → n ≤ 64 → 0 < m → m ≤ 16 → (Lent n sets (rivalsOf sets) → ⊥) → shareRefusal n m members sets out ≡ 23
+  pub sets-wrong : (n m : ℕ) (members sets out : List ℕ) → 0 < n → n ≤ 64 → 0 < m → m ≤ 16 → (i : ℕ) → 0 < i → i ≤ n →
+      (k : ℕ) → k < length (rivalsOf sets i) → (getD (rivalsOf sets i) k 0 ≡ 0) ⊎ (n < getD (rivalsOf sets i) k 0) → shareRefusal n m members sets out ≡ 23
+  -- then 24 for a bidder in its own set, a member or not,
+  pub share-twenty-four : (n m : ℕ) (members sets out : List ℕ) → 0 < n → n ≤ 64 → 0 < m → m ≤ 16 → Numbered n members → Lent n sets (rivalsOf sets) →
+      ((i : ℕ) → 0 < i → i ≤ n → Numbered n (rivalsOf sets i)) → (i : ℕ) → 0 < i → i ≤ n → names sets i i ≡ true → shareRefusal n m members sets out ≡ 24
+  -- then 19 for a yes with a buffer shorter than the members, and none for any other
+  pub share-nineteen : (n m : ℕ) (members sets out : List ℕ) → SetsFit n m members sets → canShare n m members sets ≡ true → length out < membersOf n members →
+      shareRefusal n m members sets out ≡ 19
+  pub share-answered : (n m : ℕ) (members sets out : List ℕ) → SetsFit n m members sets → (canShare n m members sets ≡ false) ⊎ (membersOf n members ≤ length out) →
+      shareRefusal n m members sets out ≡ 0

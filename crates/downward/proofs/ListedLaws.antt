@@ -13,6 +13,7 @@ use lib.Seq.{getD-take}
 use Rattle.basis.specs.Bits.{bitOf}
 use Rattle.basis.specs.Tests.{anyBelow, allBelow}
 use Rattle.basis.proofs.BitLaws.{bit-and, bit-without, bit-shl, bit-shr, bit-single, bit-zero, no-bits, store-or}
+use Rattle.basis.proofs.NumberLaws.{eqb-turned}
 use Rattle.basis.proofs.TestLaws.{not-both, holds, fails, same-tests, and-holds, and-parts, not-holds, any-at, any-where, none-any, at-all, tried}
 use Rattle.sheet.specs.declared.Kind.{Kind}
 use Rattle.sheet.specs.declared.Kind.the-variants.{OwnSlot, OtherSlot, Pair}
@@ -66,10 +67,7 @@ pub store-lists : (listed : List ℕ) (at own s : ℕ) → at < length listed �
     bitOf (getD (set listed at (bitOr (getD listed at 0) own)) part 0) k ≡ (bitOf (getD listed part 0) k || (eqb at part && eqb s (suc k)))
 store-lists listed at own s inside told part k l =
     store-or listed at own part k inside
-    ∙ ap₂ (λ (x y : Bool). bitOf (getD listed part 0) k || (x && y)) (eqb-sym part at) (told k l)
-  where
-    eqb-sym : (x y : ℕ) → eqb x y ≡ eqb y x
-    eqb-sym x y = same-tests (eqb x y) (eqb y x) (λ e. eq-eqb y x (sym (eqb-true x y e))) (λ e. eq-eqb x y (sym (eqb-true y x e)))
+    ∙ ap₂ (λ (x y : Bool). bitOf (getD listed part 0) k || (x && y)) (eqb-turned part at) (told k l)
 
 -- Empty sets list none,
 pub none-listed : (r : Round) (i : ℕ) (listed : List ℕ) → length listed ≡ 1041 → ((part : ℕ) → getD listed part 0 ≡ 0) → Listed r i 0 listed

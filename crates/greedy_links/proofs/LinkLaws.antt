@@ -13,7 +13,6 @@ use lib.ListN.{length, getD, set, replicate, length-set}
 use lib.Seq.{getD-set-same, getD-set-other}
 use Rattle.basis.specs.Tests.{anyBelow}
 use Rattle.basis.proofs.NumberLaws.{same-or-not}
-use Rattle.basis.proofs.TestLaws.{same-tests}
 use Rattle.sheet.specs.declared.Round.{Round}
 use Rattle.greedy_links.specs.EngineKeys.{isMarked}
 use Rattle.greedy_links.specs.EngineLinks.{linkKey, linkOwner, lastOf, Linked, someOwner}
@@ -57,9 +56,6 @@ after-set P s i a j inside here elsewhere =
     (λ (e : j ≡ i). subst P (sym (ap (λ (z : ℕ). getD (set s i a) z 0) e ∙ getD-set-same s i a 0 inside)) (here e))
     (λ (d : j ≡ i → ⊥). subst P (sym (getD-set-other s i j a 0 d)) (elsewhere d))
     (same-or-not j i)
-
-pub eqb-turned : (a b : ℕ) → eqb a b ≡ eqb b a
-eqb-turned a b = same-tests (eqb a b) (eqb b a) (λ t. eq-eqb b a (sym (eqb-true a b t))) (λ t. eq-eqb a b (sym (eqb-true b a t)))
 
 -- one more mark
 pub mark-more : (marks : List ℕ) (i x : ℕ) → i < length marks → isMarked (set marks i 1) x ≡ (isMarked marks x || eqb x i)

@@ -1,5 +1,6 @@
 -- A call's answer is handed on through lent memory: its number says whether that is written. Assumes nothing.
 use Prim.Native.Nat.{ℕ, zero, suc}
+use mathlib.Core.Bool.{false}
 use mathlib.Core.List.{List}
 use mathlib.Core.Path.{_≡_, refl, sym, _∙_, ap}
 use lib.IntN.{ℤ}
@@ -25,6 +26,9 @@ use Rattle.canonical.specs.Canonical.{canonicalSheet, canonicalRefusal, Canonic
 use Rattle.canonical.specs.declared.Rewritten.{Rewritten}
 use Rattle.slot_terms.specs.SlotTerms.{slotTerms, slotTermsRefusal, SlotTermsWritten}
 use Rattle.slot_terms.specs.declared.Written.{Written}
+use Rattle.above_terms.specs.AboveTerms.{aboveTerms, aboveTermsRefusal, AboveTermsWritten}
+use Rattle.share_page.specs.SharePage.{canShare, shareRefusal, PageShared}
+use Rattle.share_page.specs.declared.Shared.{Shared}
 use Rattle.pas.specs.Calls.{
   yesNumber,
   DownwardGiven,
@@ -35,6 +39,8 @@ use Rattle.pas.specs.Calls.{
   PartGiven,
   CanonicalGiven,
   SlotTermsGiven,
+  AboveTermsGiven,
+  SharePageGiven,
 }
 
 -- an answered call's memory holds what is written there
@@ -239,4 +245,40 @@ module _ (n m owner limit : ℕ) (bars out : List ℕ) (before : ℕ) (t : Writt
         written =
             sized (slotTermsRefusal n m owner limit bars out) (t .refusal) (length (slotTerms n m owner limit bars)) before (t .count) (given .number) z
             (given .count);
+      }
+
+module _ (n m owner : ℕ) (rivals out : List ℕ) (before : ℕ) (t : Written) (out′ : List ℕ) (given : AboveTermsWritten n m owner rivals out t out′) where
+  pub above-terms-refused : (t .refusal ≡ 0 → ⊥) → AboveTermsGiven n m owner rivals out before (t .refusal) out′ before
+  above-terms-refused h =
+      record {
+        number = given .number;
+        buffer = given .buffer;
+        written = refused-leaves (aboveTermsRefusal n m owner rivals out) (t .refusal) (length (aboveTerms n m owner rivals)) before (given .number) h;
+      }
+
+  pub above-terms-answered : t .refusal ≡ 0 → AboveTermsGiven n m owner rivals out before 0 out′ (t .count)
+  above-terms-answered z =
+      record {
+        number = sym z ∙ given .number;
+        buffer = given .buffer;
+        written = sized (aboveTermsRefusal n m owner rivals out) (t .refusal) (length (aboveTerms n m owner rivals)) before (t .count) (given .number) z (given .count);
+      }
+
+module _ (n m : ℕ) (members sets out : List ℕ) (before : ℕ) (t : Shared) (out′ : List ℕ) (given : PageShared n m members sets out t out′) where
+  pub share-refused : (t .refusal ≡ 0 → ⊥) → SharePageGiven n m members sets out before (t .refusal) out′ before
+  share-refused h =
+      record {
+        number = given .number;
+        buffer = given .buffer;
+        written = refused-leaves (shareRefusal n m members sets out) (t .refusal) (yesNumber (canShare n m members sets)) before (given .number) h;
+      }
+
+  pub share-answered : t .refusal ≡ 0 → (written : ℕ) → written ≡ yesNumber (t .yes) → SharePageGiven n m members sets out before 0 out′ written
+  share-answered z written w =
+      record {
+        number = sym z ∙ given .number;
+        buffer = given .buffer;
+        written =
+            answered (shareRefusal n m members sets out) (t .refusal) (yesNumber (canShare n m members sets)) before written (given .number) z
+            (λ k. w ∙ ap yesNumber (given .answer ∙ sym (answered-gives (shareRefusal n m members sets out) (canShare n m members sets) false k)));
       }

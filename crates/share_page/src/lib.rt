@@ -40,15 +40,15 @@ fn size_refusal(n: u32, m: u32) -> u32
 }
 
 // 23 or 24; or 0, with the rival set of each bidder in a word of the table.
-fn read_sets(table: &mut [u64; 64], rival_sets: &[u8], n: u32) -> u32
-    requires { ⌜ n ≤ 64 ⌝ }
-    ensures { λ r. ⌜ (r ≡ setsRefusal n (now (rival_sets .entry))) × (r ≡ 0 → (i : ℕ) → i < n → Holds (getD (now (table .exit)) i 0) (inSet (rivalsOf (now (rival_sets .entry)) (suc i)))) ⌝ }
+fn read_sets(table: &mut [u64; 64], rivals: &[u8], n: u32) -> u32
+    requires { ⌜ (n ≤ 64) × (length (now table) ≡ 64) ⌝ }
+    ensures { λ r. ⌜ (r ≡ setsRefusal n (now (rivals .entry))) × (r ≡ 0 → (i : ℕ) → i < n → Holds (getD (now (table .exit)) i 0) (inSet (rivalsOf (now (rivals .entry)) (suc i)))) ⌝ }
 {
     let mut own = false;
     let mut at: usize = 0;
     let mut bidder: u32 = 1;
     while bidder <= n {
-        let lent = bidder_sets::read_at(rival_sets, at, n);
+        let lent = bidder_sets::read_at(rivals, at, n);
         let wrong = lent.wrong;
         if wrong {
             return 23;
@@ -60,7 +60,7 @@ fn read_sets(table: &mut [u64; 64], rival_sets: &[u8], n: u32) -> u32
         at = lent.end;
         bidder += 1;
     }
-    if at != rival_sets.len() {
+    if at != rivals.len() {
         return 23;
     }
     if own {
@@ -141,8 +141,8 @@ fn put_bytes(result: &mut [u8], bytes: &[u8])
 
 // The number of the first rule that the call breaks, 4, 5, 23, 24 or 19, or 0 and the answer. A yes has the first order of the members, one byte each, at the
 // front of the buffer, and every later byte as it was; a no and a refusal leave every byte as it was.
-pub fn share(n: u32, m: u32, members: &[u8], rival_sets: &[u8], result: &mut [u8]) -> Shared
-    ensures { λ r. ⌜ PageShared n m (now (members .entry)) (now (rival_sets .entry)) (now (result .entry)) r (now (result .exit)) ⌝ }
+pub fn share(n: u32, m: u32, members: &[u8], rivals: &[u8], result: &mut [u8]) -> Shared
+    ensures { λ r. ⌜ PageShared n m (now (members .entry)) (now (rivals .entry)) (now (result .entry)) r (now (result .exit)) ⌝ }
 {
     let size = size_refusal(n, m);
     if size != 0 {
@@ -154,7 +154,7 @@ pub fn share(n: u32, m: u32, members: &[u8], rival_sets: &[u8], result: &mut [u8
         return refused(23);
     }
     let mut table = [0u64; 64];
-    let unread = read_sets(&mut table, rival_sets, n);
+    let unread = read_sets(&mut table, rivals, n);
     if unread != 0 {
         return refused(unread);
     }

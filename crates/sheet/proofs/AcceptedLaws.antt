@@ -221,7 +221,7 @@ range-of n m owner own other others e =
       (ltb-false n owner (b .0), (ltb-false n other (c .0), (ltb-false m own (d .0), ltb-false m others (d .1)))),
     )
 
-fields-of : (n m owner own other others : ℕ) → fieldsRefusal n m owner own other others ≡ 0 → ConstraintAccepted n m owner own other others
+pub fields-of : (n m owner own other others : ℕ) → fieldsRefusal n m owner own other others ≡ 0 → ConstraintAccepted n m owner own other others
 unfolding fieldsRefusal
 fields-of n m owner own other others e =
     let ten = when-none 9 (not (inRange n m owner own other others)) _ e in

@@ -1,6 +1,6 @@
 -- The numbers of the call: which it gives, and what a call without one is known to be. Assumes nothing.
 use Prim.Native.Nat.{ℕ, zero, suc, _*_, _<_, _≤_}
-use borrow.Author.Tests.{eq-eqb, ne-eqb, eqb-true, eqb-false, lt-ltb, le-ltb, ltb-false, not-false}
+use borrow.Author.Tests.{eq-eqb, ne-eqb, eqb-true, lt-ltb, le-ltb, ltb-false, not-false}
 use mathlib.Core.Bool.{Bool, true, false, not, _||_}
 use mathlib.Core.List.{List}
 use mathlib.Core.Logic.{_⊎_, ⊎-elim}
@@ -11,22 +11,9 @@ use lib.ListN.{length}
 use Rattle.basis.specs.First.{_when_otherwise_, orElse}
 use Rattle.basis.specs.Tests.{anyBelow}
 use Rattle.basis.proofs.FirstLaws.{orElse-none, orElse-right, when-none}
+use Rattle.basis.proofs.NumberLaws.{outside, inside, from-inside}
 use Rattle.basis.proofs.TestLaws.{or-left, or-right, or-none, or-fails, not-holds, any-at, any-none, none-any}
 use Rattle.slot_terms.specs.SlotTerms.{barFor, slotTerms, ownerRefusal, profileRefusal, slotTermsRefusal, OwnerFits, TermsFit}
-
--- a number from 1 to a largest one, and any other
-outside : (x most : ℕ) → (x ≡ 0) ⊎ (most < x) → (eqb x 0 || ltb most x) ≡ true
-outside x most bad =
-    ⊎-elim (λ (e : x ≡ 0). or-left (ltb most x) (eq-eqb x 0 e)) (λ (l : most < x). or-right (eqb x 0) (lt-ltb most x l)) bad
-
-inside : (x most : ℕ) → 0 < x → x ≤ most → (eqb x 0 || ltb most x) ≡ false
-inside x most some within = or-fails (ne-eqb x 0 (omega arith)) (le-ltb most x within)
-
-from-inside : (x most : ℕ) → (eqb x 0 || ltb most x) ≡ false → (0 < x) × (x ≤ most)
-from-inside x most e =
-    let parts = or-none (eqb x 0) (ltb most x) e in
-    let some : x ≡ 0 → ⊥ = eqb-false x 0 (parts .0) in
-    (omega arith, ltb-false most x (parts .1))
 
 -- 4, 5 and 16: none exactly where n, m and the owner fit
 pub owner-none : (n m owner : ℕ) → OwnerFits n m owner → ownerRefusal n m owner ≡ 0
@@ -55,6 +42,20 @@ fits-owner n m owner e =
       some-owner = own .0;
       most-owner = own .1;
     }
+
+-- and each where it applies
+module _ (n m owner : ℕ) where
+  pub owner-four : (n ≡ 0) ⊎ (64 < n) → ownerRefusal n m owner ≡ 4
+  unfolding ownerRefusal
+  owner-four bad = simp (outside n 64 bad)
+
+  pub owner-five : 0 < n → n ≤ 64 → (m ≡ 0) ⊎ (16 < m) → ownerRefusal n m owner ≡ 5
+  unfolding ownerRefusal
+  owner-five some most bad = simp (inside n 64 some most, outside m 16 bad)
+
+  pub owner-sixteen : 0 < n → n ≤ 64 → 0 < m → m ≤ 16 → (owner ≡ 0) ⊎ (n < owner) → ownerRefusal n m owner ≡ 16
+  unfolding ownerRefusal
+  owner-sixteen some most some-m most-m bad = simp (inside n 64 some most, inside m 16 some-m most-m, outside owner n bad)
 
 -- and 20 to 22: none exactly where the limit and the bars do
 module _ (n m owner limit : ℕ) (bars : List ℕ) where
@@ -125,16 +126,13 @@ module _ (n m owner limit : ℕ) (bars out : List ℕ) where
   profile-first k fits e = owner-passed fits ∙ ap (λ (a : ℕ). orElse a roomNumber) e
 
   pub four : (n ≡ 0) ⊎ (64 < n) → slotTermsRefusal n m owner limit bars out ≡ 4
-  unfolding ownerRefusal
-  four bad = owner-first 3 (simp (outside n 64 bad))
+  four bad = owner-first 3 (owner-four n m owner bad)
 
   pub five : 0 < n → n ≤ 64 → (m ≡ 0) ⊎ (16 < m) → slotTermsRefusal n m owner limit bars out ≡ 5
-  unfolding ownerRefusal
-  five some most bad = owner-first 4 (simp (inside n 64 some most, outside m 16 bad))
+  five some most bad = owner-first 4 (owner-five n m owner some most bad)
 
   pub sixteen : 0 < n → n ≤ 64 → 0 < m → m ≤ 16 → (owner ≡ 0) ⊎ (n < owner) → slotTermsRefusal n m owner limit bars out ≡ 16
-  unfolding ownerRefusal
-  sixteen some most some-m most-m bad = owner-first 15 (simp (inside n 64 some most, inside m 16 some-m most-m, outside owner n bad))
+  sixteen some most some-m most-m bad = owner-first 15 (owner-sixteen n m owner some most some-m most-m bad)
 
   pub twenty : OwnerFits n m owner → (limit ≡ 0) ⊎ (m < limit) → slotTermsRefusal n m owner limit bars out ≡ 20
   unfolding profileRefusal

@@ -12,7 +12,7 @@ use lib.Dec.{ltb}
 use lib.ListN.{length, getD, drop, length-append}
 use lib.Seq.{sets}
 use Rattle.basis.specs.Bytes.{bytes32}
-use Rattle.basis.specs.First.{_when_otherwise_}
+use Rattle.basis.specs.First.{_when_otherwise_, unlessRefused}
 use Rattle.basis.specs.Rows.{row, joined}
 use Rattle.basis.proofs.BytesLaws.{length-bytes32, word-bytes}
 use Rattle.basis.proofs.FirstLaws.{orElse-left, orElse-right, refused-leaves, answered-gives}
@@ -94,12 +94,17 @@ words-quads word a b c d n low =
     (λ k l. let here = low k l in ap bytes32 (here .4) ∙ word-quad (a k) (b k) (c k) (d k) (here .0) (here .1) (here .2) (here .3))
     ∙ sym (quads-row (λ k. on (a k) (b k) (c k) (d k)) n)
 
+-- those of one other bidder at places 1 to its last, with the owner at one place or any
+pub others-words : (owner own other last : ℕ) → owner ≤ 64 → own ≤ 16 → other ≤ 64 → last ≤ 16 →
+    joined (λ k. bytes32 (wordOf owner own other 1 + 16777216 * k)) last ≡ quads (row (λ k. on owner own other (suc k)) last)
+others-words owner own other last ho hp hj hl =
+    words-quads (λ k. wordOf owner own other 1 + 16777216 * k) (λ k. owner) (λ k. own) (λ k. other) (λ k. suc k) last
+    (λ k l. (omega arith, omega arith, omega arith, omega arith, omega arith))
+
 pub barred-words : (owner other bar : ℕ) → owner ≤ 64 → other ≤ 64 → bar ≤ 16 →
     joined (λ k. bytes32 (wordOf owner 0 other 1 + 16777216 * k)) bar ≡ quads (barred owner other bar)
 unfolding barred
-barred-words owner other bar ho hj hb =
-    words-quads (λ k. wordOf owner 0 other 1 + 16777216 * k) (λ k. owner) (λ k. 0) (λ k. other) (λ k. suc k) bar
-    (λ k l. (omega arith, omega arith, omega arith, omega arith, omega arith))
+barred-words owner other bar ho hj hb = others-words owner 0 other bar ho (omega arith) hj hb
 
 pub beyond-words : (m owner limit : ℕ) → m ≤ 16 → owner ≤ 64 →
     joined (λ k. bytes32 (wordOf owner (limit + 1) 0 0 + 256 * k)) (m - limit) ≡ quads (beyond m owner limit)
@@ -129,15 +134,41 @@ quads-then xs ys out start end e =
     ∙ sets-then (quads xs) (quads ys) out start
     ∙ ap (sets out start) (sym (quads-append xs ys))
 
--- those of one bar more,
+-- those of lists one after another where the lists before them end,
+pub quads-next : (f : ℕ → List Condition) (out : List ℕ) (start at k : ℕ) → at ≡ start + 4 * length (joined f k) →
+    sets (sets out start (quads (joined f k))) at (quads (f k)) ≡ sets out start (quads (joined f (k + 1)))
+unfolding joined
+quads-next f out start at k e =
+    quads-then (joined f k) (f k) out start at e ∙ ap (λ (n : ℕ). sets out start (quads (joined f n))) (sym (add-one k))
+
+-- so those of one bar more
 pub barred-next : (owner : ℕ) (bars out : List ℕ) (start at i : ℕ) → at ≡ start + 4 * barsTo bars i →
     sets (sets out start (quads (allBarred owner bars i))) at (quads (barred owner (i + 1) (getD bars i 0)))
     ≡ sets out start (quads (allBarred owner bars (i + 1)))
-unfolding joined barFor
+unfolding barFor
 barred-next owner bars out start at i e =
     ap (λ (j : ℕ). sets (sets out start (quads (allBarred owner bars i))) at (quads (barred owner j (getD bars i 0)))) (add-one i)
-    ∙ quads-then (allBarred owner bars i) (barred owner (suc i) (getD bars i 0)) out start at (let size = length-all-barred owner bars i in omega arith)
-    ∙ ap (λ (n : ℕ). sets out start (quads (allBarred owner bars n))) (sym (add-one i))
+    ∙ quads-next (λ j. barred owner (suc j) (barFor bars (suc j))) out start at i (let size = length-all-barred owner bars i in omega arith)
+
+-- What a call that writes conditions leaves: nothing where it is refused, and else the conditions.
+module _ (number : ℕ) (terms : List Condition) (out : List ℕ) where
+  pub refused-left : (returned : Written) (k : ℕ) → returned ≡ record { refusal = k; count = 0 } → k ≡ number → (k ≡ 0 → ⊥) →
+      (returned .refusal ≡ number)
+      × (returned .count ≡ unlessRefused number (length terms) 0)
+      × (out ≡ unlessRefused number (conditionsBuffer terms out) out)
+  refused-left returned k e same h = (
+    ap (λ (t : Written). t .refusal) e ∙ same,
+    ap (λ (t : Written). t .count) e ∙ refused-leaves number k (length terms) 0 same h,
+    refused-leaves number k (conditionsBuffer terms out) out same h,
+  )
+
+  pub terms-left : number ≡ 0 → 4 * length terms ≤ length out → sets out 0 (quads terms) ≡ unlessRefused number (conditionsBuffer terms out) out
+  unfolding conditionsBuffer
+  terms-left none room =
+      let long = length-quads terms in
+      sets-front (quads terms) out (omega arith)
+      ∙ ap (λ (k : ℕ). quads terms ++ drop k out) long
+      ∙ answered-gives number (conditionsBuffer terms out) out none
 
 -- The call's ways out: a number, and the conditions.
 module _ (n m owner limit : ℕ) (bars out : List ℕ) where
@@ -150,11 +181,8 @@ module _ (n m owner limit : ℕ) (bars out : List ℕ) where
   left : (returned : Written) (k : ℕ) → returned ≡ record { refusal = k; count = 0 } → k ≡ number → (k ≡ 0 → ⊥) →
       SlotTermsWritten n m owner limit bars out returned out
   left returned k e same h =
-      record {
-        number = ap (λ (t : Written). t .refusal) e ∙ same;
-        count = ap (λ (t : Written). t .count) e ∙ refused-leaves number k (length terms) 0 same h;
-        buffer = refused-leaves number k (conditionsBuffer terms out) out same h;
-      }
+      let parts = refused-left number terms out returned k e same h in
+      record { number = parts .0; count = parts .1; buffer = parts .2 }
 
   pub owner-refused : (returned : Written) (k : ℕ) → returned ≡ record { refusal = k; count = 0 } → k ≡ ownerRefusal n m owner → (k ≡ 0 → ⊥) →
       SlotTermsWritten n m owner limit bars out returned out
@@ -196,13 +224,12 @@ module _ (n m owner limit : ℕ) (bars out : List ℕ) where
           at ≡ 4 * barsTo bars (length bars) → front ≡ sets out 0 (quads (allBarred owner bars (length bars))) →
           word ≡ wordOf owner (limit + 1) 0 0 → runs ≡ m - limit → whole ≡ sets front at (joined (λ k. bytes32 (word + 256 * k)) runs) →
           SlotTermsWritten n m owner limit bars out (record { refusal = 0; count = count }) whole
-      unfolding conditionsBuffer slotTerms
+      unfolding slotTerms
       terms-written front whole at count word runs e room place f g h w =
           let fits = fits-owner n m owner owned in
           let size = many in
           let all = as-many in
           let none : number ≡ 0 = last-test ∙ simp (le-ltb (length out) (4 * length terms) (omega arith)) in
-          let long = length-quads terms in
           record {
             number = sym none;
             count = e ∙ size ∙ answered-gives number (length terms) 0 none;
@@ -213,7 +240,5 @@ module _ (n m owner limit : ℕ) (bars out : List ℕ) where
                 ∙ quads-then (allBarred owner bars (length bars)) (beyond m owner limit) out 0 at
                 (let bars-many = length-all-barred owner bars (length bars) in omega arith)
                 ∙ ap (λ (k : ℕ). sets out 0 (quads (allBarred owner bars k ++ beyond m owner limit))) all
-                ∙ sets-front (quads terms) out (omega arith)
-                ∙ ap (λ (k : ℕ). quads terms ++ drop k out) long
-                ∙ answered-gives number (conditionsBuffer terms out) out none;
+                ∙ terms-left number terms out none (omega arith);
           }

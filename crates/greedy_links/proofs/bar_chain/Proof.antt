@@ -6,6 +6,7 @@ use mathlib.Core.Path.{_≡_, sym, _∙_, ap}
 use native.Mathlib.Omega.{arith}
 use lib.Dec.{eqb}
 use lib.ListN.{length, getD}
+use Rattle.basis.proofs.NumberLaws.{eqb-turned}
 use Rattle.basis.proofs.TestLaws.{or-assoc}
 use Rattle.sheet.specs.declared.Round.{Round}
 use Rattle.sheet.specs.Sheet.{constraintCount}
@@ -13,7 +14,7 @@ use Rattle.sheet.specs.Round.{roundOf}
 use Rattle.greedy_links.specs.EngineKeys.{isMarked}
 use Rattle.greedy_links.specs.EngineLinks.{linkOwner, someOwner}
 use Rattle.greedy_links.proofs.KeyLaws.{owner-within}
-use Rattle.greedy_links.proofs.LinkLaws.{eqb-turned, Walking, walk-start, all-from-last, link-fits, walk-next, one-then-rest, none-left}
+use Rattle.greedy_links.proofs.LinkLaws.{Walking, walk-start, all-from-last, link-fits, walk-next, one-then-rest, none-left}
 use borrow.Author.Needs.{needs}
 use Rattle.greedy_links.proofs.bar_chain.Statement.{statement}
 use Rattle.greedy_links.proofs.bar_chain.Tie as tie

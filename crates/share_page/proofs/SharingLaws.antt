@@ -1,0 +1,518 @@
+-- Again and again the lowest member that nobody left names: this finds the first order in the dictionary that puts each above every rival of its own, and where
+-- it is stuck there is none. So it gives what trying all orders gives. Assumes nothing.
+use Prim.Native.Nat.{ℕ, zero, suc, _+_, _<_, _≤_}
+use borrow.Author.Tests.{eq-eqb, ne-eqb, not-true, lt-ltb, ltb-true}
+use mathlib.Core.Bool.{Bool, true, false, cond, not, _&&_, _||_}
+use mathlib.Core.List.{List, [], _∷_, _++_, List·Memᴰ, List·Memᴰ·head, List·Memᴰ·tail, List·Memᴰ·cases-cons, List·Memᴰ·not-nil, List·Memᴰ·eq-of-singleton}
+use mathlib.Core.Logic.{_⊎_, inl, inr, ⊎-elim}
+use mathlib.Core.Path.{_≡_, refl, sym, _∙_, ap, ap₂, subst}
+use native.Mathlib.Nat.{eq-or-lt-of-le, le-of-suc-le-suc, not-suc-le-zero}
+use native.Mathlib.Omega.{arith}
+use lib.Dec.{eqb, ltb}
+use lib.ListN.{length, getD}
+use Rattle.basis.specs.Rows.{row, joined}
+use Rattle.basis.specs.Tests.{allBelow, least}
+use Rattle.basis.proofs.CountLaws as counts
+use Rattle.basis.proofs.NumberLaws.{same-or-not, below-or-not}
+use Rattle.basis.proofs.RisingLaws.{mem-at, at-mem, mem-joined, rising-next}
+use Rattle.basis.proofs.RowLaws.{row-head, row-same}
+use Rattle.basis.proofs.TestLaws.{
+  holds-or-fails,
+  not-both,
+  fails,
+  same-tests,
+  and-holds,
+  and-parts,
+  or-left,
+  or-right,
+  or-parts,
+  or-assoc,
+  or-fails,
+  not-holds,
+  any-at,
+  any-where,
+  all-at,
+  at-all,
+  all-head,
+  all-same,
+  least-before,
+  least-passes,
+}
+use Rattle.sheet.proofs.OrderLaws.{rising-over}
+use Rattle.bidder_sets.specs.EngineSets.{listed}
+use Rattle.bidder_sets.proofs.ListedLaws.{listed-where, listed-there, listed-rises}
+use Rattle.share_page.specs.SharePage.{without, headed, ordersOf, putsAbove, someOf, firstOf, OrderOf, Earlier, FirstOrder}
+use Rattle.share_page.specs.EngineShare.{namedIn, firstIn, nextIn, leftAfter, turns, allFound}
+use Rattle.share_page.proofs.GoodLaws.{without-parts, without-holds, count, count-without, Ordered, Free, Good, order-good, good-order, others-good}
+
+-- none of an empty set
+count-none : (f : ℕ → Bool) (n : ℕ) → ((b : ℕ) → f b ≡ false) → count f n ≡ 0
+count-none f n none = counts.count-none (λ i. f (suc i)) n (λ i l. none (suc i))
+
+-- What `putsAbove` tests, by index.
+module _ (named : ℕ → ℕ → Bool) (l : List ℕ) where
+  abbrev Above : Type 0
+  Above = (j k : ℕ) → j < length l → k < length l → named (getD l j 0) (getD l k 0) ≡ true → j < k
+
+  above-where : putsAbove named l ≡ true → Above
+  unfolding putsAbove
+  above-where t j k h h′ e =
+      ⊎-elim
+      (λ (x : not (named (getD l j 0) (getD l k 0)) ≡ true). absurd (not-both e (not-true (named (getD l j 0) (getD l k 0)) x)))
+      (λ (x : ltb j k ≡ true). ltb-true j k x)
+      (or-parts (not (named (getD l j 0) (getD l k 0))) (ltb j k)
+      (all-at (λ k. not (named (getD l j 0) (getD l k 0)) || ltb j k) (length l)
+      (all-at (λ j. allBelow (λ k. not (named (getD l j 0) (getD l k 0)) || ltb j k) (length l)) (length l) t j h) k h′))
+
+  above-there : Above → putsAbove named l ≡ true
+  unfolding putsAbove
+  above-there a =
+      at-all (λ j. allBelow (λ k. not (named (getD l j 0) (getD l k 0)) || ltb j k) (length l)) (length l)
+      (λ j h.
+      at-all (λ k. not (named (getD l j 0) (getD l k 0)) || ltb j k) (length l)
+      (λ k h′.
+      ⊎-elim
+      (λ (e : named (getD l j 0) (getD l k 0) ≡ true). or-right (not (named (getD l j 0) (getD l k 0))) (lt-ltb j k (a j k h h′ e)))
+      (λ (e : named (getD l j 0) (getD l k 0) ≡ false). or-left (ltb j k) (not-holds e))
+      (holds-or-fails (named (getD l j 0) (getD l k 0)))))
+
+-- Some list, and the first, of several that pass a test.
+module _ (P : List ℕ → Bool) where
+  some-where : (ls : List (List ℕ)) → someOf P ls ≡ true → (l : List ℕ) × List·Memᴰ l ls × (P l ≡ true)
+  unfolding someOf
+  some-where [] t = absurd (not-both t refl)
+  some-where (l ∷ ls) t =
+      ⊎-elim
+      (λ (h : P l ≡ true). (l, List·Memᴰ·head refl, h))
+      (λ (h : someOf P ls ≡ true). let w = some-where ls h in (w .0, List·Memᴰ·tail (w .1), w .2))
+      (or-parts (P l) (someOf P ls) t)
+
+  some-append : (xs ys : List (List ℕ)) → someOf P (xs ++ ys) ≡ (someOf P xs || someOf P ys)
+  unfolding someOf
+  some-append [] ys = refl
+  some-append (x ∷ xs) ys = ap (λ (t : Bool). P x || t) (some-append xs ys) ∙ sym (or-assoc (P x) (someOf P xs) (someOf P ys))
+
+  first-append : (xs ys : List (List ℕ)) → firstOf P (xs ++ ys) ≡ cond (someOf P xs) (firstOf P xs) (firstOf P ys)
+  unfolding someOf firstOf
+  first-append [] ys = refl
+  first-append (x ∷ xs) ys = ap (cond (P x) x) (first-append xs ys) ∙ either-way (P x) (someOf P xs)
+    where
+      either-way : (s t : Bool) → cond s x (cond t (firstOf P xs) (firstOf P ys)) ≡ cond (s || t) (cond s x (firstOf P xs)) (firstOf P ys)
+      either-way true t = refl
+      either-way false t = refl
+
+  -- of lists one after another, where none of the first i has one that passes and the next one has
+  module _ (g : ℕ → List (List ℕ)) (i : ℕ) (none : (j : ℕ) → j < i → someOf P (g j) ≡ false) (here : someOf P (g i) ≡ true) where
+    none-before : (k : ℕ) → k ≤ i → someOf P (joined g k) ≡ false
+    unfolding joined someOf
+    none-before zero l = refl
+    none-before (suc k) l = some-append (joined g k) (g k) ∙ or-fails (none-before k (omega arith)) (none k l)
+
+    pub first-joined : (n : ℕ) → i < n → (someOf P (joined g n) ≡ true) × (firstOf P (joined g n) ≡ firstOf P (g i))
+    unfolding joined
+    first-joined zero l = absurd (not-suc-le-zero l)
+    first-joined (suc n) l =
+        ⊎-elim
+        (λ (e : i ≡ n).
+        let before = none-before n (omega arith) in
+        let same = ap g e in (
+          some-append (joined g n) (g n) ∙ or-right (someOf P (joined g n)) (ap (someOf P) (sym same) ∙ here),
+          first-append (joined g n) (g n) ∙ ap (λ (t : Bool). cond t (firstOf P (joined g n)) (firstOf P (g n))) before ∙ ap (firstOf P) (sym same),
+        ))
+        (λ (h : i < n).
+        let before = first-joined n h in (
+          some-append (joined g n) (g n) ∙ or-left (someOf P (g n)) (before .0),
+          first-append (joined g n) (g n) ∙ ap (λ (t : Bool). cond t (firstOf P (joined g n)) (firstOf P (g n))) (before .0) ∙ before .1,
+        ))
+        (eq-or-lt-of-le (le-of-suc-le-suc l))
+
+  -- of lists with one number before each, where that number makes no difference
+  headed-same : (x : ℕ) (ls : List (List ℕ)) → ((l : List ℕ) → List·Memᴰ l ls → P (x ∷ l) ≡ P l) → someOf P ls ≡ true →
+      (someOf P (headed x ls) ≡ true) × (firstOf P (headed x ls) ≡ x ∷ firstOf P ls)
+  unfolding someOf firstOf headed
+  headed-same x [] same t = absurd (not-both t refl)
+  headed-same x (l ∷ ls) same t =
+      let e = same l (List·Memᴰ·head refl) in
+      ⊎-elim
+      (λ (h : P l ≡ true). (
+        or-left (someOf P (headed x ls)) (e ∙ h),
+        ap (λ (s : Bool). cond s (x ∷ l) (firstOf P (headed x ls))) (e ∙ h) ∙ sym (ap (λ (s : Bool). x ∷ cond s l (firstOf P ls)) h),
+      ))
+      (λ (h : P l ≡ false).
+      let rest = headed-same x ls (λ l m. same l (List·Memᴰ·tail m)) (sym (ap (λ (s : Bool). s || someOf P ls) h) ∙ t) in (
+        or-right (P (x ∷ l)) (rest .0),
+        ap (λ (s : Bool). cond s (x ∷ l) (firstOf P (headed x ls))) (e ∙ h) ∙ rest .1 ∙ sym (ap (λ (s : Bool). x ∷ cond s l (firstOf P ls)) h),
+      ))
+      (holds-or-fails (P l))
+
+headed-where : (x : ℕ) (ls : List (List ℕ)) (l : List ℕ) → List·Memᴰ l (headed x ls) → (l′ : List ℕ) × List·Memᴰ l′ ls × (l ≡ x ∷ l′)
+unfolding headed
+headed-where x [] l h = absurd (List·Memᴰ·not-nil h)
+headed-where x (y ∷ ls) l h =
+    ⊎-elim
+    (λ (e : l ≡ x ∷ y). (y, List·Memᴰ·head refl, e))
+    (λ (m : List·Memᴰ l (headed x ls)). let w = headed-where x ls l m in (w .0, List·Memᴰ·tail (w .1), w .2))
+    (List·Memᴰ·cases-cons h)
+
+-- An order, head first, that passes the test is a good one, and a good one is an order that passes.
+module _ (named : ℕ → ℕ → Bool) where
+  good-ordered : (f : ℕ → Bool) (l : List ℕ) → Good named f l → Ordered f l
+  good-ordered f [] g = g
+  good-ordered f (x ∷ l) g = (g .0, good-ordered (without f x) l (g .2))
+
+  good-passes : (f : ℕ → Bool) (l : List ℕ) → Good named f l → putsAbove named l ≡ true
+  good-passes f l g = above-there named l (good-order named f l g .above)
+
+  tail-above : (x : ℕ) (l : List ℕ) → putsAbove named (x ∷ l) ≡ true → putsAbove named l ≡ true
+  tail-above x l t = above-there named l (λ j k h h′ e. (let z = above-where named (x ∷ l) t (suc j) (suc k) (omega arith) (omega arith) e in omega arith))
+
+  -- each member of an ordered set has an index
+  ordered-at : (f : ℕ → Bool) (l : List ℕ) → Ordered f l → (b : ℕ) → f b ≡ true → (k : ℕ) × (k < length l) × (getD l k 0 ≡ b)
+  ordered-at f [] o b t = absurd (not-both t (o b))
+  ordered-at f (x ∷ l) o b t =
+      ⊎-elim
+      (λ (e : b ≡ x). (0, omega arith, sym e))
+      (λ (d : b ≡ x → ⊥). let w = ordered-at (without f x) l (o .1) b (without-holds f x b t d) in (suc (w .0), (let h = w .1 in omega arith), w .2))
+      (same-or-not b x)
+
+  ordered-good : (f : ℕ → Bool) (l : List ℕ) → Ordered f l → putsAbove named l ≡ true → Good named f l
+  ordered-good f [] o t = o
+  ordered-good f (x ∷ l) o t = (
+    o .0,
+    (λ j u.
+        fails (named j x)
+        (λ v.
+        let w = ordered-at f (x ∷ l) o j u in
+        not-suc-le-zero (above-where named (x ∷ l) t (w .0) 0 (w .1) (omega arith) (subst (λ (y : ℕ). named y x ≡ true) (sym (w .2)) v)))),
+    ordered-good (without f x) l (o .1) (tail-above x l t),
+  )
+
+module _ (named : ℕ → ℕ → Bool) (n : ℕ) (member : ℕ → Bool) (within : (b : ℕ) → member b ≡ true → (0 < b) × (b ≤ n)) where
+  -- the members in rising order, and sets of some of them
+  abbrev L : List ℕ
+  L = listed member n
+
+  abbrev Within : (ℕ → Bool) → Type 0
+  Within f = (b : ℕ) → f b ≡ true → member b ≡ true
+
+  within-without : (f : ℕ → Bool) (x : ℕ) → Within f → Within (without f x)
+  within-without f x w b t = w b (without-parts f x b t .0)
+
+  index-of : (b : ℕ) → member b ≡ true → (k : ℕ) × (k < length L) × (getD L k 0 ≡ b)
+  index-of b t = let h = within b t in mem-at L 0 b (listed-there member n b t (h .0) (h .1))
+
+  some-at : (k : ℕ) → k < length L → 0 < getD L k 0
+  some-at k l = listed-where member n (getD L k 0) (at-mem L 0 k l) .1
+
+  rises-at : (j k : ℕ) → j < k → k < length L → getD L j 0 < getD L k 0
+  rises-at = rising-over (λ k. getD L k 0) (length L) (rising-next (λ (x : ℕ). x) 1 (suc n) L 0 (listed-rises member n))
+
+  -- The first of the members that passes a test
+  past-end : (l : List ℕ) (k : ℕ) → length l ≤ k → getD l k 0 ≡ 0
+  past-end [] k h = refl
+  past-end (x ∷ l) zero h = absurd (omega arith)
+  past-end (x ∷ l) (suc k) h = past-end l k (omega arith)
+
+  module _ (test : ℕ → Bool) where
+    abbrev place : ℕ
+    place = least (λ k. test (getD L k 0)) (length L)
+
+    first-passes : (firstIn L test ≡ 0 → ⊥) → test (firstIn L test) ≡ true
+    unfolding firstIn
+    first-passes some =
+        ⊎-elim
+        (λ (l : place < length L). least-passes (λ k. test (getD L k 0)) (length L) l)
+        (λ (l : length L ≤ place). absurd (some (past-end L place l)))
+        (below-or-not place (length L))
+
+    first-least : (x : ℕ) → member x ≡ true → test x ≡ true → (0 < firstIn L test) × (firstIn L test ≤ x)
+    unfolding firstIn
+    first-least x m t =
+        let w = index-of x m in
+        let inside = w .1 in
+        let at = w .2 in
+        ⊎-elim
+        (λ (l : w .0 < place). absurd (not-both (ap test at ∙ t) (least-before (λ k. test (getD L k 0)) (length L) (w .0) l)))
+        (λ (l : place ≤ w .0). (
+          some-at place (omega arith),
+          ⊎-elim
+              (λ (e : place ≡ w .0). let same = ap (λ (k : ℕ). getD L k 0) e in omega arith)
+              (λ (lt : place < w .0). let less = rises-at place (w .0) lt inside in omega arith)
+              (eq-or-lt-of-le l),
+        ))
+        (below-or-not (w .0) place)
+
+  -- whom somebody left names
+  named-there : (f : ℕ → Bool) → Within f → (j x : ℕ) → f j ≡ true → named j x ≡ true → namedIn named L f x ≡ true
+  unfolding namedIn
+  named-there f w j x t u =
+      let v = index-of j (w j t) in
+      any-at (λ k. f (getD L k 0) && named (getD L k 0) x) (length L) (v .0) (v .1)
+      (subst (λ (y : ℕ). (f y && named y x) ≡ true) (sym (v .2)) (and-holds t u))
+
+  named-where : (f : ℕ → Bool) (x : ℕ) → namedIn named L f x ≡ true → (j : ℕ) × (f j ≡ true) × (named j x ≡ true)
+  unfolding namedIn
+  named-where f x t =
+      let v = any-where (λ k. f (getD L k 0) && named (getD L k 0) x) (length L) t in
+      let both = and-parts (f (getD L (v .0) 0)) (named (getD L (v .0) 0) x) (v .2) in
+      (getD L (v .0) 0, both .0, both .1)
+
+  -- the next one is left, nobody left names it, and it is the lowest such
+  next-free : (f : ℕ → Bool) → Within f → (nextIn named L f ≡ 0 → ⊥) → (f (nextIn named L f) ≡ true) × Free named f (nextIn named L f)
+  unfolding nextIn
+  next-free f w some =
+      let p = nextIn named L f in
+      let parts = and-parts (f p) (not (namedIn named L f p)) (first-passes (λ x. f x && not (namedIn named L f x)) some) in
+      (parts .0, λ j t. fails (named j p) (λ u. not-both (named-there f w j p t u) (not-true (namedIn named L f p) (parts .1))))
+
+  next-lowest : (f : ℕ → Bool) → Within f → (x : ℕ) → f x ≡ true → Free named f x → (0 < nextIn named L f) × (nextIn named L f ≤ x)
+  unfolding nextIn
+  next-lowest f w x t free =
+      first-least (λ x. f x && not (namedIn named L f x)) x (w x t)
+      (and-holds t
+      (not-holds
+      (fails (namedIn named L f x) (λ u. let v = named-where f x u in not-both (v .2) (free (v .0) (v .1))))))
+
+  -- The turns, head first, and whether each finds one.
+  taken : ℕ → (ℕ → Bool) → List ℕ
+  taken zero f = []
+  taken (suc c) f = nextIn named L f ∷ taken c (without f (nextIn named L f))
+
+  goes : ℕ → (ℕ → Bool) → Bool
+  goes zero f = true
+  goes (suc c) f = not (eqb (nextIn named L f) 0) && goes c (without f (nextIn named L f))
+
+  found-one : (f : ℕ → Bool) → not (eqb (nextIn named L f) 0) ≡ true → nextIn named L f ≡ 0 → ⊥
+  found-one f t e = not-both t (ap not (eq-eqb (nextIn named L f) 0 e))
+
+  -- one member fewer
+  one-fewer : (f : ℕ → Bool) (x c : ℕ) → Within f → f x ≡ true → count f n ≡ suc c → count (without f x) n ≡ c
+  one-fewer f x c w t e = let h = within x (w x t) in let less = count-without f x n (h .0) (h .1) t in omega arith
+
+  none-left : (f : ℕ → Bool) → Within f → count f n ≡ 0 → (b : ℕ) → f b ≡ false
+  none-left f w e b = fails (f b) (λ t. let h = within b (w b t) in let less = count-without f b n (h .0) (h .1) t in absurd (omega arith))
+
+  taken-good : (c : ℕ) (f : ℕ → Bool) → Within f → count f n ≡ c → goes c f ≡ true → Good named f (taken c f)
+  unfolding taken goes
+  taken-good zero f w e g = none-left f w e
+  taken-good (suc c) f w e g =
+      let p = nextIn named L f in
+      let parts = and-parts (not (eqb p 0)) (goes c (without f p)) g in
+      let open-one = next-free f w (found-one f (parts .0)) in
+      (open-one .0, open-one .1, taken-good c (without f p) (within-without f p w) (one-fewer f p c w (open-one .0) e) (parts .1))
+
+  -- no good order comes before it in the dictionary
+  later : (x : ℕ) (l l′ : List ℕ) → Earlier l l′ → Earlier (x ∷ l) (x ∷ l′)
+  later x l l′ s =
+      record {
+        index = suc (s .index);
+        inside = (let h = s .inside in omega arith);
+        inside′ = (let h = s .inside′ in omega arith);
+        smaller = s .smaller;
+        same = same;
+      }
+    where
+      same : (j : ℕ) → j < suc (s .index) → getD (x ∷ l) j 0 ≡ getD (x ∷ l′) j 0
+      same zero u = refl
+      same (suc j) u = s .same j (omega arith)
+
+  taken-first : (c : ℕ) (f : ℕ → Bool) → Within f → count f n ≡ c → goes c f ≡ true → (l : List ℕ) → Good named f l →
+      (taken c f ≡ l) ⊎ Earlier (taken c f) l
+  unfolding taken goes
+  taken-first zero f w e g [] h = inl refl
+  taken-first zero f w e g (x ∷ l) h = absurd (not-both (h .0) (none-left f w e x))
+  taken-first (suc c) f w e g [] h = let y = count-none f n h in absurd (omega arith)
+  taken-first (suc c) f w e g (x ∷ l) h =
+      let p = nextIn named L f in
+      let parts = and-parts (not (eqb p 0)) (goes c (without f p)) g in
+      let open-one = next-free f w (found-one f (parts .0)) in
+      ⊎-elim
+      (λ (q : p ≡ x).
+      ⊎-elim
+      (λ (s : taken c (without f p) ≡ l). inl (ap₂ _∷_ q s))
+      (λ (s : Earlier (taken c (without f p)) l).
+      inr (subst (λ (y : ℕ). Earlier (p ∷ taken c (without f p)) (y ∷ l)) q (later p (taken c (without f p)) l s)))
+      (taken-first c (without f p) (within-without f p w) (one-fewer f p c w (open-one .0) e) (parts .1) l
+      (subst (λ (y : ℕ). Good named (without f y) l) (sym q) (h .2))))
+      (λ (s : p < x).
+      inr
+      (record { index = 0; inside = omega arith; inside′ = omega arith; smaller = s; same = λ j u. absurd (not-suc-le-zero u) }))
+      (eq-or-lt-of-le (next-lowest f w x (h .0) (h .1) .1))
+
+  -- where a good order is, no turn is stuck
+  good-goes : (c : ℕ) (f : ℕ → Bool) → Within f → count f n ≡ c → (l : List ℕ) → Good named f l → goes c f ≡ true
+  unfolding goes
+  good-goes zero f w e l h = refl
+  good-goes (suc c) f w e [] h = let y = count-none f n h in absurd (omega arith)
+  good-goes (suc c) f w e (x ∷ l) h =
+      let p = nextIn named L f in
+      let low = next-lowest f w x (h .0) (h .1) .0 in
+      let some : p ≡ 0 → ⊥ = (λ z. absurd (omega arith)) in
+      let open-one = next-free f w some in
+      let rest = others-good named f p (x ∷ l) h in
+      and-holds (not-holds (ne-eqb p 0 some))
+      (good-goes c (without f p) (within-without f p w) (one-fewer f p c w (open-one .0) e) (rest .0) (rest .1))
+
+  -- The orders that begin with one bidder, where it is a member
+  abbrev beginning : (ℕ → Bool) → ℕ → ℕ → List (List ℕ)
+  beginning f c i = cond (f (suc i)) (headed (suc i) (ordersOf n c (without f (suc i)))) []
+
+  beginning-where : (f : ℕ → Bool) (c i : ℕ) (l : List ℕ) → List·Memᴰ l (beginning f c i) →
+      (f (suc i) ≡ true) × (l′ : List ℕ) × List·Memᴰ l′ (ordersOf n c (without f (suc i))) × (l ≡ suc i ∷ l′)
+  beginning-where f c i l h = by-test (f (suc i)) refl h
+    where
+      by-test : (t : Bool) → f (suc i) ≡ t → List·Memᴰ l (cond t (headed (suc i) (ordersOf n c (without f (suc i)))) []) →
+          (f (suc i) ≡ true) × (l′ : List ℕ) × List·Memᴰ l′ (ordersOf n c (without f (suc i))) × (l ≡ suc i ∷ l′)
+      by-test true e m = let w = headed-where (suc i) (ordersOf n c (without f (suc i))) l m in (e, w .0, w .1, w .2)
+      by-test false e m = absurd (List·Memᴰ·not-nil m)
+
+  -- An order among all is an order of the set,
+  orders-ordered : (c : ℕ) (f : ℕ → Bool) → Within f → count f n ≡ c → (l : List ℕ) → List·Memᴰ l (ordersOf n c f) → Ordered f l
+  unfolding ordersOf
+  orders-ordered zero f w e l h = subst (Ordered f) (sym (List·Memᴰ·eq-of-singleton h)) (none-left f w e)
+  orders-ordered (suc c) f w e l h =
+      let v = mem-joined (beginning f c) n l h in
+      let x = suc (v .0) in
+      let u = beginning-where f c (v .0) l (v .2) in
+      subst (Ordered f) (sym (u .3))
+      (u .0, orders-ordered c (without f x) (within-without f x w) (one-fewer f x c w (u .0) e) (u .1) (u .2))
+
+  -- so one that passes is a good one,
+  passing-good : (c : ℕ) (f : ℕ → Bool) → Within f → count f n ≡ c → (l : List ℕ) → List·Memᴰ l (ordersOf n c f) → putsAbove named l ≡ true → Good named f l
+  passing-good c f w e l h t = ordered-good named f l (orders-ordered c f w e l h) t
+
+  -- and the first that passes is the one that the turns find.
+  module _ (c : ℕ) (f : ℕ → Bool) (w : Within f) (e : count f n ≡ suc c) where
+    -- none of those that begin with a lower bidder passes
+    lower-none : (i : ℕ) → suc i < nextIn named L f → someOf (putsAbove named) (beginning f c i) ≡ false
+    unfolding ordersOf
+    lower-none i less =
+        fails (someOf (putsAbove named) (beginning f c i))
+        (λ t.
+        let v = some-where (putsAbove named) (beginning f c i) t in
+        let u = beginning-where f c i (v .0) (v .1) in
+        let ordered : Ordered f (v .0)
+        = subst (Ordered f) (sym (u .3))
+        (u .0, orders-ordered c (without f (suc i)) (within-without f (suc i) w) (one-fewer f (suc i) c w (u .0) e) (u .1) (u .2)) in
+        let good = subst (Good named f) (u .3) (ordered-good named f (v .0) ordered (v .2)) in
+        let low = next-lowest f w (suc i) (good .0) (good .1) .1 in
+        absurd (omega arith))
+
+    -- with the next one before them, those of the others pass as they do without it
+    no-difference : (nextIn named L f ≡ 0 → ⊥) → (l : List ℕ) → List·Memᴰ l (ordersOf n c (without f (nextIn named L f))) →
+        putsAbove named (nextIn named L f ∷ l) ≡ putsAbove named l
+    no-difference some l h =
+        let p = nextIn named L f in
+        let open-one = next-free f w some in
+        same-tests (putsAbove named (p ∷ l)) (putsAbove named l) (tail-above named p l)
+        (λ t.
+        good-passes named f (p ∷ l)
+        (open-one .0, open-one .1,
+        passing-good c (without f p) (within-without f p w) (one-fewer f p c w (open-one .0) e) l h t))
+
+    by-number : (p : ℕ) → nextIn named L f ≡ p → (p ≡ 0 → ⊥) → someOf (putsAbove named) (ordersOf n c (without f p)) ≡ true →
+        (someOf (putsAbove named) (ordersOf n (suc c) f) ≡ true)
+        × (firstOf (putsAbove named) (ordersOf n (suc c) f) ≡ p ∷ firstOf (putsAbove named) (ordersOf n c (without f p)))
+    unfolding ordersOf
+    by-number zero q some rest = absurd (some refl)
+    by-number (suc i) q some rest =
+        let open-one = next-free f w (λ z. some (sym q ∙ z)) in
+        let here : f (suc i) ≡ true = ap f (sym q) ∙ open-one .0 in
+        let begins : beginning f c i ≡ headed (suc i) (ordersOf n c (without f (suc i)))
+        = ap (λ (t : Bool). cond t (headed (suc i) (ordersOf n c (without f (suc i)))) []) here in
+        let heads =
+        headed-same (putsAbove named) (suc i) (ordersOf n c (without f (suc i)))
+        (subst (λ (x : ℕ). (l : List ℕ) → List·Memᴰ l (ordersOf n c (without f x)) → putsAbove named (x ∷ l) ≡ putsAbove named l) q
+        (no-difference (λ z. some (sym q ∙ z))))
+        rest in
+        let all =
+        first-joined (putsAbove named) (beginning f c) i (λ j l. lower-none j (omega arith)) (ap (someOf (putsAbove named)) begins ∙ heads .0) n
+        (within (suc i) (w (suc i) here) .1) in
+        (all .0, all .1 ∙ ap (firstOf (putsAbove named)) begins ∙ heads .1)
+
+  first-taken : (c : ℕ) (f : ℕ → Bool) → Within f → count f n ≡ c → goes c f ≡ true →
+      (someOf (putsAbove named) (ordersOf n c f) ≡ true) × (firstOf (putsAbove named) (ordersOf n c f) ≡ taken c f)
+  unfolding taken goes ordersOf someOf firstOf putsAbove allBelow
+  first-taken zero f w e g = (refl, refl)
+  first-taken (suc c) f w e g =
+      let p = nextIn named L f in
+      let parts = and-parts (not (eqb p 0)) (goes c (without f p)) g in
+      let some = found-one f (parts .0) in
+      let rest = first-taken c (without f p) (within-without f p w) (one-fewer f p c w (next-free f w some .0) e) (parts .1) in
+      let here = by-number c f w e p refl some (rest .0) in
+      (here .0, here .1 ∙ ap (λ (l : List ℕ). p ∷ l) (rest .1))
+
+  some-goes : (c : ℕ) (f : ℕ → Bool) → Within f → count f n ≡ c → someOf (putsAbove named) (ordersOf n c f) ≡ goes c f
+  some-goes c f w e =
+      same-tests (someOf (putsAbove named) (ordersOf n c f)) (goes c f)
+      (λ t.
+      let v = some-where (putsAbove named) (ordersOf n c f) t in
+      good-goes c f w e (v .0) (passing-good c f w e (v .0) (v .1) (v .2)))
+      (λ g. first-taken c f w e g .0)
+
+  -- The turns in the loop's shape.
+  left-next : (f : ℕ → Bool) (k : ℕ) → leftAfter named L f (suc k) ≡ leftAfter named L (without f (nextIn named L f)) k
+  unfolding leftAfter
+  left-next f zero = refl
+  left-next f (suc k) = ap (λ (g : ℕ → Bool). without g (nextIn named L g)) (left-next f k)
+
+  taken-turns : (c : ℕ) (f : ℕ → Bool) → turns named L f c ≡ taken c f
+  unfolding taken turns row leftAfter
+  taken-turns zero f = refl
+  taken-turns (suc c) f =
+      row-head (λ k. nextIn named L (leftAfter named L f k)) c
+      ∙ ap (λ (l : List ℕ). nextIn named L f ∷ l)
+      (row-same (λ k. nextIn named L (leftAfter named L f (suc k))) (λ k. nextIn named L (leftAfter named L (without f (nextIn named L f)) k)) c
+      (λ i h. ap (nextIn named L) (left-next f i))
+      ∙ taken-turns c (without f (nextIn named L f)))
+
+  goes-found : (c : ℕ) (f : ℕ → Bool) → allFound named L f c ≡ goes c f
+  unfolding goes allFound allBelow leftAfter
+  goes-found zero f = refl
+  goes-found (suc c) f =
+      all-head (λ k. not (eqb (nextIn named L (leftAfter named L f k)) 0)) c
+      ∙ ap (λ (x : Bool). not (eqb (nextIn named L f) 0) && x)
+      (all-same (λ k. not (eqb (nextIn named L (leftAfter named L f (suc k))) 0))
+      (λ k. not (eqb (nextIn named L (leftAfter named L (without f (nextIn named L f)) k)) 0)) c
+      (λ i h. ap (λ (g : ℕ → Bool). not (eqb (nextIn named L g) 0)) (left-next f i))
+      ∙ goes-found c (without f (nextIn named L f)))
+
+  -- What the call needs: trying all orders and taking turns come to the same.
+  all-members : Within member
+  all-members b t = t
+
+  pub some-found : someOf (putsAbove named) (ordersOf n (count member n) member) ≡ allFound named L member (count member n)
+  some-found = some-goes (count member n) member all-members refl ∙ sym (goes-found (count member n) member)
+
+  pub first-found : allFound named L member (count member n) ≡ true →
+      firstOf (putsAbove named) (ordersOf n (count member n) member) ≡ turns named L member (count member n)
+  first-found t =
+      first-taken (count member n) member all-members refl (sym (goes-found (count member n) member) ∙ t) .1
+      ∙ sym (taken-turns (count member n) member)
+
+  -- And what it tells: an order there is exactly where one of all passes, and the first that passes is the first.
+  pub first-order : someOf (putsAbove named) (ordersOf n (count member n) member) ≡ true →
+      FirstOrder named member (firstOf (putsAbove named) (ordersOf n (count member n) member))
+  first-order t =
+      let c = count member n in
+      let g = sym (some-goes c member all-members refl) ∙ t in
+      subst (FirstOrder named member) (sym (first-taken c member all-members refl g .1))
+      (record {
+        order = good-order named member (taken c member) (taken-good c member all-members refl g);
+        first = λ l o. taken-first c member all-members refl g l (order-good named member l o);
+      })
+
+  pub good-some : (l : List ℕ) → Good named member l → someOf (putsAbove named) (ordersOf n (count member n) member) ≡ true
+  good-some l g = some-goes (count member n) member all-members refl ∙ good-goes (count member n) member all-members refl l g
+
+  pub order-some : (l : List ℕ) → OrderOf named member l → someOf (putsAbove named) (ordersOf n (count member n) member) ≡ true
+  order-some l o = good-some l (order-good named member l o)
+
+  -- an order is as long as the set
+  pub good-many : (f : ℕ → Bool) → Within f → (l : List ℕ) → Good named f l → length l ≡ count f n
+  good-many f w [] g = sym (count-none f n g)
+  good-many f w (x ∷ l) g =
+      let h = within x (w x (g .0)) in
+      let less = count-without f x n (h .0) (h .1) (g .0) in
+      let rest = good-many (without f x) (within-without f x w) l (g .2) in
+      omega arith
