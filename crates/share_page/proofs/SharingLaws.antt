@@ -406,9 +406,11 @@ module _ (named : ℕ → ℕ → Bool) (n : ℕ) (member : ℕ → Bool) (withi
         let open-one = next-free f w some in
         same-tests (putsAbove named (p ∷ l)) (putsAbove named l) (tail-above named p l)
         (λ t.
-        good-passes named f (p ∷ l)
-        (open-one .0, open-one .1,
-        passing-good c (without f p) (within-without f p w) (one-fewer f p c w (open-one .0) e) l h t))
+        good-passes named f (p ∷ l) (
+          open-one .0,
+          open-one .1,
+          passing-good c (without f p) (within-without f p w) (one-fewer f p c w (open-one .0) e) l h t,
+        ))
 
     by-number : (p : ℕ) → nextIn named L f ≡ p → (p ≡ 0 → ⊥) → someOf (putsAbove named) (ordersOf n c (without f p)) ≡ true →
         (someOf (putsAbove named) (ordersOf n (suc c) f) ≡ true)

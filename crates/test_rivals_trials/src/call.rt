@@ -60,17 +60,22 @@ fn how_many(state: &mut u64, n: u32, most: u32) -> u32
     number::up_to(state, most)
 }
 
+// The rival set of a bidder at an offset, and where it ends.
+fn set_set(state: &mut u64, sets: &mut [u8], at: u32, n: u32, owner: u32, most: u32) -> u32 {
+    let count = how_many(state, n, most);
+    let start = std::num::wrapping_add_u32(at, 1);
+    parts::set_byte(sets, at as usize, count);
+    set_bidders(state, sets, start, count, n, owner);
+    std::num::wrapping_add_u32(start, count)
+}
+
 // A rival set for each bidder, one after another, and how many bytes they take.
 fn set_sets(state: &mut u64, sets: &mut [u8], n: u32, most: u32) -> u32 {
     let mut at: u32 = 0;
     let mut owner: u32 = 0;
     while owner < n {
         owner += 1;
-        let count = how_many(state, n, most);
-        parts::set_byte(sets, at as usize, count);
-        at = std::num::wrapping_add_u32(at, 1);
-        set_bidders(state, sets, at, count, n, owner);
-        at = std::num::wrapping_add_u32(at, count);
+        at = set_set(state, sets, at, n, owner, most);
     }
     at
 }

@@ -49,7 +49,7 @@ pub fn add_call(tally: &mut [u64], sharing: bool, number: u32) {
     let first = if sharing { NUMBERS } else { 0 };
     test_tally::add(tally, CALLS);
     if number < NUMBERS {
-        test_tally::add(tally, first + number);
+        test_tally::add(tally, std::num::wrapping_add_u32(first, number));
     } else {
         test_tally::add(tally, DIFFERENCES);
     }

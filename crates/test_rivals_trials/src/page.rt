@@ -1,12 +1,10 @@
 // Sheets whose lists all come from the profile "above named rivals", and whether members can share a page of them.
-ghost use Prim.Native.Nat.{_≤_};
 use crate::call;
 use crate::call::Call;
 use crate::compare;
 use crate::counts;
 use crate::plain;
 use test_chance::lists;
-use test_chance::number;
 use test_chance::parts;
 use test_chance::rounds;
 use test_plain::page;
@@ -120,22 +118,47 @@ fn first_slots(order: &[u8]) -> [u8; 16] {
     filled
 }
 
-// "members placed in the order of a yes on the first places break no condition, and if the answer is no, no page of that round has just these members without
-// breaking one"
-fn hold_page(tally: &mut [u64], sheet: &[u8], members: &[u8], yes: bool, order: &[u8]) {
-    if yes {
-        let fine = !page::breaks_any(first_slots(order), sheet);
-        counts::hold(tally, fine, b"order on the first places");
-        test_tally::add_if(tally, fine, counts::ORDERS);
-    }
-    if parts::bidders(sheet) <= FEW_BIDDERS {
-        if parts::slots(sheet) <= FEW_SLOTS {
-            let found = some_page(sheet, members);
-            counts::hold(tally, found == yes, b"some page");
-            test_tally::add_if(tally, yes & found, counts::PAGE_FOUND);
-            test_tally::add_if(tally, !yes & !found, counts::NO_PAGE);
-        }
-    }
+// "members placed in the order of a yes on the first places break no condition"
+fn hold_order(tally: &mut [u64], sheet: &[u8], yes: bool, order: &[u8]) {
+    let broken = page::breaks_any(first_slots(order), sheet);
+    counts::hold(tally, !(yes & broken), b"order on the first places");
+    test_tally::add_if(tally, yes & !broken, counts::ORDERS);
+}
+
+fn is_small(sheet: &[u8]) -> bool {
+    parts::bidders(sheet) <= FEW_BIDDERS && parts::slots(sheet) <= FEW_SLOTS
+}
+
+// "and if the answer is no, no page of that round has just these members without breaking one"; others may stand beside them.
+fn hold_pages(tally: &mut [u64], sheet: &[u8], members: &[u8], yes: bool) {
+    let small = is_small(sheet);
+    let found = if small {
+        some_page(sheet, members)
+    } else {
+        yes
+    };
+    counts::hold(tally, found == yes, b"some page");
+    test_tally::add_if(tally, small & found, counts::PAGE_FOUND);
+    test_tally::add_if(tally, small & !found, counts::NO_PAGE);
+}
+
+// The sharing call with the sets that its lists come from, and the sheet.
+fn hold_sheet(
+    state: &mut u64,
+    tally: &mut [u64],
+    sheet: &[u8],
+    asked: Call,
+    members: &[u8],
+    sets: &[u8],
+) {
+    let mut space = [0u8; compare::ROOM];
+    let order: &mut [u8] = &mut space;
+    let answer = compare::both(state, tally, asked, members, sets, true, order);
+    test_tally::add(tally, counts::SHEETS);
+    counts::hold(tally, pas::pas_check(sheet) == 0, b"check");
+    hold_downward(tally, sheet);
+    hold_order(tally, sheet, answer == 1, order);
+    hold_pages(tally, sheet, members, answer == 1);
 }
 
 // A sheet of the shape with these lists in place of its own. One that is then full may lack some conditions, and is left out.
@@ -146,27 +169,23 @@ pub fn on_sheet(state: &mut u64, tally: &mut [u64], shape: u32) {
     let list: &mut [u8] = &mut list_space;
     let mut sets_space = [0u8; call::SETS_ROOM];
     let sets: &mut [u8] = &mut sets_space;
-    let mut order_space = [0u8; compare::ROOM];
-    let order: &mut [u8] = &mut order_space;
     rounds::make(state, shape, buffer);
     parts::set_half(buffer, parts::CONSTRAINTS, 0);
-    let asked = call::sharing(
-        state,
-        parts::bidders(buffer),
-        parts::slots(buffer),
-        list,
-        sets,
-    );
+    let n = parts::bidders(buffer);
+    let m = parts::slots(buffer);
+    let asked = call::sharing(state, n, m, list, sets);
     let members = parts::part(list, 0, asked.listed);
     let lent = parts::part(sets, 0, asked.bytes);
     add_lists(state, tally, buffer, lent);
-    if compare::MAX_CONSTRAINTS <= parts::constraints(buffer) {
-        return;
+    if parts::constraints(buffer) < compare::MAX_CONSTRAINTS {
+        let bytes = parts::size(parts::length(buffer));
+        hold_sheet(
+            state,
+            tally,
+            parts::part(buffer, 0, bytes),
+            asked,
+            members,
+            lent,
+        );
     }
-    let yes = compare::both(state, tally, asked, members, lent, true, order) == 1;
-    let sheet = parts::part(buffer, 0, parts::size(parts::length(buffer)));
-    test_tally::add(tally, counts::SHEETS);
-    counts::hold(tally, pas::pas_check(sheet) == 0, b"check");
-    hold_downward(tally, sheet);
-    hold_page(tally, sheet, members, yes, order);
 }

@@ -42,14 +42,19 @@ fn has_wrong(set: &[u8], n: u32) -> bool {
     false
 }
 
-// Where the sets of the first bidders end. Past the bytes each set has a length of 0.
+// Where the set ends whose length stands at an offset. Past the bytes each set has a length of 0.
+fn set_end(sets: &[u8], at: u32) -> u32 {
+    let bytes = 1 + parts::byte(sets, at as usize);
+    std::num::wrapping_add_u32(at, bytes)
+}
+
+// Where the sets of the first bidders end.
 fn end(sets: &[u8], bidders: u32) -> u32 {
     let mut at: u32 = 0;
     let mut left = bidders;
     while 0 < left {
         left -= 1;
-        let bytes = 1 + parts::byte(sets, at as usize);
-        at = std::num::wrapping_add_u32(at, bytes);
+        at = set_end(sets, at);
     }
     at
 }
@@ -130,16 +135,22 @@ pub fn write(call: Call, rivals: &[u8], list: &mut [u8]) -> u32 {
     count
 }
 
+// A list with a bidder more, if it is a member, and how many it then has.
+fn add_member(members: &[u8], bidder: u32, list: &mut [u8], count: u32) -> u32 {
+    if has(members, bidder) {
+        parts::set_byte(list, count as usize, bidder);
+        return std::num::wrapping_add_u32(count, 1);
+    }
+    count
+}
+
 // The members in rising order, and how many they are.
 fn rising(members: &[u8], list: &mut [u8]) -> u32 {
     let mut count: u32 = 0;
     let mut bidder: u32 = 0;
     while bidder < MAX_BIDDERS {
         bidder += 1;
-        if has(members, bidder) {
-            parts::set_byte(list, count as usize, bidder);
-            count = std::num::wrapping_add_u32(count, 1);
-        }
+        count = add_member(members, bidder, list, count);
     }
     count
 }
