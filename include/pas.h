@@ -1,13 +1,13 @@
 /*
- * pas.h - position pages with bidders' conditions, the eleven calls of libpas.a
+ * pas.h - position pages with bidders' conditions, the thirteen calls of libpas.a
  *
  * A search page has a few paid places. Suppliers, the bidders, bid per click and list conditions (where they will not
  * stand, beside whom). The library fills the places from the top, charges each winner a second price, tests a bidder's
  * list, works out a bidder's gain, finds the best page of a small round, shows where in a sheet one bidder's conditions
- * stand, writes the one sheet of version 2 for a round and writes a bidder's conditions from its top-of-page terms.
- * Playing, gain and best page have a second form, with a floor under each place. It is proved: each call meets its
- * description below for every input. It allocates nothing, keeps nothing between calls and calls nothing but memcpy and
- * memset.
+ * stand, writes the one sheet of version 2 for a round, writes a bidder's conditions from its top-of-page terms or from
+ * the rivals that it will only stand above, and tells whether bidders with such rivals could share a page. Playing,
+ * gain and best page have a second form, with a floor under each place. It is proved: each call meets its description
+ * below for every input. It allocates nothing, keeps nothing between calls and calls nothing but memcpy and memset.
  *
  * Build:   ./build-library            (proves, and gives target/staticlib/libpas.a, for x86-64 Linux)
  * Link:    cc program.c -I include target/staticlib/libpas.a
@@ -74,11 +74,11 @@
  * - No pointer is null, also where the length is 0. The proofs speak of slices, and nothing in the toolchain says that
  *   null is one, so no answer is promised there. An empty std::vector may have one: pas_to_read, pas_to_write and
  *   pas_to_read_floors below give another pointer instead. Where the length is 0 any other pointer will do.
- * - Sheets, bars, results and *answer are bytes and may lie at any address. Floors and *count must be aligned as
- *   uint32_t is (4 bytes); *gain, *total, *start, *length and *written as int64_t, uint64_t and size_t are (8 bytes).
- *   Each variable and each array of these types is.
- * - What a call writes overlaps neither what it reads nor another thing that it writes. Sheets, bars and floors are
- *   only read and may overlap.
+ * - Sheets, bars, sets of bidders, results and *answer are bytes and may lie at any address. Floors and *count must be
+ *   aligned as uint32_t is (4 bytes); *gain, *total, *start, *length and *written as int64_t, uint64_t and size_t are
+ *   (8 bytes). Each variable and each array of these types is.
+ * - What a call writes overlaps neither what it reads nor another thing that it writes. Sheets, bars, sets of bidders
+ *   and floors are only read and may overlap.
  * - While a call runs nobody else writes what it reads, nor touches what it writes. Otherwise calls may run in several
  *   threads at once, on the same sheet too: the library has no variables of its own.
  * - There is enough stack, see PAS_STACK_PLAY and the others below.
@@ -98,9 +98,9 @@ extern "C" {
 /* ---- Version ---- */
 
 /* The version of the library and of this file. CHANGELOG.md says what each one brought, and what a new number means. */
-#define PAS_VERSION "2.3.0"
+#define PAS_VERSION "2.4.0"
 #define PAS_VERSION_MAJOR 2
-#define PAS_VERSION_MINOR 3
+#define PAS_VERSION_MINOR 4
 #define PAS_VERSION_PATCH 0
 
 /* ---- Sizes ---- */
@@ -131,8 +131,9 @@ extern "C" {
 #define PAS_PLACE_LENGTH 5u
 #define PAS_MAX_RESULT_LENGTH 80u
 
-/* bytes of the longest list that pas_slot_terms writes, of 1,023 conditions */
+/* bytes of the longest list that pas_slot_terms writes, of 1,023 conditions, and pas_above_terms, of 1,014 */
 #define PAS_MAX_TERMS_LENGTH 4092u
+#define PAS_MAX_ABOVE_LENGTH 4056u
 
 /* ---- Stack ---- */
 
@@ -151,16 +152,19 @@ extern "C" {
  *   pas_best_floors     7,008  about  7,200          20,480
  *   pas_canonical       9,512  about 12,500          20,480
  *   pas_slot_terms        104           104           1,024
+ *   pas_above_terms       189           189           1,024
+ *   pas_share_page        744  about  3,900           8,192
  *
  * These are measured and not proved: nothing in the toolchain bounds a stack. examples/c/stack measures them, on the
- * largest sheets and terms, on refused ones and on random ones, and fails where a call takes more than its figure. The
- * table is for the archive that rattle-kit-5b makes of this version, with glibc 2.36. "First call" has what the dynamic
- * linker takes where it looks up memcpy and memset in that call. The figures of the calls that use these two leave 4 KB
- * and more above "measured", for that and for another C library.
+ * largest sheets, terms and sets, on refused ones and on random ones, and fails where a call takes more than its
+ * figure. The table is for the archive that rattle-kit-5b makes of this version, with glibc 2.36. "First call" has what
+ * the dynamic linker takes where it looks up memcpy and memset in that call. The figures of the calls that use these
+ * two leave 4 KB and more above "measured", for that and for another C library.
  *
  * A thread with 64 KB of stack does for every call; by the figures one of 16 KB, PTHREAD_STACK_MIN, does for
- * pas_check, pas_owner_part and pas_slot_terms alone. A call that finds too little stack runs into the guard page and
- * ends the program; where there is no guard page, as below many a coroutine's stack, it overwrites what lies there.
+ * pas_check, pas_owner_part, pas_slot_terms, pas_above_terms and pas_share_page alone. A call that finds too little
+ * stack runs into the guard page and ends the program; where there is no guard page, as below many a coroutine's stack,
+ * it overwrites what lies there.
  */
 #define PAS_STACK_CHECK 1024u
 #define PAS_STACK_PLAY 28672u
@@ -173,8 +177,10 @@ extern "C" {
 #define PAS_STACK_BEST_FLOORS PAS_STACK_BEST
 #define PAS_STACK_CANONICAL 20480u
 #define PAS_STACK_SLOT_TERMS 1024u
+#define PAS_STACK_ABOVE_TERMS 1024u
+#define PAS_STACK_SHARE_PAGE 8192u
 
-/* the largest of the eleven */
+/* the largest of the thirteen */
 #define PAS_MAX_STACK PAS_STACK_GAIN
 
 /* ---- Numbers of a refused call, in checking order ---- */
@@ -211,6 +217,9 @@ enum {
     PAS_WRONG_LIMIT = 20,       /* The limit is 0 or above m. */
     PAS_WRONG_BARS = 21,        /* The list of bars is not n long, or a bar is above m. */
     PAS_BAR_AGAINST_OWNER = 22, /* The bar against the owner is not 0. */
+    PAS_WRONG_SET = 23,         /* The rival sets are not exactly n, or a set has a number 0 or above n. */
+    PAS_RIVAL_IS_OWNER = 24,    /* A bidder is in its own rival set. */
+    PAS_TOO_MANY_TERMS = 25,    /* The rivals give more than 1,024 conditions. */
     PAS_RESULT_TOO_SHORT = 19   /* The result buffer is shorter than the bytes to be written. */
 };
 
@@ -218,7 +227,8 @@ enum {
  * The 13 bytes of version 2 are asked for after rule 3: before it the version is not known. Rule 9 is held against all
  * bids, and then 27 against all of them. Rules 10 to 13 and 28 are held against the conditions in sheet order: the
  * first condition that breaks one of them decides, and for it the first of the five. So a condition that is out of
- * order and breaks 11 too is refused with 11; where one that is only out of order stands before it, with 28.
+ * order and breaks 11 too is refused with 11; where one that is only out of order stands before it, with 28. Rule 23 is
+ * held against all sets of a call, and then 24 against all of them.
  */
 
 /* ---- Pointers that may be null ---- */
@@ -386,6 +396,66 @@ uint32_t pas_canonical(const uint8_t *sheet, size_t sheet_len, uint8_t *result, 
  */
 uint32_t pas_slot_terms(uint32_t n, uint32_t m, uint32_t owner, uint32_t limit, const uint8_t *bars, size_t bars_len,
                         uint8_t *result, size_t result_len, uint32_t *count);
+
+/*
+ * Writes the conditions of a bidder that will stand only above certain others, its rivals: for each rival, all pairs in
+ * which the rival's place is above the owner's. No sheet is read: n and m are those of the sheet that the conditions
+ * are meant for. The rivals are a set: rivals_len bytes, each the number of a bidder, in any order. A repeat counts
+ * once, so that there may be more bytes than bidders, and there may be none at all.
+ *
+ * A rival j gives (owner, k, j, l) for each k from 2 to m and each l from 1 to k - 1: the owner will not stand at place
+ * k while j is at place l. These are m (m - 1) / 2 conditions for each rival, and none where m is 1. A page that has
+ * not both of them breaks none.
+ *
+ * Writes them to the start of the result, four bytes each, in rising order, each once: by own place, then by rival,
+ * then by the rival's place. Writes to *count how many there are, which may be 0. Later bytes stay as they were. A
+ * result of PAS_MAX_ABOVE_LENGTH bytes always does, and so does one of PAS_MAX_TERMS_LENGTH.
+ *
+ * With n 3 and m 3, owner 1 and rivals 3, 2, 3 give six conditions:
+ *
+ *   (1, 2, 2, 1)   (1, 2, 3, 1)   (1, 3, 2, 1)   (1, 3, 2, 2)   (1, 3, 3, 1)   (1, 3, 3, 2)
+ *
+ * Proved of them, as of those of pas_slot_terms: on a sheet with that n and m none of them breaks any of 10 to 13, and
+ * the list is downward monotonic for that m. So on such sheets what is proved of pas_gain, and of pas_gain_floors,
+ * holds with this as the bidder's list in `other`, and no test need be made.
+ *
+ * Refused with 4, 5, 16 for the owner, 23 for a rival that is 0 or above n, 24 where the owner is among its rivals, 25
+ * for more than 1,024 conditions, or 19 where result_len is below 4 times their number.
+ */
+uint32_t pas_above_terms(uint32_t n, uint32_t m, uint32_t owner, const uint8_t *rivals, size_t rivals_len,
+                         uint8_t *result, size_t result_len, uint32_t *count);
+
+/*
+ * Tells whether some bidders, the members, could share a page of m places where each bidder has a set of rivals and
+ * will stand only above those of them that are on the page: *answer is 1, a yes, where there are at most m members and
+ * some order of them, from the top down, puts each above every rival of its own among them; else it is 0, a no. Rivals
+ * that are no members do not matter, and bids are not asked.
+ *
+ * The members are a set, as the rivals in pas_above_terms are. No members at all are a yes, and more than m members a
+ * no. The rival sets are lent one after another, that of bidder 1 first and one for each of the n bidders, members or
+ * not, each with its length in one byte before it, so that a set has from 0 to 255 numbers. With n 4 the bytes
+ *
+ *   2  3 2    0    1  2    0        (rival_sets_len 7)
+ *
+ * say that 1 will stand only above 2 and 3, and 3 only above 2. Without repeats n sets are at most n * n bytes.
+ *
+ * A yes writes the first such order in dictionary order to the start of the result, one byte a member, the one at the
+ * top first, and later bytes stay as they were. A result of m bytes always does. A no writes nothing but *answer. With
+ * the sets above and m 3 the members 2, 4 and 1 get a yes and the order 1, 2, 4, and with all four of them a no.
+ *
+ * Proved of it, for an accepted sheet with that n and m on which the list of each bidder is the one that
+ * pas_above_terms writes from its set: after a yes the page with the members on the first places, in the order that is
+ * written, and nobody else, breaks no condition; and after a no every page on which all the members stand breaks one.
+ *
+ * Time: no order is tried. Each set is read once, and then the members are gone through once for each of them. (This is
+ * how the search goes; no time is proved.)
+ *
+ * Refused with 4, 5, 23 where a member is 0 or above n, where the bytes are not exactly n rival sets or where a rival
+ * is 0 or above n, 24 where a bidder, member or not, is in its own set, or 19 for a yes where result_len is below the
+ * number of members. A no needs no room.
+ */
+uint32_t pas_share_page(uint32_t n, uint32_t m, const uint8_t *members, size_t members_len, const uint8_t *rival_sets,
+                        size_t rival_sets_len, uint8_t *result, size_t result_len, uint8_t *answer);
 
 /* ---- The calls with floors ---- */
 

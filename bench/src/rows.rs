@@ -1,7 +1,7 @@
 //! The lines of the table.
 
 use crate::work::{Call, Row};
-use independent::random::{Floors, Manner, Size};
+use independent::random::{Floors, Manner, Sets, Size};
 
 const QUICK_CALLS: [Call; 4] = [Call::Check, Call::Play, Call::Downward, Call::Gain];
 const NONE: Floors = Floors::Zero;
@@ -30,6 +30,8 @@ pub fn rows() -> Vec<Row> {
     rows.extend(with_floors("floors, v. 2", TICK, Floors::OffTick));
     rows.extend(canonical());
     rows.extend(slot_terms());
+    rows.extend(above_terms());
+    rows.extend(sharing());
     rows
 }
 
@@ -81,6 +83,25 @@ fn slot_terms() -> Vec<Row> {
     let few = [size(4, 3, 3), size(8, 4, 8), size(64, 16, 64)].map(|size| row("few terms", size));
     let many = [size(8, 4, 24), size(64, 16, 512)].map(|size| row("many terms", size));
     few.into_iter().chain(many).chain([row("largest", size(64, 16, 1023))]).collect()
+}
+
+/// Terms by few rivals and by many, and the longest list.
+fn above_terms() -> Vec<Row> {
+    let row = |part, size| Row { part, call: Call::AboveTerms, size, manner: Manner::Mixed, tick: None, floors: NONE };
+    // A rival gives 3 constraints with 3 slots, 6 with 4, 28 with 8, 78 with 13 and 120 with 16.
+    let few = [size(4, 3, 3), size(8, 4, 12), size(64, 16, 120), size(64, 16, 360)].map(|size| row("few rivals", size));
+    let many = [size(64, 2, 63), size(8, 8, 196), size(64, 16, 960)].map(|size| row("many rivals", size));
+    few.into_iter().chain(many).chain([row("longest list", size(64, 13, 1014))]).collect()
+}
+
+/// Groups that can share a page, with empty, small and full rival sets and with the longest, and that cannot, by a circle that is found last; each also against reading
+/// the sets alone.
+fn sharing() -> Vec<Row> {
+    let few = [Sets::Few, Sets::Circle, Sets::Full].map(|sets| (size(8, 4, 4), sets));
+    let many = [Sets::Empty, Sets::Few, Sets::Circle, Sets::Full, Sets::Longest].map(|sets| (size(64, 16, 16), sets));
+    let row = |call, size| Row { part: "members", call, size, manner: Manner::Mixed, tick: None, floors: NONE };
+    let both = |(size, sets)| [row(Call::Share(sets), size), row(Call::ShareToRead(sets), size)];
+    few.into_iter().chain([(size(64, 16, 4), Sets::Few)]).chain(many).flat_map(both).collect()
 }
 
 /// Kinds of constraint beside the mixed ones.

@@ -44,8 +44,7 @@ pub struct Times {
 
 /// How many sheets a row is measured on: so many that no engine's branches are learnt by heart from one repetition to the next.
 fn sheets(row: &Row) -> usize {
-    let entries = row.size.bidders + row.size.slots + row.size.constraints;
-    (65_536 / entries).clamp(64, 1024)
+    (65_536 / row.entries()).clamp(64, 1024)
 }
 
 /// Measures one row. The sheets are split into groups of a turn each, and a repetition goes through all groups, first with the library,

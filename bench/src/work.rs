@@ -1,12 +1,13 @@
 //! What is measured: a call on sheets of one size and one manner, by either engine.
 
-use independent::random::{floors, in_ticks, round, terms_of_size, Floors, Manner, Random, Size};
-use independent::slow::{Round, Terms};
+use independent::random::{floors, group, in_ticks, rivals_of_size, round, terms_of_size, Floors, Manner, Random, Sets, Size};
+use independent::slow::{Group, Rivals, Round, Terms};
 use independent::{engine, slow};
 use pas::raw;
 use std::hint::black_box;
 
-/// The five calls of document 01, and of document 02 the part, the second forms, with floors, the canonical sheet and the top-of-page terms.
+/// The five calls of document 01, and of document 02 the part, the second forms, with floors, the canonical sheet, the top-of-page terms, the terms by rivals
+/// and sharing.
 #[derive(Clone, Copy, Debug, PartialEq)]
 pub enum Call {
     Check,
@@ -20,6 +21,10 @@ pub enum Call {
     BestFloors,
     Canonical,
     SlotTerms,
+    AboveTerms,
+    Share(Sets),
+    /// Sharing by the library, and reading the rival sets alone by the Rust engine: how many readings a call costs.
+    ShareToRead(Sets),
 }
 
 impl Call {
@@ -37,6 +42,9 @@ impl Call {
             Call::BestFloors => "best floors",
             Call::Canonical => "canonical",
             Call::SlotTerms => "slot terms",
+            Call::AboveTerms => "above terms",
+            Call::Share(_) => "share",
+            Call::ShareToRead(_) => "share, read",
         }
     }
 
@@ -58,7 +66,8 @@ pub enum Engine {
     Rust,
 }
 
-/// One line of the table. Of top-of-page terms the size is how many constraints they give, for so many bidders and slots.
+/// One line of the table. Of top-of-page terms and of terms by rivals the size is how many constraints they give, for so many bidders and slots; of sharing, how
+/// many members there are.
 #[derive(Clone, Copy)]
 pub struct Row {
     pub part: &'static str,
@@ -76,12 +85,25 @@ impl Row {
     pub fn kind(&self) -> &'static str {
         match self.call {
             Call::SlotTerms => "terms",
+            Call::AboveTerms => "rivals",
+            Call::Share(sets) | Call::ShareToRead(sets) => sets.name(),
             _ => self.manner.name(),
         }
     }
+
+    /// About how many numbers an input has.
+    pub fn entries(&self) -> usize {
+        let size = self.size;
+        let in_sets = match self.call {
+            Call::Share(Sets::Longest) | Call::ShareToRead(Sets::Longest) => 64 * size.bidders,
+            Call::Share(Sets::Full) | Call::ShareToRead(Sets::Full) => size.bidders * size.bidders / 4,
+            _ => 0,
+        };
+        size.bidders + size.slots + size.constraints + in_sets
+    }
 }
 
-/// One call's input: a sheet and, for the calls that take them, floors, a bidder, a worth, a truth sheet and top-of-page terms.
+/// One call's input: a sheet and, for the calls that take them, floors, a bidder, a worth, a truth sheet, top-of-page terms, rivals and members.
 pub struct Input {
     sheet: Vec<u8>,
     floors: Vec<u32>,
@@ -89,9 +111,11 @@ pub struct Input {
     bidder: u32,
     worth: u32,
     terms: Terms,
+    rivals: Rivals,
+    group: Group,
 }
 
-/// The inputs of a row, from a fixed seed, so that all runs measure the same. Floors and terms have a seed of their own: with them a row has the rounds
+/// The inputs of a row, from a fixed seed, so that all runs measure the same. Floors, terms and sets have a seed of their own: with them a row has the rounds
 /// that it has without.
 pub fn inputs(row: &Row, count: usize) -> Vec<Input> {
     let (mut random, mut of_lent) = (Random::seeded(2026), Random::seeded(7));
@@ -124,7 +148,26 @@ fn input(random: &mut Random, of_lent: &mut Random, row: &Row) -> Input {
         Call::SlotTerms => terms_of_size(of_lent, row.size),
         _ => Terms { bidders: 0, slots: 0, owner: 0, limit: 0, bars: Vec::new() },
     };
-    Input { sheet, floors, truth, bidder: u32::from(bidder), worth: random.between(0, 1_000_000_000) as u32, terms }
+    let (rivals, group) = (rivals_of(of_lent, row), group_of(of_lent, row));
+    Input { sheet, floors, truth, bidder: u32::from(bidder), worth: random.between(0, 1_000_000_000) as u32, terms, rivals, group }
+}
+
+/// The rivals of a row: so many that they give its constraints.
+fn rivals_of(random: &mut Random, row: &Row) -> Rivals {
+    let Size { bidders, slots, constraints } = row.size;
+    match row.call {
+        Call::AboveTerms => rivals_of_size(random, bidders, slots, constraints / (slots * (slots - 1) / 2)),
+        _ => Rivals { bidders: 0, slots: 0, owner: 0, rivals: Vec::new() },
+    }
+}
+
+/// The members of a row and the rival sets of all.
+fn group_of(random: &mut Random, row: &Row) -> Group {
+    let Size { bidders, slots, constraints: members } = row.size;
+    match row.call {
+        Call::Share(sets) | Call::ShareToRead(sets) => group(random, bidders, slots, members, sets),
+        _ => Group { bidders: 0, slots: 0, members: Vec::new(), rival_sets: Vec::new() },
+    }
 }
 
 /// The bytes of the longest sheet.
@@ -158,6 +201,8 @@ fn answer_by_library(call: Call, input: &Input, room: &mut [u8]) {
         Call::BestFloors => raw::best_floors(sheet, &input.floors, &mut result, &mut total),
         Call::Canonical => canonical(sheet, room, raw::canonical),
         Call::SlotTerms => slot_terms(&input.terms, room, raw::slot_terms),
+        Call::AboveTerms => above_terms(&input.rivals, room, raw::above_terms),
+        Call::Share(_) | Call::ShareToRead(_) => share_page(&input.group, room, raw::share_page),
     };
     black_box((number, &result, answer, gain, total, start, length));
 }
@@ -180,6 +225,33 @@ fn slot_terms(of: &Terms, room: &mut [u8], call: impl Fn(u32, u32, u32, u32, &[u
     number
 }
 
+/// The same for rivals.
+#[inline(never)]
+fn above_terms(of: &Rivals, room: &mut [u8], call: impl Fn(u32, u32, u32, &[u8], &mut [u8], &mut u32) -> u32) -> u32 {
+    let (of, mut count) = (black_box(of), 0);
+    let number = call(of.bidders, of.slots, of.owner, &of.rivals, room, &mut count);
+    black_box((room, count));
+    number
+}
+
+/// The same for members.
+#[inline(never)]
+fn share_page(of: &Group, room: &mut [u8], call: impl Fn(u32, u32, &[u8], &[u8], &mut [u8], &mut u8) -> u32) -> u32 {
+    let (of, mut answer) = (black_box(of), 0);
+    let number = call(of.bidders, of.slots, &of.members, &of.rival_sets, room, &mut answer);
+    black_box((room, answer));
+    number
+}
+
+/// The rival sets of all bidders are validated and put into words, and that is all.
+#[inline(never)]
+fn read_rival_sets(of: &Group) -> u32 {
+    let (of, mut words) = (black_box(of), [0; 64]);
+    let number = engine::read_rival_sets(of.bidders, &of.rival_sets, &mut words);
+    black_box(&words);
+    number
+}
+
 #[inline(never)]
 fn answer_by_rust(call: Call, input: &Input, room: &mut [u8]) {
     let sheet = black_box(&input.sheet[..]);
@@ -197,6 +269,9 @@ fn answer_by_rust(call: Call, input: &Input, room: &mut [u8]) {
         Call::BestFloors => engine::best_floors(sheet, &input.floors, &mut result, &mut total),
         Call::Canonical => canonical(sheet, room, engine::canonical),
         Call::SlotTerms => slot_terms(&input.terms, room, engine::slot_terms),
+        Call::AboveTerms => above_terms(&input.rivals, room, engine::above_terms),
+        Call::Share(_) => share_page(&input.group, room, engine::share_page),
+        Call::ShareToRead(_) => read_rival_sets(&input.group),
     };
     black_box((number, &result, answer, gain, total, start, length));
 }

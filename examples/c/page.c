@@ -3,7 +3,9 @@
  * bidder's gain and the best page; then the page of the same round with bids in ticks, a sheet of version 2, and two
  * bidders' conditions where they stand in that sheet; then page, gain and best page of that sheet with a floor under
  * each place; then whether other sheets say the round that a sheet of version 1 in disorder says; then the conditions
- * that a bidder's top-of-page terms give, and the page of the round with them in place of the others.
+ * that a bidder's top-of-page terms give, and the page of the round with them in place of the others; then the round's
+ * own conditions once more, written from the rivals that each bidder will only stand above, and which of the bidders
+ * could share a page.
  */
 #include <inttypes.h>
 #include <stdio.h>
@@ -156,6 +158,22 @@ static int compare(const uint8_t *one, size_t one_length, const uint8_t *other, 
     return 0;
 }
 
+/* prints conditions on one line */
+static void show_conditions(const uint8_t *list, uint32_t count) {
+    const uint8_t *end = list + 4 * (size_t)count;
+    for (const uint8_t *at = list; at < end; at += 4) {
+        printf("(%d,%d,%d,%d)%s", at[0], at[1], at[2], at[3], at + 4 < end ? " " : "");
+    }
+    printf("%s\n", count ? "" : "none");
+}
+
+/* sets how many conditions a sheet has, which stand at its end; its length */
+static size_t set_count(uint8_t *sheet, uint32_t count) {
+    sheet[7] = (uint8_t)count;
+    sheet[8] = (uint8_t)(count >> 8);
+    return PAS_SHEET_LENGTH(BIDDERS, PLACES, count);
+}
+
 /* prints the conditions that terms of 4 give and the page of the round with them alone; whether a call is refused */
 static int show_terms(uint32_t limit, const uint8_t *bars) {
     uint8_t sheet[PAS_SHEET_LENGTH(BIDDERS, PLACES, 0) + PAS_MAX_TERMS_LENGTH];
@@ -165,13 +183,9 @@ static int show_terms(uint32_t limit, const uint8_t *bars) {
     if (number != PAS_OK) {
         return refused("pas_slot_terms", number);
     }
-    for (const uint8_t *at = list; at < list + 4 * (size_t)count; at += 4) {
-        printf("(%d,%d,%d,%d)%s", at[0], at[1], at[2], at[3], at + 4 < list + 4 * (size_t)count ? " " : "\n");
-    }
-    /* the conditions stand where the sheet has them; their number is the field before */
-    sheet[7] = (uint8_t)count;
-    sheet[8] = (uint8_t)(count >> 8);
-    size_t length = PAS_SHEET_LENGTH(BIDDERS, PLACES, count);
+    show_conditions(list, count);
+    /* they stand where the sheet has them */
+    size_t length = set_count(sheet, count);
     uint8_t downward = 0;
     number = pas_downward(sheet, length, 4, &downward);
     if (number != PAS_OK) {
@@ -179,6 +193,50 @@ static int show_terms(uint32_t limit, const uint8_t *bars) {
     }
     printf("downward monotonic: %s\n", downward ? "yes" : "no");
     return play(sheet, length);
+}
+
+/* rival sets from bidder 1's on, each with its length before it: 1 above 2, 2 above 3, 3 above 4, and 4 above nobody */
+static const uint8_t rival_sets[] = {1, 2, 1, 3, 1, 4, 0};
+
+/* prints the conditions that the rivals of each give and the page of the round with them; whether a call is refused */
+static int show_above(void) {
+    uint8_t sheet[PAS_SHEET_LENGTH(BIDDERS, PLACES, 0) + BIDDERS * PAS_MAX_ABOVE_LENGTH];
+    uint8_t *list = sheet + build(sheet, 0) - sizeof conditions;
+    const uint8_t *set = rival_sets;
+    uint32_t all = 0;
+    for (uint32_t owner = 1; owner <= BIDDERS; owner++) {
+        uint32_t count = 0;
+        uint8_t *at = list + 4 * (size_t)all;
+        uint32_t number = pas_above_terms(BIDDERS, PLACES, owner, set + 1, *set, at, PAS_MAX_ABOVE_LENGTH, &count);
+        if (number != PAS_OK) {
+            return refused("pas_above_terms", number);
+        }
+        show_conditions(at, count);
+        all += count;
+        set += 1 + *set;
+    }
+    return play(sheet, set_count(sheet, all));
+}
+
+/* prints the order in which members could share a page, or that they could not; whether the call is refused */
+static int show_sharing(const uint8_t *members, size_t count, const uint8_t *sets, size_t sets_length) {
+    uint8_t order[PLACES];
+    uint8_t answer = 0;
+    uint32_t number = pas_share_page(BIDDERS, PLACES, members, count, sets, sets_length, order, sizeof order, &answer);
+    if (number != PAS_OK) {
+        return refused("pas_share_page", number);
+    }
+    printf("members");
+    for (size_t i = 0; i < count; i++) {
+        printf(" %d", members[i]);
+    }
+    printf("%s", answer ? " share a page as" : " share no page");
+    /* the members are all different here, so there are as many in the order */
+    for (size_t k = 0; answer && k < count; k++) {
+        printf(" %d", order[k]);
+    }
+    printf("\n");
+    return 0;
 }
 
 int main(void) {
@@ -255,5 +313,23 @@ int main(void) {
     printf("with a limit below the page: refused %" PRIu32 "\n", number);
     number = pas_slot_terms(BIDDERS, PLACES, 3, 2, bars, BIDDERS, list, sizeof list, &count);
     printf("with a bar against the owner: refused %" PRIu32 "\n", number);
+
+    printf("rivals, 1 above 2, 2 above 3 and 3 above 4:\n");
+    static const uint8_t members[] = {4, 3, 2, 1};
+    /* the same rival sets with 4 above 2, which closes a circle */
+    static const uint8_t circle[] = {1, 2, 1, 3, 1, 4, 1, 2};
+    if (show_above() || show_sharing(members, 3, rival_sets, sizeof rival_sets) ||
+        show_sharing(members, 4, rival_sets, sizeof rival_sets)) {
+        return 1;
+    }
+    printf("with 4 above 2 too:\n");
+    if (show_sharing(members, 3, circle, sizeof circle)) {
+        return 1;
+    }
+    number = pas_above_terms(BIDDERS, PLACES, 4, members, sizeof members, list, sizeof list, &count);
+    printf("with the owner among its rivals: refused %" PRIu32 "\n", number);
+    uint8_t answer = 0;
+    number = pas_share_page(BIDDERS, PLACES, members, 3, circle, sizeof circle - 1, result, sizeof result, &answer);
+    printf("with a byte of the rival sets too few: refused %" PRIu32 "\n", number);
     return 0;
 }

@@ -7,8 +7,8 @@
  * went. All that the call puts on the stack counts: its return address, its frames, those of memcpy and memset, and in
  * the first call those of the dynamic linker, which then looks the two up. The sheets are the largest ones, refused
  * ones and random ones from a fixed seed, of both versions, in version 2 with the conditions in order and out of it.
- * Floors are 0, any, as high as they may be, too many and too high. Top-of-page terms are the largest, random ones and
- * refused ones.
+ * Floors are 0, any, as high as they may be, too many and too high. Top-of-page terms, rivals and groups are the
+ * largest, random ones and refused ones.
  *
  * This file calls neither memcpy nor memset, so that they are looked up in the first call that is measured (the script
  * `stack` sees to it).
@@ -235,6 +235,86 @@ static void make_terms(struct terms *terms, uint32_t number) {
     }
 }
 
+/* ---- Rivals ---- */
+
+struct rivals {
+    uint32_t n, m, owner;
+    uint8_t set[PAS_MAX_BIDDERS];
+    size_t count;
+};
+
+/* a set of all the bidders from 1 to n but one, or of some of them; how many */
+static size_t put_bidders(uint8_t *set, uint32_t n, uint32_t left_out, int all) {
+    size_t count = 0;
+    for (uint32_t b = 1; b <= n; b++) {
+        if (b != left_out && (all || between(0, 1))) {
+            set[count++] = (uint8_t)b;
+        }
+    }
+    return count;
+}
+
+/*
+ * the rivals by number: the longest list first, of 13 rivals with 13 places, then random ones; of every eight one has a
+ * number too high and one the owner, and where there are many places many have too many conditions
+ */
+static void make_rivals(struct rivals *rivals, uint32_t number) {
+    int longest = number < ROUNDS / 4;
+    rivals->n = longest ? 14 : between(1, PAS_MAX_BIDDERS);
+    rivals->m = longest ? 13 : between(1, PAS_MAX_PLACES);
+    rivals->owner = between(1, rivals->n);
+    rivals->count = put_bidders(rivals->set, rivals->n, rivals->owner, longest);
+    if (rivals->count && number % 8 == 1) {
+        rivals->set[rivals->count - 1] = (uint8_t)(rivals->n + 1);
+    }
+    if (rivals->count && number % 8 == 3) {
+        rivals->set[rivals->count - 1] = (uint8_t)rivals->owner;
+    }
+}
+
+struct group {
+    uint32_t n, m;
+    uint8_t members[PAS_MAX_BIDDERS];
+    size_t members_count;
+    uint8_t sets[PAS_MAX_BIDDERS * PAS_MAX_BIDDERS];
+    size_t sets_length;
+};
+
+/*
+ * the groups by number: 16 members of 64 bidders first, then random ones. In every other group each bidder names those
+ * with a higher number, so that they can stand in that order, and else whom it likes; of every eight one has numbers
+ * too high, one has bidders in their own sets, and one ends a byte too early
+ */
+static void make_group(struct group *group, uint32_t number) {
+    int largest = number < ROUNDS / 4;
+    group->n = largest ? PAS_MAX_BIDDERS : between(1, PAS_MAX_BIDDERS);
+    group->m = largest ? PAS_MAX_PLACES : between(1, PAS_MAX_PLACES);
+    uint32_t most = group->n < group->m ? group->n : group->m;
+    group->members_count = put_bidders(group->members, largest ? most : between(0, most), 0, largest);
+    group->sets_length = 0;
+    for (uint32_t b = 1; b <= group->n; b++) {
+        uint8_t *length = &group->sets[group->sets_length++];
+        uint8_t *set = length + 1;
+        size_t count = 0;
+        if (number % 2) {
+            count = put_bidders(set, group->n, b, largest);
+        } else {
+            for (uint32_t rival = b + 1; rival <= group->n; rival++) {
+                set[count++] = (uint8_t)rival;
+            }
+        }
+        if (count && number % 8 == 1) {
+            set[count - 1] = (uint8_t)(group->n + 1);
+        }
+        if (count && number % 8 == 3) {
+            set[count - 1] = (uint8_t)b;
+        }
+        *length = (uint8_t)count;
+        group->sets_length += count;
+    }
+    group->sets_length -= number % 8 == 5;
+}
+
 /* ---- The stack ---- */
 
 /* the lowest byte of the thread's stack */
@@ -282,6 +362,8 @@ static inline __attribute__((always_inline)) size_t depth_below(const uint8_t *t
 static struct sheet sheet, truth;
 static struct floors floors;
 static struct terms terms;
+static struct rivals rivals;
+static struct group group;
 static uint8_t result[PAS_MAX_RESULT_LENGTH];
 static uint8_t canonical_sheet[PAS_MAX_SHEET_LENGTH];
 static uint8_t conditions[PAS_MAX_TERMS_LENGTH];
@@ -315,6 +397,10 @@ MEASURED(best_floors,
 MEASURED(canonical, pas_canonical(sheet.bytes, sheet.length, canonical_sheet, sizeof canonical_sheet, &written))
 MEASURED(slot_terms, pas_slot_terms(terms.n, terms.m, terms.owner, terms.limit, terms.bars, terms.count, conditions,
                                     sizeof conditions, &count))
+MEASURED(above_terms, pas_above_terms(rivals.n, rivals.m, rivals.owner, rivals.set, rivals.count, conditions,
+                                      sizeof conditions, &count))
+MEASURED(share_page, pas_share_page(group.n, group.m, group.members, group.members_count, group.sets, group.sets_length,
+                                    result, sizeof result, &answer))
 
 static const struct call {
     const char *name;
@@ -332,6 +418,8 @@ static const struct call {
     {"pas_best_floors", best_floors, PAS_STACK_BEST_FLOORS},
     {"pas_canonical", canonical, PAS_STACK_CANONICAL},
     {"pas_slot_terms", slot_terms, PAS_STACK_SLOT_TERMS},
+    {"pas_above_terms", above_terms, PAS_STACK_ABOVE_TERMS},
+    {"pas_share_page", share_page, PAS_STACK_SHARE_PAGE},
 };
 
 enum { CALLS = sizeof calls / sizeof calls[0] };
@@ -366,11 +454,15 @@ static void *measure(void *given) {
     make(&truth, 0, PAS_MAX_BEST_BIDDERS, PAS_MAX_BEST_PLACES, PAS_MAX_CONDITIONS, PAS_MAX_BID, PAIRS);
     make_floors(&floors, 0, PAS_MAX_BEST_PLACES);
     make_terms(&terms, 0);
+    make_rivals(&rivals, 0);
+    make_group(&group, 0);
     found.first = call->measured(0xa5);
     for (uint32_t round = 0; round < ROUNDS; round++) {
         make_numbered(&sheet, round);
         make_floors(&floors, round, sheet.bytes[6]);
         make_terms(&terms, round);
+        make_rivals(&rivals, round);
+        make_group(&group, round);
         /* the truth sheet has as many bidders and places, but for one time in 16 */
         uint32_t n = round % 16 ? count_near(sheet.bytes[5], PAS_MAX_BIDDERS) : 1;
         uint32_t m = count_near(sheet.bytes[6], PAS_MAX_PLACES);

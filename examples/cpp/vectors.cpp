@@ -1,10 +1,11 @@
 /*
- * Sheets, results, floors and bars in vectors, which may be empty: pas_to_read, pas_to_write and pas_to_read_floors take
- * the place of the null pointer that an empty vector has.
+ * Sheets, results, floors, bars and sets of bidders in vectors, which may be empty: pas_to_read, pas_to_write and
+ * pas_to_read_floors take the place of the null pointer that an empty vector has.
  */
 #include <cstddef>
 #include <cstdint>
 #include <iostream>
+#include <string>
 #include <vector>
 
 #include "pas.h"
@@ -46,6 +47,26 @@ static Bytes slot_terms(std::uint32_t m, std::uint32_t owner, std::uint32_t limi
     return result;
 }
 
+/* the bytes of a bidder's conditions from its rivals, empty where the call is refused */
+static Bytes above_terms(std::uint32_t n, std::uint32_t m, std::uint32_t owner, const Bytes &rivals) {
+    Bytes result(PAS_MAX_ABOVE_LENGTH);
+    std::uint32_t count = 0;
+    pas_above_terms(n, m, owner, pas_to_read(rivals.data(), rivals.size()), rivals.size(), result.data(), result.size(),
+                    &count);
+    result.resize(std::size_t{4} * count);
+    return result;
+}
+
+/* whether the members could share a page, with their order in the result, or the number of a refused call */
+static std::string share_page(std::uint32_t n, std::uint32_t m, const Bytes &members, const Bytes &sets,
+                              Bytes &result) {
+    std::uint8_t answer = 0;
+    const std::uint32_t number = pas_share_page(n, m, pas_to_read(members.data(), members.size()), members.size(),
+                                                pas_to_read(sets.data(), sets.size()), sets.size(),
+                                                pas_to_write(result.data(), result.size()), result.size(), &answer);
+    return number != PAS_OK ? std::to_string(number) : answer ? "yes" : "no";
+}
+
 int main() {
     /* two bidders that bid 5 and 6 for one place of effect 1 */
     const Bytes sheet = {'P', 'A', 'S', 1, 0, 2, 1, 0, 0, 1, 0, 0, 0, 5, 0, 0, 0, 6, 0, 0, 0};
@@ -79,6 +100,17 @@ int main() {
     const std::uint32_t refused = pas_slot_terms(2, 2, 1, 1, pas_to_read(none.data(), none.size()), none.size(),
                                                  pas_to_write(none.data(), none.size()), none.size(), &count);
     std::cout << ", without bars: " << refused << ", count still " << count << '\n';
+
+    /* bidder 2 of two stands only above 1; then each of them only above the other */
+    const Bytes above = {2, 2, 1, 1};
+    std::cout << "rivals: " << (above_terms(2, 2, 2, {1, 1}) == above ? "as expected" : "others");
+    std::cout << ", none: " << above_terms(2, 2, 2, none).size() << " bytes\n";
+    Bytes order(2);
+    std::cout << "sharing: " << share_page(2, 2, {1, 2}, {0, 1, 1}, order);
+    std::cout << ", " << int{order[0]} << " above " << int{order[1]};
+    std::cout << ", each above the other: " << share_page(2, 2, {1, 2}, {1, 2, 1, 1}, none);
+    std::cout << ", nobody: " << share_page(2, 2, none, {0, 0}, none);
+    std::cout << ", no sets: " << share_page(2, 2, none, none, none) << '\n';
 
     /* the pointers that the calls get: never null, and the vector's own where it has bytes */
     const bool kept = pas_to_read(sheet.data(), sheet.size()) == sheet.data() &&

@@ -1,4 +1,4 @@
-//! The eleven calls with typed answers, ten of them over bytes that nobody has checked.
+//! The thirteen calls with typed answers, ten of them over the bytes of sheets that nobody has checked.
 
 use crate::page::{bidders, BestPage, Page};
 use crate::part::OwnerPart;
@@ -12,7 +12,7 @@ const MOST_SLOTS: usize = 16;
 /// The bytes of the longest sheet.
 const MOST_BYTES: usize = 4429;
 
-/// The bytes of the longest list of top-of-page terms.
+/// The bytes of the longest list of top-of-page terms. Lists by rivals are shorter.
 const MOST_TERMS_BYTES: usize = 4092;
 
 /// Checks a sheet: refusals 1 to 13 and 26 to 28. Every other call that takes a sheet does this by itself.
@@ -208,11 +208,119 @@ pub fn slot_terms(bidders: usize, slots: usize, owner: Bidder, limit: Slot, bars
 /// other bidder, other's slot), and gives how many they are. Later bytes stay as they were, and on a refusal all of them. Refused as [`slot_terms`], or with 19
 /// where the buffer is shorter than the bytes to be written; 4,092 bytes always do.
 pub fn slot_terms_into(bidders: usize, slots: usize, owner: Bidder, limit: Slot, bars: &[u8], result: &mut [u8]) -> Result<usize, Refusal> {
-    // A number too large for the call is above its limit still as the largest of the call's.
-    let number = |count: usize| u32::try_from(count).unwrap_or(u32::MAX);
     let (owner, limit, mut count) = (u32::from(owner.0), u32::from(limit.0), 0);
     Refusal::none_or(raw::slot_terms(number(bidders), number(slots), owner, limit, bars, result, &mut count))?;
     Ok(count as usize)
+}
+
+/// The constraints of a bidder that will stand only above certain others, its rivals, for a sheet with so many bidders and slots: for each rival, all pairs of
+/// slots in which the rival's is above the owner's. The rivals are a set: they may come in any order and more than once, and there may be none.
+///
+/// The constraints are in the order of own slot, rival, rival's slot. The list is downward monotonic on every sheet with so many bidders and slots, and
+/// [`SheetBuilder::above_terms`](crate::SheetBuilder::above_terms) puts it on one. It is empty where there is no rival or only one slot.
+///
+/// Refused with 4, 5, 16 for the owner, 23 for a rival that is 0 or not one of the bidders, 24 where the owner is among its rivals, or 25 for more than 1,024
+/// constraints: each rival gives slots × (slots − 1) / 2 of them.
+///
+/// ```
+/// use pas::{Bidder, Kind, Refusal, Slot};
+///
+/// // Bidder 1 of three stands above bidder 3 or not at all where that one is.
+/// let terms = pas::above_terms(3, 3, Bidder(1), &[Bidder(3)])?;
+/// let below = |own, slot| Kind::Pair { own: Slot(own), other: Bidder(3), slot: Slot(slot) };
+/// assert_eq!(terms.iter().map(|constraint| constraint.kind).collect::<Vec<_>>(), [below(2, 1), below(3, 1), below(3, 2)]);
+/// assert_eq!(pas::above_terms(3, 3, Bidder(1), &[Bidder(3), Bidder(3)])?, terms);
+///
+/// assert_eq!(pas::above_terms(3, 3, Bidder(1), &[Bidder(4)]), Err(Refusal::WrongSet));
+/// assert_eq!(pas::above_terms(3, 3, Bidder(1), &[Bidder(1)]), Err(Refusal::RivalIsOwner));
+/// # Ok::<(), Refusal>(())
+/// ```
+pub fn above_terms(bidders: usize, slots: usize, owner: Bidder, rivals: &[Bidder]) -> Result<Vec<Constraint>, Refusal> {
+    let mut result = [0; MOST_TERMS_BYTES];
+    let count = above_terms_into(bidders, slots, owner, rivals, &mut result)?;
+    Ok(Constraint::all_in(&result[..4 * count]).collect())
+}
+
+/// Writes the constraints of a bidder that will stand only above its rivals to a lent buffer, without allocation, four bytes each as a sheet has them (owner, own
+/// slot, other bidder, other's slot), and gives how many they are. Later bytes stay as they were, and on a refusal all of them. Refused as [`above_terms`], or
+/// with 19 where the buffer is shorter than the bytes to be written; 4,056 bytes always do.
+pub fn above_terms_into(bidders: usize, slots: usize, owner: Bidder, rivals: &[Bidder], result: &mut [u8]) -> Result<usize, Refusal> {
+    let (owner, rivals, mut count) = (u32::from(owner.0), raw::numbers(rivals), 0);
+    Refusal::none_or(raw::above_terms(number(bidders), number(slots), owner, rivals, result, &mut count))?;
+    Ok(count as usize)
+}
+
+/// Rival sets as [`share_page`] takes them: one after another from bidder 1's, each with its length in one byte before it. There is one for each bidder, also for
+/// those without rivals and for those that are no members. Each may be in any order and may name a rival more than once.
+///
+/// Nothing else is judged here, but a set of more than 255 numbers has no such form and is refused with 23. (A set without repeats has at most 63.)
+///
+/// ```
+/// use pas::{Bidder, Refusal};
+///
+/// let sets: [&[Bidder]; 3] = [&[Bidder(2), Bidder(3)], &[], &[Bidder(2)]];
+/// assert_eq!(pas::rival_sets(sets)?, [2, 2, 3, 0, 1, 2]);
+/// assert_eq!(pas::rival_sets([vec![Bidder(2); 256], vec![]]), Err(Refusal::WrongSet));
+/// # Ok::<(), Refusal>(())
+/// ```
+pub fn rival_sets<Set: AsRef<[Bidder]>>(sets: impl IntoIterator<Item = Set>) -> Result<Vec<u8>, Refusal> {
+    let mut lent = Vec::new();
+    for set in sets {
+        let rivals = raw::numbers(set.as_ref());
+        lent.push(u8::try_from(rivals.len()).map_err(|_| Refusal::WrongSet)?);
+        lent.extend(rivals);
+    }
+    Ok(lent)
+}
+
+/// Whether a set of bidders, the members, could share a page of so many slots, each above every rival of its own among them: the order in which they could, from
+/// the top down, or none. Of several such orders it is the first in dictionary order of the bidders' numbers. More members than slots cannot share a page, and a
+/// set without members can.
+///
+/// The members may come in any order and more than once. [`rival_sets`] lays out the rival sets, one for each of the bidders; rivals that are no members do not
+/// matter. On a page with a yes's members in the first slots, in this order, no constraint of [`above_terms`] is broken that comes of these sets.
+///
+/// Refused with 4, 5, 23 for a set that has a number that is 0 or not a bidder's or where there are not as many rival sets as bidders, or 24 for a bidder in its
+/// own set, member or not.
+///
+/// ```
+/// use pas::{Bidder, Refusal};
+///
+/// // Bidder 3 wants to stand above 1 and 2, bidder 2 above 1.
+/// let none: &[Bidder] = &[];
+/// let sets = pas::rival_sets([none, &[Bidder(1)], &[Bidder(1), Bidder(2)], none])?;
+/// let order = |members: &[u8]| pas::share_page(4, 3, &members.iter().copied().map(Bidder).collect::<Vec<_>>(), &sets);
+/// assert_eq!(order(&[1, 2, 3])?, Some(vec![Bidder(3), Bidder(2), Bidder(1)]));
+/// assert_eq!(order(&[4, 2, 1])?, Some(vec![Bidder(2), Bidder(1), Bidder(4)]));
+/// assert_eq!(order(&[])?, Some(vec![]));
+/// assert_eq!(order(&[1, 2, 3, 4])?, None, "there are three slots");
+/// assert_eq!(order(&[5]), Err(Refusal::WrongSet));
+///
+/// // Each of the two wants to stand above the other.
+/// let sets = pas::rival_sets([[Bidder(2)], [Bidder(1)]])?;
+/// assert_eq!(pas::share_page(2, 2, &[Bidder(1), Bidder(2)], &sets)?, None);
+/// # Ok::<(), Refusal>(())
+/// ```
+pub fn share_page(bidders: usize, slots: usize, members: &[Bidder], rival_sets: &[u8]) -> Result<Option<Vec<Bidder>>, Refusal> {
+    let mut result = [0; MOST_SLOTS];
+    let yes = share_page_into(bidders, slots, members, rival_sets, &mut result)?;
+    // No bidder has the number 0, with which the bytes after the order are left.
+    let order = || result.iter().copied().take_while(|&bidder| bidder != 0).map(Bidder).collect();
+    Ok(yes.then(order))
+}
+
+/// Whether the members could share a page, as [`share_page`] has it, with their order written to a lent buffer, a byte a member, without allocation. Later bytes stay
+/// as they were, and on a no or a refusal all of them. Refused as [`share_page`], or with 19 where the order of a yes is longer than the buffer; as many bytes as
+/// there are slots always do, and a no needs none.
+pub fn share_page_into(bidders: usize, slots: usize, members: &[Bidder], rival_sets: &[u8], result: &mut [u8]) -> Result<bool, Refusal> {
+    let (members, mut answer) = (raw::numbers(members), 0);
+    Refusal::none_or(raw::share_page(number(bidders), number(slots), members, rival_sets, result, &mut answer))?;
+    Ok(answer == 1)
+}
+
+/// A count as a call takes it: one too large for the call's number is above its limit still as the largest of these.
+fn number(count: usize) -> u32 {
+    u32::try_from(count).unwrap_or(u32::MAX)
 }
 
 /// The number of slots of an accepted sheet.

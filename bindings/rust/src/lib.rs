@@ -3,9 +3,10 @@
 //! A page has slots from the top down, each with an effect. Bidders bid per click and set constraints: slots where they will not stand,
 //! and bidders beside whom they will not stand. The library fills the page, charges each winner the smallest bid with which it would still
 //! have won its slot, tells whether a bidder's list is downward monotonic, works out what a bidder gains, finds the best page of a
-//! small round, shows where in a sheet one bidder's constraints stand, writes the one sheet of version 2 for a round, and writes a bidder's
-//! constraints from its top-of-page terms. Page, gain and best page are there with a floor under each slot too. Its answers are proved, refusals
-//! included; this crate adds types and no judgement of its own.
+//! small round, shows where in a sheet one bidder's constraints stand, writes the one sheet of version 2 for a round, writes a bidder's
+//! constraints from its top-of-page terms or from the rivals that it will only stand above, and tells whether bidders with such rivals could share a page.
+//! Page, gain and best page are there with a floor under each slot too. Its answers are proved, refusals included; this crate adds types and no
+//! judgement of its own.
 //!
 //! The C header `include/pas.h` is the manual: the sheet's layout, the limits, what each call means. It says "place" for a slot and
 //! "condition" for a constraint, and so do the sentences of a [`Refusal`]; `docs/EMBEDDING.md` of the repository has the table of words.
@@ -134,10 +135,30 @@
 //! # Ok::<(), Refusal>(())
 //! ```
 //!
+//! Others only want to stand above certain bidders, their rivals. The library writes the constraints here too, again a downward monotonic list, and tells
+//! whether some of the bidders could share a page, and in which order. This is round H once more, and of its bidders 2, 3 and 4 could share the page:
+//!
+//! ```
+//! use pas::{Bidder, Refusal, SheetBuilder};
+//!
+//! let rivals: [&[Bidder]; 4] = [&[Bidder(2)], &[Bidder(3)], &[Bidder(4)], &[]];
+//! let mut round = SheetBuilder::new().effects([10_000, 4_500, 2_025]).bids([30, 32, 36, 40]);
+//! for (owner, set) in (1..).map(Bidder).zip(rivals) {
+//!     round = round.above_terms(owner, set.iter().copied());
+//! }
+//! let sheet = round.build()?;
+//! assert_eq!(sheet.play().bidders(), [Some(Bidder(4)), Some(Bidder(2)), None]);
+//!
+//! let sets = pas::rival_sets(rivals)?;
+//! let order = pas::share_page(4, 3, &[Bidder(4), Bidder(3), Bidder(2)], &sets)?;
+//! assert_eq!(order, Some(vec![Bidder(2), Bidder(3), Bidder(4)]));
+//! # Ok::<(), Refusal>(())
+//! ```
+//!
 //! Every call that takes a sheet, but the check, is there twice: as a method of [`Sheet`], whose bytes the library has accepted, and as a function over bytes
 //! that nobody has checked. The check makes a [`Sheet`] of bytes (`Sheet::from_bytes`), and is a function too. `play_into`, `best_into`,
-//! their second forms with floors, `canonical_into` and `slot_terms_into` write to a buffer of the caller's and allocate nothing. [`raw`] has the calls with plain
-//! numbers, as in C. A [`Sheet`] can be read back: its tick, effects, bids and constraints, as the builder takes them.
+//! their second forms with floors, `canonical_into`, `slot_terms_into`, `above_terms_into` and `share_page_into` write to a buffer of the caller's and allocate
+//! nothing. [`raw`] has the calls with plain numbers, as in C. A [`Sheet`] can be read back: its tick, effects, bids and constraints, as the builder takes them.
 //!
 //! Calls may run in several threads at once. They take up to 40 KB of stack, which is measured and not proved (`PAS_STACK_PLAY` and the
 //! others in the header); the library uses no more memory than that.
@@ -155,6 +176,7 @@ pub mod raw;
 mod refusal;
 mod sheet;
 
+pub use calls::{above_terms, above_terms_into, rival_sets, share_page, share_page_into};
 pub use calls::{best_floors_into, best_into, best_page, best_page_floors, play_floors, play_floors_into};
 pub use calls::{canonical, canonical_into, same_round};
 pub use calls::{check, gain, gain_floors, is_downward, owner_part, play, play_into};

@@ -1,9 +1,11 @@
-//! The eleven calls with plain numbers, as the C header has them, over slices.
+//! The thirteen calls with plain numbers, as the C header has them, over slices.
 //!
 //! Each returns 0, or the number of the first rule that the call breaks, by which [`Refusal`](crate::Refusal) names it; then everything
 //! lent stays as it was. This is the only module with `unsafe` in it.
 
 #![allow(unsafe_code)]
+
+use crate::sheet::Bidder;
 
 /// The library's own functions. A pointer must not be null, an answer's and that of floors must be aligned, and what is written must not overlap
 /// what is read.
@@ -63,6 +65,27 @@ mod library {
             result_len: usize,
             count: *mut u32,
         ) -> u32;
+        pub fn pas_above_terms(
+            n: u32,
+            m: u32,
+            owner: u32,
+            rivals: *const u8,
+            rivals_len: usize,
+            result: *mut u8,
+            result_len: usize,
+            count: *mut u32,
+        ) -> u32;
+        pub fn pas_share_page(
+            n: u32,
+            m: u32,
+            members: *const u8,
+            members_len: usize,
+            rival_sets: *const u8,
+            rival_sets_len: usize,
+            result: *mut u8,
+            result_len: usize,
+            answer: *mut u8,
+        ) -> u32;
     }
 }
 
@@ -114,6 +137,38 @@ pub fn canonical(sheet: &[u8], result: &mut [u8], written: &mut usize) -> u32 {
 pub fn slot_terms(n: u32, m: u32, owner: u32, limit: u32, bars: &[u8], result: &mut [u8], count: &mut u32) -> u32 {
     // SAFETY: both slices are good for their lengths, and a `&mut` slice and a `&mut` number, which is aligned, overlap nothing else.
     unsafe { library::pas_slot_terms(n, m, owner, limit, bars.as_ptr(), bars.len(), result.as_mut_ptr(), result.len(), count) }
+}
+
+/// Writes the constraints of a bidder that stands only above its rivals, for a sheet with n bidders and m slots, four bytes each in rising order, and gives
+/// how many they are.
+pub fn above_terms(n: u32, m: u32, owner: u32, rivals: &[u8], result: &mut [u8], count: &mut u32) -> u32 {
+    // SAFETY: both slices are good for their lengths, and a `&mut` slice and a `&mut` number, which is aligned, overlap nothing else.
+    unsafe { library::pas_above_terms(n, m, owner, rivals.as_ptr(), rivals.len(), result.as_mut_ptr(), result.len(), count) }
+}
+
+/// Answers 1 where the members could share a page of m slots, each above every rival of its own among them, and writes their first such order, a byte a
+/// member; else 0. The rival sets of the n bidders stand one after another, each with its length before it.
+pub fn share_page(n: u32, m: u32, members: &[u8], rival_sets: &[u8], result: &mut [u8], answer: &mut u8) -> u32 {
+    // SAFETY: the slices are good for their lengths, and a `&mut` slice and a `&mut` byte overlap nothing else.
+    unsafe {
+        library::pas_share_page(
+            n,
+            m,
+            members.as_ptr(),
+            members.len(),
+            rival_sets.as_ptr(),
+            rival_sets.len(),
+            result.as_mut_ptr(),
+            result.len(),
+            answer,
+        )
+    }
+}
+
+/// The numbers of bidders, as the calls take a set of them.
+pub(crate) fn numbers(bidders: &[Bidder]) -> &[u8] {
+    // SAFETY: a `Bidder` is laid out as the byte that it holds (`repr(transparent)`).
+    unsafe { std::slice::from_raw_parts(bidders.as_ptr().cast(), bidders.len()) }
 }
 
 /// As [`play`], with a floor under each slot.

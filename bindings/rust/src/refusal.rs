@@ -56,8 +56,14 @@ pub enum Refusal {
     WrongBars,
     /// 22: the bar against the owner of the terms is not 0.
     BarAgainstOwner,
+    /// 23: the bytes of the rival sets are not one set for each bidder, or a set, that of the members too, has a number that is 0 or not a bidder's.
+    WrongSet,
+    /// 24: a bidder is in its own set of rivals.
+    RivalIsOwner,
+    /// 25: the rivals give more than 1,024 constraints.
+    TooManyTerms,
     /// 26: the tick is 0 or above 1,000,000,000.
-    WrongTick = 26,
+    WrongTick,
     /// 27: a bid is no multiple of the tick.
     BidOffTick,
     /// 28: a constraint of version 2 is not above the one before it, in the order of owner, own slot, other bidder, other's slot.
@@ -71,7 +77,7 @@ pub enum Refusal {
 }
 
 /// Every refusal, in the order of the numbers.
-const ALL: [Refusal; 28] = [
+const ALL: [Refusal; 31] = [
     Refusal::SheetTooShort,
     Refusal::WrongMark,
     Refusal::WrongVersion,
@@ -94,6 +100,9 @@ const ALL: [Refusal; 28] = [
     Refusal::WrongLimit,
     Refusal::WrongBars,
     Refusal::BarAgainstOwner,
+    Refusal::WrongSet,
+    Refusal::RivalIsOwner,
+    Refusal::TooManyTerms,
     Refusal::WrongTick,
     Refusal::BidOffTick,
     Refusal::OutOfOrder,
@@ -103,7 +112,7 @@ const ALL: [Refusal; 28] = [
 ];
 
 impl Refusal {
-    /// The number, 1 to 22 or 26 to 31, by which C has it.
+    /// The number, 1 to 31, by which C has it.
     pub fn number(self) -> u32 {
         self as u32
     }
@@ -138,6 +147,9 @@ impl Refusal {
             Refusal::WrongLimit => "The limit is 0 or above m.",
             Refusal::WrongBars => "The list of bars is not n long, or a bar is above m.",
             Refusal::BarAgainstOwner => "The bar against the owner is not 0.",
+            Refusal::WrongSet => "The rival sets are not exactly n, or a set has a number 0 or above n.",
+            Refusal::RivalIsOwner => "A bidder is in its own rival set.",
+            Refusal::TooManyTerms => "The rivals give more than 1,024 conditions.",
             Refusal::WrongTick => "The tick is 0 or above 1,000,000,000.",
             Refusal::BidOffTick => "A bid is no multiple of the tick.",
             Refusal::OutOfOrder => "A condition of version 2 is not above the one before it.",

@@ -7,6 +7,7 @@ use crate::Refusal;
 
 /// A bidder by its number, counted from 1 in the order of the bids.
 #[derive(Clone, Copy, Debug, PartialEq, Eq, Hash, PartialOrd, Ord)]
+#[repr(transparent)]
 pub struct Bidder(pub u8);
 
 /// A slot of the page ("place" in the C header), counted from 1 at the top.
@@ -249,8 +250,8 @@ impl AsRef<[u8]> for Sheet {
 
 /// Collects the parts of a sheet in any order. It judges nothing: [`build`](SheetBuilder::build) asks the library.
 ///
-/// Constraints may be given in any order and more than once, one by one or as top-of-page terms. With a tick, in version 2, they are a set: each is written
-/// once, in the order of owner, own slot, other bidder, other's slot. In version 1 they are written as they came.
+/// Constraints may be given in any order and more than once, one by one, as top-of-page terms or by rivals. With a tick, in version 2, they are a set: each is
+/// written once, in the order of owner, own slot, other bidder, other's slot. In version 1 they are written as they came.
 #[derive(Clone, Debug, Default)]
 pub struct SheetBuilder {
     tick: Option<u32>,
@@ -268,6 +269,11 @@ enum Given {
         owner: Bidder,
         limit: Slot,
         bars: Vec<u8>,
+    },
+    /// The same.
+    Above {
+        owner: Bidder,
+        rivals: Vec<Bidder>,
     },
 }
 
@@ -334,7 +340,32 @@ impl SheetBuilder {
         self
     }
 
-    /// The sheet, or the library's refusal: that of the first top-of-page terms that it refuses, else that of the sheet.
+    /// Adds the constraints of a bidder that will stand only above certain others, its rivals; see [`above_terms`](crate::above_terms). They are those for all
+    /// bidders and slots that the sheet has in the end, also for those that are added later.
+    ///
+    /// They add to what the bidder has: where they are all that it has, its list is downward monotonic. Rivals that the library refuses, with 4, 5, 16 or 23 to
+    /// 25, make [`build`](SheetBuilder::build) give that refusal. Where they take the sheet above 1,024 constraints it is refused with 6, as with others.
+    ///
+    /// ```
+    /// use pas::{Bidder, Refusal, SheetBuilder};
+    ///
+    /// // Bidder 3 wants to stand above 1 and 2.
+    /// let round = SheetBuilder::new().effects([4, 2, 1]).bids([30, 20, 10]);
+    /// let sheet = round.clone().above_terms(Bidder(3), [Bidder(1), Bidder(2)]).build()?;
+    /// assert_eq!(sheet.list_of(Bidder(3)), pas::above_terms(3, 3, Bidder(3), &[Bidder(1), Bidder(2)])?);
+    /// assert!(sheet.is_downward(Bidder(3))?);
+    /// assert_eq!(sheet.play().bidders(), [Some(Bidder(1)), Some(Bidder(2)), None]);
+    ///
+    /// assert_eq!(round.clone().above_terms(Bidder(3), [Bidder(4)]).build(), Err(Refusal::WrongSet));
+    /// assert_eq!(round.above_terms(Bidder(3), [Bidder(3)]).build(), Err(Refusal::RivalIsOwner));
+    /// # Ok::<(), Refusal>(())
+    /// ```
+    pub fn above_terms(mut self, owner: Bidder, rivals: impl IntoIterator<Item = Bidder>) -> SheetBuilder {
+        self.constraints.push(Given::Above { owner, rivals: rivals.into_iter().collect() });
+        self
+    }
+
+    /// The sheet, or the library's refusal: that of the first top-of-page terms or rivals that it refuses, else that of the sheet.
     pub fn build(self) -> Result<Sheet, Refusal> {
         let constraints = self.written_constraints()?;
         let bytes = self.bytes_with(&constraints, constraints.len());
@@ -343,8 +374,8 @@ impl SheetBuilder {
     }
 
     /// The sheet's bytes, not checked. A count that is too large for its field is written as the field's largest number, which is above
-    /// the limit of the count, so that the library refuses it with the count's own number. Top-of-page terms that the library refuses give no
-    /// constraints to write: then none is written, and their count is that largest number too, so that no such bytes are accepted.
+    /// the limit of the count, so that the library refuses it with the count's own number. Top-of-page terms or rivals that the library refuses give
+    /// no constraints to write: then none is written, and their count is that largest number too, so that no such bytes are accepted.
     pub fn bytes(&self) -> Vec<u8> {
         match self.written_constraints() {
             Ok(constraints) => self.bytes_with(&constraints, constraints.len()),
@@ -368,18 +399,21 @@ impl SheetBuilder {
         bytes
     }
 
-    /// The constraints as the sheet has them: as they came in version 1; in order, each once, in version 2. Or the refusal of the first terms
-    /// that are refused.
+    /// The constraints as the sheet has them: as they came in version 1; in order, each once, in version 2. Or the refusal of the first terms or
+    /// rivals that are refused.
     fn written_constraints(&self) -> Result<Vec<[u8; 4]>, Refusal> {
+        let (bidders, slots) = (self.bids.len(), self.effects.len());
         let mut written = Vec::with_capacity(self.constraints.len());
         for given in &self.constraints {
-            match given {
-                Given::Constraint(constraint) => written.push(constraint.bytes()),
-                Given::Terms { owner, limit, bars } => {
-                    let constraints = calls::slot_terms(self.bids.len(), self.effects.len(), *owner, *limit, bars)?;
-                    written.extend(constraints.into_iter().map(Constraint::bytes));
+            let constraints = match given {
+                Given::Constraint(constraint) => {
+                    written.push(constraint.bytes());
+                    continue;
                 }
-            }
+                Given::Terms { owner, limit, bars } => calls::slot_terms(bidders, slots, *owner, *limit, bars)?,
+                Given::Above { owner, rivals } => calls::above_terms(bidders, slots, *owner, rivals)?,
+            };
+            written.extend(constraints.into_iter().map(Constraint::bytes));
         }
         if self.tick.is_some() {
             written.sort_unstable();

@@ -1,7 +1,10 @@
 //! The library and the independent engine must agree on every byte: numbers, answers, buffers with what lies behind the result, on
 //! good sheets and on damaged ones. The seeds are fixed, so that a failure comes back.
 
-use independent::random::{disordered, floors, in_ticks, nearly, reshaped, round, spoiled, terms, tick, Floors, Manner, Random, Size};
+use independent::random::{
+    disordered, floors, group, in_ticks, nearly, reshaped, rivals, round, spoiled, spoiled_group, spoiled_rivals, terms, tick,
+    with_repeats, Floors, Manner, Random, Sets, Size,
+};
 use independent::{engine, slow};
 use pas::raw;
 use std::collections::BTreeSet;
@@ -472,6 +475,182 @@ fn sheets_with_terms_are_accepted_and_the_list_is_downward_monotonic() {
         asking += usize::from(!written.is_empty());
     }
     assert!(asking > 10_000, "most terms ask for something: {asking}");
+}
+
+/// A size for rivals or a group: one of the largest, a small one or a tiny one.
+fn size_of_sets(random: &mut Random) -> Size {
+    let most = random.one_of(&[WHOLE, SMALL, Size { bidders: 3, slots: 3, constraints: 0 }]);
+    if random.once_in(8) {
+        WHOLE
+    } else {
+        size_up_to(random, most)
+    }
+}
+
+#[test]
+fn both_write_the_same_constraints_from_rivals() {
+    let (mut random, mut seen, mut sizes) = (Random::seeded(18), Seen::default(), [0; 3]);
+    for _ in 0..60_000 {
+        let size = size_of_sets(&mut random);
+        let mut of = rivals(&mut random, size.bidders, size.slots);
+        for _ in 0..random.one_of(&[0, 0, 1, 2]) {
+            of = spoiled_rivals(&mut random, of);
+        }
+        let (mut room, mut count) = ([0; 4096], 0);
+        engine::above_terms(of.bidders, of.slots, of.owner, &of.rivals, &mut room, &mut count);
+        let around = random.one_of(&[4 * count as usize, 4 * count as usize, 4096, 0]);
+        let lent = lent_buffer(&mut random, around);
+        let (mut ours, mut theirs, mut our_count, mut their_count) = (lent.clone(), lent.clone(), 77_777, 77_777);
+        let number = engine::above_terms(of.bidders, of.slots, of.owner, &of.rivals, within(&mut theirs), &mut their_count);
+        let our_number = raw::above_terms(of.bidders, of.slots, of.owner, &of.rivals, within(&mut ours), &mut our_count);
+        assert_eq!((our_number, our_count), (number, their_count), "{of:?}");
+        assert_eq!(ours, theirs, "{of:?}");
+        assert_eq!(number, slow::above_terms_number(&of, lent.len() - 2 * GUARD), "{of:?}");
+        match number {
+            0 => {
+                let written = slow::above_terms(&of);
+                assert_eq!(
+                    (our_count as usize, &ours[GUARD..GUARD + 4 * written.len()]),
+                    (written.len(), written.as_flattened()),
+                    "{of:?}"
+                );
+                sizes[usize::from(our_count > 0) + usize::from(our_count > 500)] += 1;
+            }
+            _ => assert!(ours == lent && our_count == 77_777, "a refused call altered something lent"),
+        }
+        seen.add(number);
+    }
+    assert_eq!(seen.0, BTreeSet::from([0, 4, 5, 16, 19, 23, 24, 25]));
+    assert!(sizes.iter().all(|&times| times > 100), "no constraints, some and many come up: {sizes:?}");
+}
+
+#[test]
+fn sheets_by_rivals_are_accepted_and_the_lists_are_downward_monotonic() {
+    let (mut random, mut asking) = (Random::seeded(19), 0);
+    for _ in 0..20_000 {
+        // Nine sets of eight rivals in five slots give 720 constraints at most.
+        let mut round = random_round(&mut random, Size { bidders: 9, slots: 5, constraints: 0 });
+        let size = Size { bidders: round.bids.len(), slots: round.effects.len(), constraints: 0 };
+        let (effects, bids) = (round.effects.iter().copied(), round.bids.iter().copied());
+        let mut builder = pas::SheetBuilder::new().effects(effects).bids(bids);
+        for owner in 1..=size.bidders as u8 {
+            let mut of = slow::Rivals { owner: u32::from(owner), ..rivals(&mut random, size.bidders, size.slots) };
+            of.rivals.retain(|&rival| rival != owner);
+            builder = builder.above_terms(pas::Bidder(owner), of.rivals.iter().copied().map(pas::Bidder));
+            round.constraints.extend(slow::above_terms(&of));
+        }
+        if let Some(tick) = round.tick {
+            builder = builder.tick(tick);
+        }
+        let sheet = builder.build().expect("rivals that are right, on a sheet that is");
+        assert_eq!(sheet.as_bytes(), slow::sheet(&round), "{round:?}");
+        for owner in 1..=size.bidders as u8 {
+            assert_eq!(sheet.is_downward(pas::Bidder(owner)), Ok(true), "{round:?}, {owner}");
+        }
+        asking += usize::from(!round.constraints.is_empty());
+    }
+    assert!(asking > 10_000, "most rounds have constraints: {asking}");
+}
+
+/// Compares both engines on a group, with guards around a lent buffer, and gives the number and the answer.
+fn both_share_alike(random: &mut Random, of: &slow::Group) -> (u32, u8) {
+    let around = random.one_of(&[0, 1, of.members.len().min(16), 16]);
+    let lent = lent_buffer(random, around);
+    let (mut ours, mut theirs, mut our_answer, mut their_answer) = (lent.clone(), lent.clone(), 77, 77);
+    let number = engine::share_page(of.bidders, of.slots, &of.members, &of.rival_sets, within(&mut theirs), &mut their_answer);
+    let our_number = raw::share_page(of.bidders, of.slots, &of.members, &of.rival_sets, within(&mut ours), &mut our_answer);
+    assert_eq!((our_number, our_answer), (number, their_answer), "{of:?}");
+    assert_eq!(ours, theirs, "{of:?}");
+    assert!(number == 0 || our_answer == 77, "a refused call altered the answer");
+    assert!((number, our_answer) == (0, 1) || ours == lent, "a refused call or a no altered the buffer");
+    (number, our_answer)
+}
+
+#[test]
+fn both_share_the_same_pages() {
+    let (mut random, mut seen, mut answers) = (Random::seeded(20), Seen::default(), [[0; 17]; 2]);
+    for _ in 0..60_000 {
+        let size = size_of_sets(&mut random);
+        let any = random.between(0, size.bidders);
+        let members = random.one_of(&[any, size.slots, size.slots, size.slots + 1, 2]).min(size.bidders);
+        let kind = random.one_of(&Sets::ALL);
+        let mut of = group(&mut random, size.bidders, size.slots, members, kind);
+        if random.once_in(2) {
+            of = with_repeats(&mut random, of);
+        }
+        for _ in 0..random.one_of(&[0, 0, 0, 1, 2]) {
+            of = spoiled_group(&mut random, of);
+        }
+        let (number, answer) = both_share_alike(&mut random, &of);
+        if number == 0 {
+            answers[usize::from(answer)][members.min(16)] += 1;
+        }
+        seen.add(number);
+    }
+    assert_eq!(seen.0, BTreeSet::from([0, 4, 5, 19, 23, 24]));
+    assert!(answers[1].iter().chain(&answers[0][2..]).all(|&times| times > 20), "both answers come up: {answers:?}");
+}
+
+#[test]
+fn small_groups_share_pages_as_all_orders_tried_say() {
+    let (mut random, mut numbers, mut answers) = (Random::seeded(21), [0; 32], [[0; 7]; 2]);
+    for _ in 0..100_000 {
+        let bidders = random.between(1, 8);
+        let (members, slots) = (random.between(0, bidders.min(6)), random.one_of(&[1, 2, 3, 4, 5, 6, 6, 6, 16]));
+        let kind = random.one_of(&[Sets::Any, Sets::Any, Sets::Few, Sets::Full, Sets::Circle]);
+        let mut of = group(&mut random, bidders, slots, members, kind);
+        if random.once_in(4) {
+            of = with_repeats(&mut random, of);
+        }
+        if random.once_in(4) {
+            of = spoiled_group(&mut random, of);
+        }
+        let room = random.one_of(&[0, members.saturating_sub(1), members, members, 16]);
+        let (mut result, mut answer) = (vec![7; room], 77);
+        let number = raw::share_page(of.bidders, of.slots, &of.members, &of.rival_sets, &mut result, &mut answer);
+        assert_eq!(number, slow::share_page_number(&of, room), "{of:?}, {room}");
+        let (mut expected, mut expected_answer) = (vec![7; room], 77);
+        if number == 0 {
+            let order = slow::shared_order(&of);
+            expected_answer = u8::from(order.is_some());
+            let order = order.unwrap_or_default();
+            expected[..order.len()].copy_from_slice(&order);
+            answers[usize::from(expected_answer)][members] += 1;
+        }
+        assert_eq!((result, answer), (expected, expected_answer), "{of:?}, {room}");
+        numbers[number as usize] += 1;
+    }
+    assert!([0, 4, 5, 19, 23, 24].iter().all(|&number| numbers[number] > 500), "each number comes up: {numbers:?}");
+    assert!(answers[1].iter().chain(&answers[0][2..]).all(|&times| times > 500), "both answers come up: {answers:?}");
+}
+
+#[test]
+fn a_round_by_rivals_has_a_page_with_the_members_exactly_where_they_can_share_one() {
+    let (mut random, mut answers) = (Random::seeded(22), [0; 2]);
+    for _ in 0..10_000 {
+        let (bidders, slots) = (random.between(1, 4), random.between(1, 4));
+        let (members, kind) = (random.between(0, bidders), random.one_of(&Sets::ALL));
+        let of = group(&mut random, bidders, slots, members, kind);
+        let sets = slow::rival_sets(&of).expect("a group that is right");
+        let mut builder = pas::SheetBuilder::new().effects(vec![1; slots]).bids(vec![1; bidders]);
+        for (owner, set) in (1..).map(pas::Bidder).zip(&sets) {
+            builder = builder.above_terms(owner, set.iter().copied().map(pas::Bidder));
+        }
+        let sheet = builder.build().expect("rivals that are right");
+        let fields = sheet.as_bytes()[9 + 4 * (slots + bidders)..].chunks_exact(4);
+        let constraints = fields.map(|field| [field[0], field[1], field[2], field[3]]).collect();
+        let round = slow::Round { tick: None, effects: sheet.effects(), bids: sheet.bids(), constraints, floors: Vec::new() };
+        let wanted: Vec<_> = of.members.iter().copied().map(pas::Bidder).collect();
+        let order = pas::share_page(bidders, slots, &wanted, &of.rival_sets).expect("a group that is right");
+        assert_eq!(order.is_some(), slow::can_stand_together(&round, &of.members), "{of:?}");
+        if let Some(order) = &order {
+            let mut page: Vec<u8> = order.iter().map(|bidder| bidder.0).collect();
+            page.resize(slots, 0);
+            assert!(!round.constraints.iter().any(|&constraint| slow::is_broken(constraint, &page)), "{of:?}");
+        }
+        answers[usize::from(order.is_some())] += 1;
+    }
+    assert!(answers.iter().all(|&times| times > 1000), "both answers come up: {answers:?}");
 }
 
 #[test]

@@ -101,15 +101,16 @@ fn the_first_count_that_is_wrong_gives_the_number() {
 #[test]
 fn every_refusal_has_its_number_and_its_sentence() {
     let all: Vec<Refusal> = (0..=300).filter_map(Refusal::from_number).collect();
-    assert_eq!(all.iter().map(|refusal| refusal.number()).collect::<Vec<_>>(), (1..=22).chain(26..=31).collect::<Vec<_>>());
+    assert_eq!(all.iter().map(|refusal| refusal.number()).collect::<Vec<_>>(), (1..=31).collect::<Vec<_>>());
     assert_eq!(Refusal::from_number(u32::MAX), None);
     assert_eq!(all[0].to_string(), "The sheet has fewer than 9 bytes, or fewer than 13 in version 2.");
     assert_eq!(all[12].to_string(), "Own place, other bidder and other's place are all 0.");
     assert_eq!(all[18].to_string(), "The result buffer is shorter than the bytes to be written.");
     assert_eq!(all[21].to_string(), "The bar against the owner is not 0.");
-    assert_eq!(all[23].to_string(), "A bid is no multiple of the tick.");
-    assert_eq!(all[25].to_string(), "A bidder's part is asked of a sheet of version 1.");
-    assert_eq!(all[27].to_string(), "A floor is above 1,000,000,000.");
+    assert_eq!(all[24].to_string(), "The rivals give more than 1,024 conditions.");
+    assert_eq!(all[26].to_string(), "A bid is no multiple of the tick.");
+    assert_eq!(all[28].to_string(), "A bidder's part is asked of a sheet of version 1.");
+    assert_eq!(all[30].to_string(), "A floor is above 1,000,000,000.");
 }
 
 #[test]

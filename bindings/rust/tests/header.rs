@@ -84,6 +84,23 @@ fn the_headers_length_of_the_longest_terms_is_enough_and_no_less() {
 }
 
 #[test]
+fn the_headers_length_of_the_longest_list_by_rivals_is_enough_and_no_less() {
+    let (bidders, slots, length) = (number("PAS_MAX_BIDDERS"), number("PAS_MAX_PLACES"), number("PAS_MAX_ABOVE_LENGTH"));
+    let others: Vec<Bidder> = (2..=bidders as u8).map(Bidder).collect();
+    let mut longest = 0;
+    for slots in 1..=slots {
+        for rivals in (0..bidders).map(|count| &others[..count]) {
+            let mut room = vec![0; length + 1];
+            match pas::above_terms_into(bidders, slots, Bidder(1), rivals, &mut room) {
+                Ok(count) => longest = longest.max(4 * count),
+                Err(refusal) => assert_eq!(refusal, Refusal::TooManyTerms),
+            }
+        }
+    }
+    assert_eq!(longest, length);
+}
+
+#[test]
 fn each_refusal_has_the_number_the_name_and_the_sentence_of_the_header() {
     let entries: Vec<Entry> = HEADER.lines().filter_map(entry).collect();
     let in_checking_order = (0..=6)
@@ -93,7 +110,7 @@ fn each_refusal_has_the_number_the_name_and_the_sentence_of_the_header() {
         .chain(10..=13)
         .chain([28, 30, 31, 14, 15, 29])
         .chain(16..=18)
-        .chain(20..=22)
+        .chain(20..=25)
         .chain([19]);
     assert_eq!(entries.iter().map(|entry| entry.number).collect::<Vec<_>>(), in_checking_order.collect::<Vec<_>>());
     for Entry { name, number, sentence } in entries.into_iter().skip(1) {

@@ -1,7 +1,8 @@
 //! Demand 3 of document 01 on random rounds: the honest list gains at least as much as a downward monotonic list sent instead; with request S-7 of
-//! document 02 also where both sheets are played with the same floors, and with request S-1 for the lists of top-of-page terms, which need no test.
+//! document 02 also where both sheets are played with the same floors, and with requests S-1 and S-2 for the lists of top-of-page terms and of rivals, which
+//! need no test.
 
-use independent::random::{floors, in_ticks, round, terms, tick, Floors, Manner, Random, Size};
+use independent::random::{floors, in_ticks, rivals, round, terms, tick, Floors, Manner, Random, Size};
 use independent::slow;
 use pas::{Bidder, Sheet, Slot};
 
@@ -20,13 +21,27 @@ fn made_downward(random: &mut Random, size: Size, bidder: u8) -> Vec<slow::Const
     list
 }
 
+/// The constraints of bytes that the library has written.
+fn constraints(written: &[u8]) -> Vec<slow::Constraint> {
+    written.chunks_exact(4).map(|field| [field[0], field[1], field[2], field[3]]).collect()
+}
+
 /// The list that the library writes from top-of-page terms: nobody has tested it.
 fn of_terms(random: &mut Random, size: Size, bidder: u8) -> Vec<slow::Constraint> {
     let mut of = terms(random, size.bidders, size.slots);
     of.bars[usize::from(bidder) - 1] = 0;
     let (mut result, limit) = ([0; 4092], Slot(of.limit as u8));
     let count = pas::slot_terms_into(size.bidders, size.slots, Bidder(bidder), limit, &of.bars, &mut result).expect("terms that are right");
-    result.chunks_exact(4).take(count).map(|field| [field[0], field[1], field[2], field[3]]).collect()
+    constraints(&result[..4 * count])
+}
+
+/// The list that the library writes from a set of rivals: nobody has tested it either.
+fn of_rivals(random: &mut Random, size: Size, bidder: u8) -> Vec<slow::Constraint> {
+    let mut set: Vec<Bidder> = rivals(random, size.bidders, size.slots).rivals.into_iter().map(Bidder).collect();
+    set.retain(|&rival| rival != Bidder(bidder));
+    let mut result = [0; 4056];
+    let count = pas::above_terms_into(size.bidders, size.slots, Bidder(bidder), &set, &mut result).expect("rivals that are right");
+    constraints(&result[..4 * count])
 }
 
 fn sheet(round: &slow::Round) -> Sheet {
@@ -115,4 +130,14 @@ fn no_list_of_terms_gains_more_than_the_honest_one() {
 #[test]
 fn with_the_same_floors_no_list_of_terms_gains_more_than_the_honest_one() {
     no_list_gains_more_with_floors(10, 60_000, of_terms);
+}
+
+#[test]
+fn no_list_of_rivals_gains_more_than_the_honest_one() {
+    no_list_gains_more(11, 30_000, of_rivals);
+}
+
+#[test]
+fn with_the_same_floors_no_list_of_rivals_gains_more_than_the_honest_one() {
+    no_list_gains_more_with_floors(12, 60_000, of_rivals);
 }

@@ -20,7 +20,7 @@ use Rattle.owner_part.specs.OwnerPart.{partRefusal, bytesBefore, partLength}
 use Rattle.canonical.specs.Canonical.{canonicalSheet, canonicalRefusal, canonicalBuffer}
 use Rattle.slot_terms.specs.SlotTerms.{slotTerms, slotTermsRefusal, conditionsBuffer}
 use Rattle.pas.specs.Calls.{yesNumber}
-use Rattle.demands.specs.Demands.{Owed, DemandOne, DemandTwo, DemandThree, RequestOne, RequestThree, RequestFour, RequestFive, RequestSix, RequestSeven}
+use Rattle.demands.specs.Demands.{Owed, DemandOne, DemandTwo, DemandThree, RequestOne, RequestTwo, RequestThree, RequestFour, RequestFive, RequestSix, RequestSeven}
 use Rattle.demands.proofs.FloorsLaws.{
   play-without,
   gain-without,
@@ -47,6 +47,35 @@ use Rattle.demands.proofs.TickLaws.{request-four-holds}
 use Rattle.demands.proofs.OwnerOrderLaws.{request-five-holds}
 use Rattle.demands.proofs.CanonicalLaws.{request-six-holds}
 use Rattle.demands.proofs.SlotTermsLaws.{request-one-holds}
+use Rattle.above_terms.specs.AboveTerms.{aboveTerms, aboveTermsRefusal}
+use Rattle.share_page.specs.SharePage.{canShare, orderBuffer, shareRefusal}
+use Rattle.above_terms.proofs.RefusalLaws.{four, five, sixteen}
+use Rattle.demands.proofs.AboveTermsLaws.{
+  above-written,
+  above-many,
+  same-terms,
+  above-twenty-three,
+  above-twenty-four,
+  above-twenty-five,
+  above-nineteen,
+  above-answered,
+}
+use Rattle.demands.proofs.ShareLaws.{
+  shared-right,
+  first-places,
+  no-page,
+  all-written,
+  read-lent,
+  same-members,
+  share-four,
+  share-five,
+  members-wrong,
+  not-sets,
+  sets-wrong,
+  share-twenty-four,
+  share-nineteen,
+  share-answered,
+}
 
 -- what stands in lent memory is what stood there, or the result
 owed : {A : Type 0} (number first : ℕ) (given before after : A) → number ≡ first → after ≡ unlessRefused first given before →
@@ -56,6 +85,19 @@ owed number first given before after e w =
       first-number = e;
       refused = λ h. w ∙ sym (refused-leaves first number given before e h);
       answered = λ z. w ∙ sym (answered-gives first given before (sym e ∙ z));
+    }
+
+-- two of them
+owed-two : {A B : Type 0} (number first : ℕ) (given before after : A) (given′ before′ after′ : B) → number ≡ first →
+    after ≡ unlessRefused first given before → after′ ≡ unlessRefused first given′ before′ →
+    Owed number first ((after ≡ before) × (after′ ≡ before′)) ((after ≡ given) × (after′ ≡ given′))
+owed-two number first given before after given′ before′ after′ e w w′ =
+    let one = owed number first given before after e w in
+    let other = owed number first given′ before′ after′ e w′ in
+    record {
+      first-number = e;
+      refused = λ h. (one .refused h, other .refused h);
+      answered = λ z. (one .answered z, other .answered z);
     }
 
 -- Demand 1: each contract's equations, read by the two cases.
@@ -68,52 +110,31 @@ demand-one =
       gain = λ s t i worth before number after g.
           owed number (gainRefusal s t i worth) (gainOf (roundOf s) (roundOf t) i worth) before after (g .number) (g .written);
       best = λ s out out′ before number after g.
-          let buffer = owed number (bestRefusal s out) (bestBuffer (roundOf s) out) out out′ (g .number) (g .buffer) in
-          let sum = owed number (bestRefusal s out) (total (roundOf s) (bestPage (roundOf s))) before after (g .number) (g .written) in
-          record {
-            first-number = g .number;
-            refused = λ h. (buffer .refused h, sum .refused h);
-            answered = λ z. (buffer .answered z, sum .answered z);
-          };
+          owed-two number (bestRefusal s out) (bestBuffer (roundOf s) out) out out′ (total (roundOf s) (bestPage (roundOf s))) before after
+          (g .number) (g .buffer) (g .written);
       owner-part = λ s i start size number start′ size′ g.
-          let place = owed number (partRefusal s i) (bytesBefore s i) start start′ (g .number) (g .starts) in
-          let bytes = owed number (partRefusal s i) (partLength s i) size size′ (g .number) (g .sized) in
-          record {
-            first-number = g .number;
-            refused = λ h. (place .refused h, bytes .refused h);
-            answered = λ z. (place .answered z, bytes .answered z);
-          };
+          owed-two number (partRefusal s i) (bytesBefore s i) start start′ (partLength s i) size size′ (g .number) (g .starts) (g .sized);
       play-floors = λ f s out out′ number g.
           owed number (playFloorsRefusal f s out) (playedBuffer (withFloors (roundOf s) f) out) out out′ (g .number) (g .buffer);
       gain-floors = λ f s t i worth before number after g.
           owed number (gainFloorsRefusal f s t i worth) (gainOf (withFloors (roundOf s) f) (roundOf t) i worth) before after (g .number) (g .written);
       best-floors = λ f s out out′ before number after g.
           let r = withFloors (roundOf s) f in
-          let buffer = owed number (bestFloorsRefusal f s out) (bestBuffer r out) out out′ (g .number) (g .buffer) in
-          let sum = owed number (bestFloorsRefusal f s out) (total r (bestPage r)) before after (g .number) (g .written) in
-          record {
-            first-number = g .number;
-            refused = λ h. (buffer .refused h, sum .refused h);
-            answered = λ z. (buffer .answered z, sum .answered z);
-          };
+          owed-two number (bestFloorsRefusal f s out) (bestBuffer r out) out out′ (total r (bestPage r)) before after (g .number) (g .buffer) (g .written);
       canonical = λ s out out′ before number after g.
-          let buffer = owed number (canonicalRefusal s out) (canonicalBuffer s out) out out′ (g .number) (g .buffer) in
-          let bytes = owed number (canonicalRefusal s out) (length (canonicalSheet s)) before after (g .number) (g .written) in
-          record {
-            first-number = g .number;
-            refused = λ h. (buffer .refused h, bytes .refused h);
-            answered = λ z. (buffer .answered z, bytes .answered z);
-          };
+          owed-two number (canonicalRefusal s out) (canonicalBuffer s out) out out′ (length (canonicalSheet s)) before after
+          (g .number) (g .buffer) (g .written);
       slot-terms = λ n m owner limit bars out out′ before number after g.
-          let first = slotTermsRefusal n m owner limit bars out in
           let qs = slotTerms n m owner limit bars in
-          let buffer = owed number first (conditionsBuffer qs out) out out′ (g .number) (g .buffer) in
-          let many = owed number first (length qs) before after (g .number) (g .written) in
-          record {
-            first-number = g .number;
-            refused = λ h. (buffer .refused h, many .refused h);
-            answered = λ z. (buffer .answered z, many .answered z);
-          };
+          owed-two number (slotTermsRefusal n m owner limit bars out) (conditionsBuffer qs out) out out′ (length qs) before after
+          (g .number) (g .buffer) (g .written);
+      above-terms = λ n m owner rivals out out′ before number after g.
+          let qs = aboveTerms n m owner rivals in
+          owed-two number (aboveTermsRefusal n m owner rivals out) (conditionsBuffer qs out) out out′ (length qs) before after
+          (g .number) (g .buffer) (g .written);
+      share-page = λ n m members sets out out′ before number after g.
+          owed-two number (shareRefusal n m members sets out) (orderBuffer n m members sets out) out out′ (yesNumber (canShare n m members sets)) before after
+          (g .number) (g .buffer) (g .written);
     }
 
 -- Demand 2: the result's page and prices, and the best page, with floors of 0.
@@ -175,3 +196,38 @@ request-seven =
 -- Request S-1: an owner's conditions by its limit and the bars.
 pub request-one : RequestOne
 request-one = request-one-holds
+
+-- Request S-2: an owner's conditions by its rivals, and who could share a page.
+pub request-two : RequestTwo
+request-two =
+    record {
+      written = above-written;
+      many = above-many;
+      same-set = same-terms;
+      same-members = same-members;
+      read = read-lent;
+      shared = shared-right;
+      all-written = all-written;
+      on-first-places = first-places;
+      on-no-page = no-page;
+      four = four;
+      five = five;
+      sixteen = sixteen;
+      twenty-three = above-twenty-three;
+      twenty-four = above-twenty-four;
+      twenty-five = λ n m owner rivals out fit. above-twenty-five n m owner rivals out fit;
+      nineteen = λ n m owner rivals out fit. above-nineteen n m owner rivals out fit;
+      answered = λ n m owner rivals out fit. above-answered n m owner rivals out fit;
+      share-four = share-four;
+      share-five = share-five;
+      members-wrong = members-wrong;
+      not-sets = not-sets;
+      sets-wrong = sets-wrong;
+      share-twenty-four = share-twenty-four;
+      share-nineteen = λ n m members sets out fit.
+          share-nineteen n m members sets out (fit .some-bidders) (fit .most-bidders) (fit .some-slots) (fit .most-slots)
+          (fit .numbered) (fit .lent) (fit .each-numbered) (fit .not-itself);
+      share-answered = λ n m members sets out fit.
+          share-answered n m members sets out (fit .some-bidders) (fit .most-bidders) (fit .some-slots) (fit .most-slots)
+          (fit .numbered) (fit .lent) (fit .each-numbered) (fit .not-itself);
+    }

@@ -9,4 +9,6 @@ pub mod SameRoundLaws
 pub mod CanonicalLaws
 pub mod ListLaws
 pub mod SlotTermsLaws
+pub mod AboveTermsLaws
+pub mod ShareLaws
 pub mod Demands

@@ -9,7 +9,7 @@ use mathlib.Core.Path.{_≡_, refl, sym, _∙_, ap, ap₂, subst}
 use native.Mathlib.Nat.{eq-or-lt-of-le, le-of-suc-le-suc, not-suc-le-zero}
 use native.Mathlib.Omega.{arith}
 use lib.Dec.{eqb, ltb}
-use lib.ListN.{length, getD}
+use lib.ListN.{length, getD, List·getD-eq-default}
 use Rattle.basis.specs.Rows.{row, joined}
 use Rattle.basis.specs.Tests.{allBelow, least}
 use Rattle.basis.proofs.CountLaws as counts
@@ -208,11 +208,6 @@ module _ (named : ℕ → ℕ → Bool) (n : ℕ) (member : ℕ → Bool) (withi
   rises-at = rising-over (λ k. getD L k 0) (length L) (rising-next (λ (x : ℕ). x) 1 (suc n) L 0 (listed-rises member n))
 
   -- The first of the members that passes a test
-  past-end : (l : List ℕ) (k : ℕ) → length l ≤ k → getD l k 0 ≡ 0
-  past-end [] k h = refl
-  past-end (x ∷ l) zero h = absurd (omega arith)
-  past-end (x ∷ l) (suc k) h = past-end l k (omega arith)
-
   module _ (test : ℕ → Bool) where
     abbrev place : ℕ
     place = least (λ k. test (getD L k 0)) (length L)
@@ -222,7 +217,7 @@ module _ (named : ℕ → ℕ → Bool) (n : ℕ) (member : ℕ → Bool) (withi
     first-passes some =
         ⊎-elim
         (λ (l : place < length L). least-passes (λ k. test (getD L k 0)) (length L) l)
-        (λ (l : length L ≤ place). absurd (some (past-end L place l)))
+        (λ (l : length L ≤ place). absurd (some (List·getD-eq-default L 0 {n = place} l)))
         (below-or-not place (length L))
 
     first-least : (x : ℕ) → member x ≡ true → test x ≡ true → (0 < firstIn L test) × (firstIn L test ≤ x)

@@ -1,10 +1,11 @@
-//! The eleven calls over bytes that nobody has checked, for speed. Each returns 0, or the first number of documents 01 and 02 that applies,
+//! The thirteen calls over bytes that nobody has checked, for speed. Each returns 0, or the first number of documents 01 and 02 that applies,
 //! and then leaves everything lent as it was.
 
 use crate::best::{Search, MOST};
 use crate::canonical;
 use crate::fill::fill;
 use crate::read::{accept, accept_floors, constraint, word_at, words, Parts, LARGEST_BID, MOST_BIDDERS, MOST_SLOTS};
+use crate::rivals;
 use crate::terms;
 
 /// Rules 1 to 13 and 26 to 28.
@@ -200,5 +201,54 @@ pub fn slot_terms(n: u32, m: u32, owner: u32, limit: u32, bars: &[u8], result: &
     }
     let Some(written) = terms::write(m, owner, limit, bars, result) else { return 19 };
     *count = written;
+    0
+}
+
+/// Writes the constraints of an owner that stands only above its rivals, four bytes each in order, and gives how many they are.
+pub fn above_terms(n: u32, m: u32, owner: u32, rivals: &[u8], result: &mut [u8], count: &mut u32) -> u32 {
+    let number = rivals::size_refused(n, m);
+    if number != 0 {
+        return number;
+    }
+    if owner == 0 || owner > n {
+        return 16;
+    }
+    let Some(set) = rivals::read(n, rivals) else { return 23 };
+    if set >> (owner - 1) & 1 != 0 {
+        return 24;
+    }
+    match rivals::write(m, owner, set, result) {
+        Ok(written) => *count = written,
+        Err(number) => return number,
+    }
+    0
+}
+
+/// Answers 1 where the members could share a page, each above every rival of its own among them, and writes their first such order, a byte a member; else 0.
+pub fn share_page(n: u32, m: u32, members: &[u8], rival_sets: &[u8], result: &mut [u8], answer: &mut u8) -> u32 {
+    let number = rivals::size_refused(n, m);
+    if number != 0 {
+        return number;
+    }
+    let Some(members) = rivals::read(n, members) else { return 23 };
+    let sets = match rivals::read_all(n, rival_sets) {
+        Ok(sets) => sets,
+        Err(number) => return number,
+    };
+    let order = if members.count_ones() > m { None } else { rivals::order(members, &sets) };
+    if let Some((order, count)) = order {
+        let Some(written) = result.get_mut(..count) else { return 19 };
+        written.copy_from_slice(&order[..count]);
+    }
+    *answer = u8::from(order.is_some());
+    0
+}
+
+/// Reads the rival sets of n bidders, 1 to 64, to words, a bit for each rival: the benchmark holds sharing against reading alone.
+pub fn read_rival_sets(n: u32, rival_sets: &[u8], words: &mut [u64; MOST_BIDDERS]) -> u32 {
+    match rivals::read_all(n, rival_sets) {
+        Ok(sets) => *words = sets,
+        Err(number) => return number,
+    }
     0
 }

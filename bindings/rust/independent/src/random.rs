@@ -1,8 +1,8 @@
-//! Random numbers from a fixed seed, random rounds of several kinds and of both versions, and random top-of-page terms. The same seed gives the same
-//! rounds and terms on every machine.
+//! Random numbers from a fixed seed, random rounds of several kinds and of both versions, random top-of-page terms and random sets of rivals. The same seed
+//! gives the same of each on every machine.
 
 use crate::read::{LARGEST_BID, MOST_CONSTRAINTS};
-use crate::slow::{Constraint, Round, Terms};
+use crate::slow::{self, Constraint, Group, Rivals, Round, Terms};
 
 /// A generator of 64-bit numbers (SplitMix64).
 pub struct Random(u64);
@@ -39,6 +39,13 @@ impl Random {
     /// One of a list.
     pub fn one_of<T: Copy>(&mut self, list: &[T]) -> T {
         list[self.between(0, list.len() - 1)]
+    }
+
+    /// Puts a list into any order.
+    fn shuffle<T>(&mut self, list: &mut [T]) {
+        for last in (1..list.len()).rev() {
+            list.swap(last, self.between(0, last));
+        }
     }
 }
 
@@ -217,9 +224,7 @@ pub fn reshaped(random: &mut Random, mut round: Round) -> Round {
         let again = random.one_of(all);
         all.push(again);
     }
-    for last in (1..all.len()).rev() {
-        all.swap(last, random.between(0, last));
-    }
+    random.shuffle(all);
     round
 }
 
@@ -296,14 +301,11 @@ pub fn terms_of_size(random: &mut Random, size: Size) -> Terms {
 /// The same terms with one thing in them another one, mostly so that they are turned away: a number at an edge, or one that is the same in its low byte, or a
 /// bar too few, too many, too high or against the owner.
 pub fn spoiled(random: &mut Random, mut terms: Terms) -> Terms {
-    let edges = |right: u32, most: u32| {
-        [0, most, most.wrapping_add(1), 255, right.wrapping_add(256), right.wrapping_add(1 << 16), right | 1 << 31, u32::MAX]
-    };
     match random.between(0, 7) {
-        0 => terms.bidders = random.one_of(&edges(terms.bidders, 64)),
-        1 => terms.slots = random.one_of(&edges(terms.slots, 16)),
-        2 => terms.owner = random.one_of(&edges(terms.owner, terms.bidders)),
-        3 => terms.limit = random.one_of(&edges(terms.limit, terms.slots)),
+        0 => terms.bidders = at_an_edge(random, terms.bidders, 64),
+        1 => terms.slots = at_an_edge(random, terms.slots, 16),
+        2 => terms.owner = at_an_edge(random, terms.owner, terms.bidders),
+        3 => terms.limit = at_an_edge(random, terms.limit, terms.slots),
         4 => {
             let count = random.one_of(&[0, terms.bars.len().saturating_sub(1), terms.bars.len() + 1, terms.bars.len() + 256, 64]);
             terms.bars.resize(count, 0);
@@ -320,6 +322,177 @@ pub fn spoiled(random: &mut Random, mut terms: Terms) -> Terms {
         }
     }
     terms
+}
+
+/// A number at an edge of its range, or one that is the same in its low byte as a right one.
+fn at_an_edge(random: &mut Random, right: u32, most: u32) -> u32 {
+    random.one_of(&[0, most, most.wrapping_add(1), 255, right.wrapping_add(256), right.wrapping_add(1 << 16), right | 1 << 31, u32::MAX])
+}
+
+/// Bidders of some, each once, in any order: all of them, or every other one, or fewer.
+fn some_of(random: &mut Random, bidders: impl Iterator<Item = u8>) -> Vec<u8> {
+    let times = random.one_of(&[1, 2, 4, 16]);
+    let mut some: Vec<u8> = bidders.filter(|_| random.once_in(times)).collect();
+    random.shuffle(&mut some);
+    some
+}
+
+/// Every other time repeats are put into a list of bidders, anywhere, mostly a few and at times so many that it has just so many numbers.
+fn repeat(random: &mut Random, list: &mut Vec<u8>, most: usize) {
+    if list.is_empty() || list.len() >= most || random.once_in(2) {
+        return;
+    }
+    let more = if random.once_in(8) { most - list.len() } else { random.between(1, 4.min(most - list.len())) };
+    for _ in 0..more {
+        let again = random.one_of(list);
+        list.insert(random.between(0, list.len()), again);
+    }
+}
+
+/// Rivals of some bidder, for so many bidders and slots: none, few, half or all of the others, in any order, often with repeats, and then also more than 255 numbers.
+pub fn rivals(random: &mut Random, bidders: usize, slots: usize) -> Rivals {
+    let owner = random.byte(1, bidders);
+    let mut rivals = some_of(random, (1..=bidders as u8).filter(|&rival| rival != owner));
+    repeat(random, &mut rivals, 300);
+    Rivals { bidders: bidders as u32, slots: slots as u32, owner: u32::from(owner), rivals }
+}
+
+/// So many rivals of some bidder, each once, for so many bidders and slots.
+pub fn rivals_of_size(random: &mut Random, bidders: usize, slots: usize, count: usize) -> Rivals {
+    let mut all: Vec<u8> = (1..=bidders as u8).collect();
+    random.shuffle(&mut all);
+    Rivals { bidders: bidders as u32, slots: slots as u32, owner: u32::from(all[0]), rivals: all[1..=count].to_vec() }
+}
+
+/// The same rivals with one thing another one, mostly so that they are turned away: a number at an edge, or one that is the same in its low byte, or a rival that
+/// is none or the owner.
+pub fn spoiled_rivals(random: &mut Random, mut of: Rivals) -> Rivals {
+    let at = random.between(0, of.rivals.len());
+    match random.between(0, 4) {
+        0 => of.bidders = at_an_edge(random, of.bidders, 64),
+        1 => of.slots = at_an_edge(random, of.slots, 16),
+        2 => of.owner = at_an_edge(random, of.owner, of.bidders),
+        3 => of.rivals.insert(at, wrong_bidder(random, of.bidders)),
+        _ => of.rivals.insert(at, of.owner as u8),
+    }
+    of
+}
+
+/// A bidder that is mostly none of so many.
+fn wrong_bidder(random: &mut Random, bidders: u32) -> u8 {
+    random.one_of(&[0, bidders as u8, (bidders as u8).wrapping_add(1), 64, 65, 128, 255])
+}
+
+/// What the rival sets of a group are like.
+#[derive(Clone, Copy, Debug, PartialEq)]
+pub enum Sets {
+    /// Each bidder names whom it likes.
+    Any,
+    /// Nobody names anyone.
+    Empty,
+    /// Each names at most three of those that come after it in some order, so that all can stand in that order.
+    Few,
+    /// Each names as many as it can while the members can still stand in some order.
+    Full,
+    /// The same, with repeats up to 255 numbers.
+    Longest,
+    /// As few, but that the last two members of the order name each other.
+    Circle,
+}
+
+impl Sets {
+    /// All kinds.
+    pub const ALL: [Sets; 6] = [Sets::Any, Sets::Empty, Sets::Few, Sets::Full, Sets::Longest, Sets::Circle];
+
+    /// The kind in words, for a table.
+    pub fn name(self) -> &'static str {
+        match self {
+            Sets::Any => "any sets",
+            Sets::Empty => "empty sets",
+            Sets::Few => "small sets",
+            Sets::Full => "full sets",
+            Sets::Longest => "longest",
+            Sets::Circle => "circle",
+        }
+    }
+}
+
+/// A group of so many members, for so many bidders and slots, none of whom is named twice but in the longest sets.
+pub fn group(random: &mut Random, bidders: usize, slots: usize, members: usize, kind: Sets) -> Group {
+    // The order in which the members stand, then all others.
+    let mut order: Vec<u8> = (1..=bidders as u8).collect();
+    random.shuffle(&mut order);
+    let mut sets = vec![Vec::new(); bidders];
+    for (at, &bidder) in order.iter().enumerate() {
+        let set = &mut sets[usize::from(bidder) - 1];
+        match kind {
+            Sets::Any => *set = some_of(random, (1..=bidders as u8).filter(|&rival| rival != bidder)),
+            Sets::Empty => {}
+            Sets::Few | Sets::Circle => {
+                *set = order[at + 1..].to_vec();
+                random.shuffle(set);
+                set.truncate(3);
+            }
+            Sets::Full | Sets::Longest => {
+                // Whom one names that is no member does not matter.
+                let first = if at < members { at + 1 } else { 0 };
+                *set = order[first..].iter().copied().filter(|&rival| rival != bidder).collect();
+                random.shuffle(set);
+            }
+        }
+        if kind == Sets::Longest && !set.is_empty() {
+            *set = set.iter().copied().cycle().take(255).collect();
+        }
+    }
+    let mut members = order[..members].to_vec();
+    if let (Sets::Circle, [.., upper, lower]) = (kind, &members[..]) {
+        for (bidder, rival) in [(upper, lower), (lower, upper)] {
+            let set = &mut sets[usize::from(*bidder) - 1];
+            if !set.contains(rival) {
+                set.push(*rival);
+            }
+        }
+    }
+    random.shuffle(&mut members);
+    Group { bidders: bidders as u32, slots: slots as u32, members, rival_sets: slow::lent_sets(&sets) }
+}
+
+/// The same group with repeats here and there, in the members and in the rival sets.
+pub fn with_repeats(random: &mut Random, mut of: Group) -> Group {
+    repeat(random, &mut of.members, 300);
+    let mut sets = slow::rival_sets(&of).expect("a group that is right");
+    for set in &mut sets {
+        repeat(random, set, 255);
+    }
+    Group { rival_sets: slow::lent_sets(&sets), ..of }
+}
+
+/// The same group with one thing another one, mostly so that it is turned away: a number at an edge, or one that is the same in its low byte, a member or a rival
+/// that is none, a bidder in its own set, or bytes that are not the sets of all bidders.
+pub fn spoiled_group(random: &mut Random, mut of: Group) -> Group {
+    let end = of.rival_sets.len();
+    let bytes = &mut of.rival_sets;
+    match random.between(0, 8) {
+        0 => of.bidders = at_an_edge(random, of.bidders, 64),
+        1 => of.slots = at_an_edge(random, of.slots, 16),
+        2 => of.members.insert(random.between(0, of.members.len()), wrong_bidder(random, of.bidders)),
+        3 if end > 0 => bytes[random.between(0, end - 1)] = wrong_bidder(random, of.bidders),
+        4 if end > 0 => bytes.truncate(random.between(0, end - 1)),
+        5 => bytes.extend(vec![random.one_of(&[0, 1, 255]); random.between(1, 3)]),
+        6 if end > 0 => {
+            let byte = &mut bytes[random.between(0, end - 1)];
+            *byte = if random.once_in(2) { byte.wrapping_add(1) } else { byte.wrapping_sub(1) };
+        }
+        _ => {
+            let Some(mut sets) = slow::rival_sets(&of) else { return of };
+            let bidder = random.between(1, sets.len().max(1));
+            if let Some(set) = sets.get_mut(bidder - 1).filter(|set| set.len() < 255) {
+                set.insert(random.between(0, set.len()), bidder as u8);
+            }
+            of.rival_sets = slow::lent_sets(&sets);
+        }
+    }
+    of
 }
 
 fn constraints(random: &mut Random, size: Size, manner: Manner) -> Vec<Constraint> {

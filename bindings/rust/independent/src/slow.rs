@@ -1,8 +1,8 @@
-//! Document 01 word by word, with the top-of-page terms, the ticks, the owner order, the canonical sheet and the floors of document 02, by trying everything: the measure
-//! for `engine`, which is quick and so needs one.
+//! Document 01 word by word, with the top-of-page terms, the rival sets, the ticks, the owner order, the canonical sheet and the floors of document 02, by trying
+//! everything: the measure for `engine`, which is quick and so needs one.
 //!
-//! Rounds must be small: a price is found by replaying the round with bid 0, one tick, two ticks and so on, and the best page by going
-//! through every page.
+//! Rounds must be small: a price is found by replaying the round with bid 0, one tick, two ticks and so on, the best page by going
+//! through every page, and the order in which members share a page by going through all their orders.
 
 use crate::read::LARGEST_BID;
 
@@ -114,19 +114,164 @@ pub fn slot_terms_number(terms: &Terms, room: usize) -> u32 {
     let wrong = |number: u32, most: u32| !(1..=most).contains(&number);
     let own_bar = terms.bars.get((terms.owner as usize).wrapping_sub(1));
     let bars_fit = terms.bars.len() as u64 == u64::from(terms.bidders) && terms.bars.iter().all(|&bar| u32::from(bar) <= terms.slots);
-    let turned_away = [
+    let number = first_number(&[
         (4, wrong(terms.bidders, 64)),
         (5, wrong(terms.slots, 16)),
         (16, wrong(terms.owner, terms.bidders)),
         (20, wrong(terms.limit, terms.slots)),
         (21, !bars_fit),
         (22, own_bar.is_some_and(|&bar| bar != 0)),
-    ];
-    match turned_away.iter().find(|(_, applies)| *applies) {
-        Some((number, _)) => *number,
-        None if room < 4 * slot_terms(terms).len() => 19,
-        None => 0,
+    ]);
+    if number != 0 {
+        return number;
     }
+    first_number(&[(19, room < 4 * slot_terms(terms).len())])
+}
+
+/// "A set of rivals" of an owner, as a call has them: right or wrong.
+#[derive(Clone, Debug, PartialEq)]
+pub struct Rivals {
+    /// n of document 02.
+    pub bidders: u32,
+    /// m of document 02.
+    pub slots: u32,
+    /// Who wants to stand above them.
+    pub owner: u32,
+    /// "A list of bidder numbers in which a repeat counts once".
+    pub rivals: Vec<u8>,
+}
+
+/// "For each rival, all pairs in which the rival's place is above the owner's", of rivals that are not turned away: every condition that the owner could have is
+/// asked for in order, and those that the rivals give are taken.
+pub fn above_terms(of: &Rivals) -> Vec<Constraint> {
+    let mut given = Vec::new();
+    for own in 1..=of.slots as u8 {
+        for other in (1..=of.bidders as u8).filter(|other| of.rivals.contains(other)) {
+            let above = (1..=of.slots as u8).filter(|&slot| slot < own);
+            given.extend(above.map(|slot| [of.owner as u8, own, other, slot]));
+        }
+    }
+    given
+}
+
+/// "A number 0 or above n" is in the set.
+fn has_a_wrong_number(set: &[u8], bidders: u32) -> bool {
+    set.iter().any(|&bidder| !(1..=bidders).contains(&u32::from(bidder)))
+}
+
+/// The first number that applies, or 0.
+fn first_number(turned_away: &[(u32, bool)]) -> u32 {
+    turned_away.iter().find(|(_, applies)| *applies).map_or(0, |(number, _)| *number)
+}
+
+/// "After 4, 5 and 16, 23 … for any set with a number 0 or above n, 24 for an owner in its own set, 25 … for more than 1,024 of them, and then 19", for a
+/// buffer of so many bytes; or 0.
+pub fn above_terms_number(of: &Rivals, room: usize) -> u32 {
+    let wrong = |number: u32, most: u32| !(1..=most).contains(&number);
+    let number = first_number(&[
+        (4, wrong(of.bidders, 64)),
+        (5, wrong(of.slots, 16)),
+        (16, wrong(of.owner, of.bidders)),
+        (23, has_a_wrong_number(&of.rivals, of.bidders)),
+        (24, of.rivals.iter().any(|&rival| u32::from(rival) == of.owner)),
+    ]);
+    if number != 0 {
+        return number;
+    }
+    let constraints = above_terms(of).len();
+    first_number(&[(25, constraints > 1024), (19, room < 4 * constraints)])
+}
+
+/// "A given set of bidders, with one rival set for each of the n bidders", as a call has them: right or wrong.
+#[derive(Clone, Debug, PartialEq)]
+pub struct Group {
+    /// n of document 02.
+    pub bidders: u32,
+    /// m of document 02.
+    pub slots: u32,
+    /// Who wants to share a page.
+    pub members: Vec<u8>,
+    /// "Lent one after another from bidder 1's, each with its length in one byte before it".
+    pub rival_sets: Vec<u8>,
+}
+
+/// Rival sets, one after another from bidder 1's, each with its length in one byte before it. Sets too long for that are not for this function.
+pub fn lent_sets(sets: &[Vec<u8>]) -> Vec<u8> {
+    let lent = |set: &Vec<u8>| [&[u8::try_from(set.len()).expect("a byte holds the length")], &set[..]].concat();
+    sets.iter().flat_map(lent).collect()
+}
+
+/// The rival sets by bidder, the first at 0; none where the "bytes are not exactly n sets".
+pub fn rival_sets(of: &Group) -> Option<Vec<Vec<u8>>> {
+    let (mut sets, mut rest) = (Vec::new(), &of.rival_sets[..]);
+    for _ in 0..of.bidders {
+        let length = usize::from(*rest.first()?);
+        sets.push(rest.get(1..=length)?.to_vec());
+        rest = &rest[1 + length..];
+    }
+    rest.is_empty().then_some(sets)
+}
+
+/// "The first such order in dictionary order" of a group that is not turned away, or none, which is a no: all orders of the members are tried.
+pub fn shared_order(of: &Group) -> Option<Vec<u8>> {
+    let members: Vec<u8> = (1..=of.bidders as u8).filter(|bidder| of.members.contains(bidder)).collect();
+    let sets = rival_sets(of).expect("the sets of all bidders");
+    // "At most m members."
+    if members.len() > of.slots as usize {
+        return None;
+    }
+    // "Puts each above every rival of its own in the set": nobody stands above one that has it for a rival.
+    let names = |bidder: u8, other: u8| sets[usize::from(bidder) - 1].contains(&other);
+    let stands = |order: &[u8]| order.iter().enumerate().all(|(at, &lower)| !order[..at].iter().any(|&upper| names(lower, upper)));
+    first_order(&members, &mut Vec::new(), &stands)
+}
+
+/// The first order of all members, in dictionary order, that begins as given and passes.
+fn first_order(members: &[u8], begun: &mut Vec<u8>, passes: &impl Fn(&[u8]) -> bool) -> Option<Vec<u8>> {
+    if begun.len() == members.len() {
+        return passes(begun).then(|| begun.clone());
+    }
+    for &next in members {
+        if !begun.contains(&next) {
+            begun.push(next);
+            let found = first_order(members, begun, passes);
+            begun.pop();
+            if found.is_some() {
+                return found;
+            }
+        }
+    }
+    None
+}
+
+/// "After 4, 5 … 23 for rival sets whose bytes are not exactly n sets or for any set with a number 0 or above n, 24 for an owner in its own set … and then
+/// 19", for a buffer of so many bytes; or 0. A no writes nothing, and so needs no room.
+pub fn share_page_number(of: &Group, room: usize) -> u32 {
+    let wrong = |number: u32, most: u32| !(1..=most).contains(&number);
+    let number = first_number(&[(4, wrong(of.bidders, 64)), (5, wrong(of.slots, 16)), (23, has_a_wrong_number(&of.members, of.bidders))]);
+    if number != 0 {
+        return number;
+    }
+    let Some(sets) = rival_sets(of) else { return 23 };
+    let number = first_number(&[
+        (23, sets.iter().any(|set| has_a_wrong_number(set, of.bidders))),
+        (24, (1..).zip(&sets).any(|(bidder, set)| set.contains(&bidder))),
+    ]);
+    if number != 0 {
+        return number;
+    }
+    let written = shared_order(of).map_or(0, |order| order.len());
+    first_number(&[(19, room < written)])
+}
+
+/// Some page of the round breaks no condition and has all these members, with others or without: every page is looked at.
+pub fn can_stand_together(round: &Round, members: &[u8]) -> bool {
+    let mut found = false;
+    every_page(round, &mut Page::new(), &mut |page| {
+        let all = members.iter().all(|member| page.contains(member));
+        found |= all && !round.constraints.iter().any(|&of| is_broken(of, page));
+    });
+    found
 }
 
 /// The bidder of each slot, 0 for none.

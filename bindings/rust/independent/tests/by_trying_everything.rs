@@ -1,7 +1,8 @@
 //! The quick engine against the document tried word by word, on rounds small enough for that.
 
 use independent::random::{
-    disordered, floors, in_ticks, nearly, reshaped, round, spoiled, terms, terms_of_size, tick, Floors, Manner, Random, Size,
+    disordered, floors, group, in_ticks, nearly, reshaped, rivals, rivals_of_size, round, spoiled, spoiled_group, spoiled_rivals, terms,
+    terms_of_size, tick, with_repeats, Floors, Manner, Random, Sets, Size,
 };
 use independent::{engine, slow};
 
@@ -208,13 +209,7 @@ fn lists_of_terms_are_downward_monotonic_and_in_order() {
     for _ in 0..4_000 {
         let (bidders, slots) = (random.between(1, 9), random.between(1, 9));
         let of = terms(&mut random, bidders, slots);
-        let round = slow::Round {
-            tick: Some(1),
-            effects: vec![1; slots],
-            bids: vec![1; bidders],
-            constraints: slow::slot_terms(&of),
-            floors: Vec::new(),
-        };
+        let round = round_with(bidders, slots, slow::slot_terms(&of));
         assert!(slow::is_in_order(&round) && slow::is_downward(&round, of.owner as u8), "{of:?}");
         assert_eq!(engine::check(&slow::sheet(&round)), 0, "{of:?}");
     }
@@ -228,4 +223,138 @@ fn terms_of_a_size_give_so_many_constraints() {
         assert_eq!(slow::slot_terms_number(&of, 4 * constraints), 0, "{of:?}");
         assert_eq!(slow::slot_terms(&of).len(), constraints, "{of:?}");
     }
+}
+
+/// Lends a buffer of so many sevens: the number, the buffer and the count, which is 77 before.
+fn above_terms(of: &slow::Rivals, room: usize) -> (u32, Vec<u8>, u32) {
+    let (mut result, mut count) = (vec![7; room], 77);
+    let number = engine::above_terms(of.bidders, of.slots, of.owner, &of.rivals, &mut result, &mut count);
+    (number, result, count)
+}
+
+/// The same as the document has it.
+fn above_terms_by_trying(of: &slow::Rivals, room: usize) -> (u32, Vec<u8>, u32) {
+    let (number, mut result) = (slow::above_terms_number(of, room), vec![7; room]);
+    if number != 0 {
+        return (number, result, 77);
+    }
+    let given = slow::above_terms(of);
+    result[..4 * given.len()].copy_from_slice(given.as_flattened());
+    (0, result, given.len() as u32)
+}
+
+#[test]
+fn rivals_give_the_constraints_that_the_document_names() {
+    let (mut random, mut numbers) = (Random::seeded(22), [0; 32]);
+    for _ in 0..20_000 {
+        let (bidders, slots) = (random.one_of(&[1, 2, 3, 5, 9, 64]), random.one_of(&[1, 2, 3, 5, 16]));
+        let mut of = rivals(&mut random, bidders, slots);
+        for _ in 0..random.one_of(&[0, 0, 1, 2]) {
+            of = spoiled_rivals(&mut random, of);
+        }
+        let needed = if slow::above_terms_number(&of, usize::MAX) == 0 { 4 * slow::above_terms(&of).len() } else { 0 };
+        for room in [0, needed.saturating_sub(1), needed, needed + 9] {
+            let answer = above_terms(&of, room);
+            assert_eq!(answer, above_terms_by_trying(&of, room), "{of:?}, {room}");
+            numbers[answer.0 as usize] += 1;
+        }
+    }
+    assert!([0, 4, 5, 16, 19, 23, 24, 25].iter().all(|&number| numbers[number] > 500), "each number comes up: {numbers:?}");
+}
+
+#[test]
+fn lists_by_rivals_are_downward_monotonic_and_in_order() {
+    let mut random = Random::seeded(23);
+    for _ in 0..4_000 {
+        let (bidders, slots) = (random.between(1, 9), random.between(1, 9));
+        let of = rivals(&mut random, bidders, slots);
+        let round = round_with(bidders, slots, slow::above_terms(&of));
+        assert!(slow::is_in_order(&round) && slow::is_downward(&round, of.owner as u8), "{of:?}");
+        assert_eq!(engine::check(&slow::sheet(&round)), 0, "{of:?}");
+    }
+}
+
+/// A round of version 2 with these constraints, whose bids and effects do not matter.
+fn round_with(bidders: usize, slots: usize, constraints: Vec<slow::Constraint>) -> slow::Round {
+    slow::Round { tick: Some(1), effects: vec![1; slots], bids: vec![1; bidders], constraints, floors: Vec::new() }
+}
+
+#[test]
+fn so_many_rivals_give_so_many_times_the_pairs_of_slots() {
+    let mut random = Random::seeded(24);
+    for (bidders, slots, count, constraints) in [(1, 16, 0, 0), (2, 1, 1, 0), (8, 8, 7, 196), (64, 2, 63, 63), (64, 13, 13, 1014)] {
+        let of = rivals_of_size(&mut random, bidders, slots, count);
+        assert_eq!(slow::above_terms_number(&of, 4 * constraints), 0, "{of:?}");
+        assert_eq!(slow::above_terms(&of).len(), constraints, "{of:?}");
+    }
+}
+
+/// Lends a buffer of so many sevens: the number, the buffer and the answer, which is 77 before.
+fn share_page(of: &slow::Group, room: usize) -> (u32, Vec<u8>, u8) {
+    let (mut result, mut answer) = (vec![7; room], 77);
+    let number = engine::share_page(of.bidders, of.slots, &of.members, &of.rival_sets, &mut result, &mut answer);
+    (number, result, answer)
+}
+
+/// The same as the document has it.
+fn share_page_by_trying(of: &slow::Group, room: usize) -> (u32, Vec<u8>, u8) {
+    let (number, mut result) = (slow::share_page_number(of, room), vec![7; room]);
+    if number != 0 {
+        return (number, result, 77);
+    }
+    let order = slow::shared_order(of);
+    if let Some(order) = &order {
+        result[..order.len()].copy_from_slice(order);
+    }
+    (0, result, u8::from(order.is_some()))
+}
+
+#[test]
+fn members_share_a_page_in_the_first_of_all_their_orders_that_stands() {
+    let (mut random, mut numbers, mut answers) = (Random::seeded(25), [0; 32], [[0; 7]; 2]);
+    for _ in 0..20_000 {
+        let bidders = random.one_of(&[1, 2, 3, 5, 6, 9, 64]);
+        let (members, slots) = (random.between(0, bidders.min(6)), random.one_of(&[1, 2, 3, 5, 6, 16]));
+        let kind = random.one_of(&Sets::ALL);
+        let mut of = group(&mut random, bidders, slots, members, kind);
+        of = with_repeats(&mut random, of);
+        for _ in 0..random.one_of(&[0, 0, 1, 2]) {
+            of = spoiled_group(&mut random, of);
+        }
+        let good = slow::share_page_number(&of, usize::MAX) == 0;
+        let order = if good { slow::shared_order(&of) } else { None };
+        let needed = order.as_ref().map_or(0, |order| order.len());
+        for room in [0, needed.saturating_sub(1), needed, needed + 9] {
+            let answer = share_page(&of, room);
+            assert_eq!(answer, share_page_by_trying(&of, room), "{of:?}, {room}");
+            numbers[answer.0 as usize] += 1;
+        }
+        if good && members <= slots {
+            answers[usize::from(order.is_some())][members] += 1;
+        }
+    }
+    assert!([0, 4, 5, 19, 23, 24].iter().all(|&number| numbers[number] > 500), "each number comes up: {numbers:?}");
+    assert!(answers[1].iter().chain(&answers[0][2..]).all(|&times| times > 50), "both answers come up: {answers:?}");
+}
+
+#[test]
+fn who_can_share_a_page_stands_on_one_and_who_cannot_stands_on_none() {
+    let (mut random, mut answers) = (Random::seeded(26), [0; 2]);
+    for _ in 0..6_000 {
+        let (bidders, slots) = (random.between(1, 4), random.between(1, 4));
+        let members = random.between(0, bidders);
+        let kind = random.one_of(&Sets::ALL);
+        let of = group(&mut random, bidders, slots, members, kind);
+        let lists = (1..).zip(slow::rival_sets(&of).expect("a group that is right"));
+        let list = |(owner, rivals)| slow::above_terms(&slow::Rivals { bidders: bidders as u32, slots: slots as u32, owner, rivals });
+        let round = round_with(bidders, slots, lists.flat_map(list).collect());
+        let order = slow::shared_order(&of);
+        assert_eq!(order.is_some(), slow::can_stand_together(&round, &of.members), "{of:?}");
+        if let Some(mut page) = order.clone() {
+            page.resize(slots, 0);
+            assert!(!round.constraints.iter().any(|&constraint| slow::is_broken(constraint, &page)), "{of:?}");
+        }
+        answers[usize::from(order.is_some())] += 1;
+    }
+    assert!(answers.iter().all(|&times| times > 1000), "both answers come up: {answers:?}");
 }
