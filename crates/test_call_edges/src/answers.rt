@@ -107,7 +107,7 @@ pub fn prices(buffer: &[u8], slots: usize) {
     }
 }
 
-// Whether a list is downward monotonic: 1 for yes, 0 for no.
+// Whether a list is downward monotonic, or members can share a page: 1 for yes, 0 for no.
 pub fn yes_or_no(yes: u8) {
     if yes == 1 {
         line::text(b"; yes");
@@ -214,6 +214,35 @@ pub fn last_part(part: &[u8], from: usize) {
         return;
     }
     conditions(&part[from..]);
+}
+
+// What a call leaves that writes an owner's conditions and how many they are.
+pub fn terms(refusal: u32, count: u32, buffer: &[u8]) {
+    number(refusal);
+    if refusal != 0 {
+        untouched(b"; every byte", buffer, 0);
+        kept(b", count", count == UNTOUCHED_COUNT);
+        return;
+    }
+    line::number(b"; count ", count as u64);
+    let bytes = 4 * count as usize;
+    last_part(line::front(buffer, bytes), 0);
+    untouched(b"; later bytes", buffer, bytes);
+}
+
+// "order": the bytes up to the first that was left as it was, and how many they are.
+pub fn order(buffer: &[u8]) -> usize {
+    line::text(b"; order");
+    let mut at = 0;
+    while at < buffer.len() {
+        if buffer[at] == UNTOUCHED {
+            return at;
+        }
+        separate(at);
+        line::byte(b"", buffer[at]);
+        at += 1;
+    }
+    at
 }
 
 // The mark, the version, n, m, c and the tick.

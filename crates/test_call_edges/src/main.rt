@@ -1,15 +1,17 @@
-// The edges of document 01's calls and of document 02's owner part, floors, one sheet for one round and top-of-page terms, on sheets of both
-// versions, and the rounds worked by hand: a script comes in, and goes out again with the answer of each call.
+// The edges of document 01's calls and of document 02's owner part, floors, one sheet for one round, top-of-page terms, named rivals and sharing, on
+// sheets of both versions, and the rounds worked by hand: a script comes in, and goes out again with the answer of each call.
 //
 // The file `stdin` is the script. A line whose first word is one of `sheets` writes on the sheet in hand, "floors" writes the list of floors in
-// hand, a line that begins with words of `calls` or with "terms" makes a call, and any other is there for the reader. Of the rest of a line only its numbers
-// count, so that a line can be a sentence in the documents' words. The file `stdout` has the answers that the documents ask for.
+// hand, a line that begins with words of `calls` or with "terms", "rivals" or "share" makes a call, and any other is there for the reader. Of the rest of
+// a line only its numbers count, so that a line can be a sentence in the documents' words. The file `stdout` has the answers that the documents ask for.
 use test_edge_sheets::build;
 use test_edge_sheets::line;
 
 mod answers;
 mod calls;
+mod listed_bytes;
 mod listed_floors;
+mod rivals;
 mod script;
 mod sheets;
 mod terms;
@@ -46,6 +48,14 @@ fn call(words: &[u8], sheet: &[u8], floors: &[u32], truth: &[u8], length: usize)
     }
     if script::begins(words, b"terms") {
         terms::answer(words);
+        return;
+    }
+    if script::begins(words, b"rivals") {
+        rivals::named(words);
+        return;
+    }
+    if script::begins(words, b"share") {
+        rivals::share(words);
         return;
     }
     calls::answer(words, sheet, truth);

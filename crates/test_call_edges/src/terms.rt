@@ -1,7 +1,7 @@
 // The lines that ask for top-of-page terms: what the call answers, and what it leaves of what it was lent.
-ghost use Prim.Native.Nat.{_≤_};
 use crate::answers;
 use crate::calls;
+use crate::listed_bytes;
 use crate::script;
 use test_edge_sheets::build;
 use test_edge_sheets::line;
@@ -11,28 +11,6 @@ const BARS_ROOM: usize = 80;
 
 // How many of a line's numbers stand before the bars.
 const BEFORE_BARS: u16 = 5;
-
-fn bar_count(words: &[u8]) -> u16
-    ensures { λ r. ⌜ r ≤ 65530 ⌝ }
-{
-    let numbers = script::count(words);
-    if numbers < BEFORE_BARS {
-        return 0;
-    }
-    numbers - BEFORE_BARS
-}
-
-// The bars of a line, bidder 1's first, and how many there are.
-fn write_bars(words: &[u8], bars: &mut [u8]) -> usize {
-    let count = bar_count(words);
-    let mut at: u16 = 0;
-    while at < count {
-        let bar = build::low(script::number(words, BEFORE_BARS + 1 + at));
-        build::set_byte(bars, at as usize, bar);
-        at += 1;
-    }
-    count as usize
-}
 
 // The call with the first `length` bytes of a buffer lent.
 fn write_into(
@@ -64,7 +42,7 @@ fn write_into(
 pub fn answer(words: &[u8]) {
     let mut bars_space = [0u8; BARS_ROOM];
     let bars: &mut [u8] = &mut bars_space;
-    let count = write_bars(words, bars);
+    let count = listed_bytes::write(words, BEFORE_BARS, bars);
     let mut space = [answers::UNTOUCHED; build::ROOM];
     let buffer: &mut [u8] = &mut space;
     let mut written = answers::UNTOUCHED_COUNT;
@@ -76,14 +54,5 @@ pub fn answer(words: &[u8]) {
         length,
         &mut written,
     );
-    answers::number(refusal);
-    if refusal != 0 {
-        answers::untouched(b"; every byte", buffer, 0);
-        answers::kept(b", count", written == answers::UNTOUCHED_COUNT);
-        return;
-    }
-    line::number(b"; count ", written as u64);
-    let bytes = 4 * written as usize;
-    answers::last_part(line::front(buffer, bytes), 0);
-    answers::untouched(b"; later bytes", buffer, bytes);
+    answers::terms(refusal, written, buffer);
 }

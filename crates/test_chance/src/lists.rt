@@ -245,6 +245,26 @@ pub fn copy_all(from: &[u8], to: &mut [u8]) {
     }
 }
 
+// The first constraints of a list of four bytes each, added to a sheet.
+pub fn add_listed(buf: &mut [u8], list: &[u8], count: u32) {
+    let mut left = count;
+    while 0 < left {
+        left -= 1;
+        add_listed_at(buf, list, 4 * left as usize);
+    }
+}
+
+fn add_listed_at(buf: &mut [u8], list: &[u8], at: usize) {
+    if list.len() < at {
+        return;
+    }
+    let owner = parts::byte(list, at);
+    let own = parts::byte(list, at + 1);
+    let other = parts::byte(list, at + 2);
+    let others = parts::byte(list, at + 3);
+    add(buf, owner, own, other, others);
+}
+
 // A constraint that the sheet has already, or a first one.
 pub fn add_again(state: &mut u64, buf: &mut [u8], owner: u32) {
     let count = parts::constraints(buf);

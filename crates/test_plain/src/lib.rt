@@ -8,7 +8,7 @@ mod amounts;
 mod fields;
 mod list;
 mod owner;
-mod page;
+pub mod page;
 mod round;
 mod rules;
 mod search;

@@ -1,5 +1,6 @@
 // What a call is asked: drawn right, and then with faults.
 ghost use Prim.Native.Nat.{_≤_};
+use test_chance::calls;
 use test_chance::lists;
 use test_chance::number;
 use test_chance::parts;
@@ -74,19 +75,6 @@ pub fn right(state: &mut u64, n: u32, m: u32, bars: &mut [u8]) -> Call {
     }
 }
 
-// A number that is not from 1 to the most: next to these, the same in its lowest bytes, or any.
-fn outside(state: &mut u64, value: u32, most: u32) -> u32 {
-    let above = std::num::wrapping_add_u32(most, 1);
-    let drawn = number::up_to(state, 5);
-    match drawn {
-        0 | 1 => 0,
-        2 => above,
-        3 => std::num::wrapping_add_u32(value, 256),
-        4 => std::num::wrapping_add_u32(value, 65536),
-        _ => number::between(state, above, 4294967295),
-    }
-}
-
 // Another number of bars: one fewer, one more, none or any.
 fn other_length(state: &mut u64, n: u32) -> u32 {
     let drawn = number::up_to(state, 3);
@@ -110,10 +98,10 @@ fn too_high(state: &mut u64, m: u32) -> u32 {
 fn with_numbers(state: &mut u64, call: Call, fault: u32) -> Call {
     let mut other = call;
     match fault {
-        0 => other.n = outside(state, call.n, MAX_BIDDERS),
-        1 => other.m = outside(state, call.m, MAX_SLOTS),
-        2 => other.owner = outside(state, call.owner, call.n),
-        3 => other.limit = outside(state, call.limit, call.m),
+        0 => other.n = calls::outside(state, call.n, MAX_BIDDERS),
+        1 => other.m = calls::outside(state, call.m, MAX_SLOTS),
+        2 => other.owner = calls::outside(state, call.owner, call.n),
+        3 => other.limit = calls::outside(state, call.limit, call.m),
         _ => other.bars = other_length(state, call.n),
     }
     other

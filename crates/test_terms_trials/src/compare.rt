@@ -4,7 +4,7 @@ use crate::call::Call;
 use crate::counts;
 use crate::plain;
 use test_both_engines::bytes;
-use test_chance::lists;
+use test_chance::calls;
 use test_chance::number;
 use test_chance::parts;
 
@@ -134,31 +134,6 @@ fn hold(
     count
 }
 
-// Just enough bytes, or more.
-fn enough_for(bytes: u32, drawn: u32, more: u32) -> u32 {
-    if drawn < 4 {
-        return bytes;
-    }
-    std::num::wrapping_add_u32(bytes, more)
-}
-
-// A length for the result: enough, or at times too short by one byte or by more.
-fn size(state: &mut u64, bytes: u32, enough: bool) -> u32 {
-    let more = number::up_to(state, 40);
-    let drawn = number::up_to(state, 5);
-    if enough {
-        return enough_for(bytes, drawn, more);
-    }
-    if bytes == 0 {
-        return enough_for(bytes, drawn, more);
-    }
-    match drawn {
-        0 => bytes - 1,
-        1 => number::up_to(state, bytes - 1),
-        _ => enough_for(bytes, drawn, more),
-    }
-}
-
 // The list that is due, and how many conditions it has; of a call that breaks a rule, any number, for a length.
 fn due_list(state: &mut u64, call: Call, bars: &[u8], rule: u32, list: &mut [u8]) -> u32 {
     if rule == 0 {
@@ -181,7 +156,7 @@ pub fn both(
     let due_count = due_list(state, call, lent_bars, rule, list);
     let lent = Lent {
         start: number::up_to(state, 9),
-        size: size(state, bytes_of(due_count), enough),
+        size: calls::size(state, bytes_of(due_count), enough),
         count: due_count,
     };
     hold(state, tally, call, lent_bars, rule, lent, list)
@@ -197,22 +172,14 @@ fn with_faults(state: &mut u64, right: Call, bars: &mut [u8], faults: u32) -> Ca
     drawn
 }
 
-// Up to the most, and at times just that.
-fn up_to_most(state: &mut u64, most: u32) -> u32 {
-    if number::once_in(state, 6) {
-        return most;
-    }
-    lists::one_of(state, most)
-}
-
 // A call with n and m of its own and so many faults.
 pub fn alone(state: &mut u64, tally: &mut [u64], faults: u32) {
     let mut bars_space = [0u8; call::BARS_ROOM];
     let bars: &mut [u8] = &mut bars_space;
     let mut list_space = [0u8; ROOM];
     let list: &mut [u8] = &mut list_space;
-    let n = up_to_most(state, call::MAX_BIDDERS);
-    let m = up_to_most(state, call::MAX_SLOTS);
+    let n = calls::up_to_most(state, call::MAX_BIDDERS);
+    let m = calls::up_to_most(state, call::MAX_SLOTS);
     let right = call::right(state, n, m, bars);
     let asked = with_faults(state, right, bars, faults);
     both(state, tally, asked, bars, false, list);

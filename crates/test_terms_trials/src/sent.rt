@@ -12,26 +12,6 @@ use test_chance::rounds;
 // "c, conditions, 0 to 1,024"
 const MAX_CONSTRAINTS: u32 = 1024;
 
-// The first conditions of a list, added to a sheet.
-fn add_list(sheet: &mut [u8], list: &[u8], count: u32) {
-    let mut left = count;
-    while 0 < left {
-        left -= 1;
-        add_at(sheet, list, 4 * left as usize);
-    }
-}
-
-fn add_at(sheet: &mut [u8], list: &[u8], at: usize) {
-    if list.len() < at {
-        return;
-    }
-    let owner = parts::byte(list, at);
-    let own = parts::byte(list, at + 1);
-    let other = parts::byte(list, at + 2);
-    let others = parts::byte(list, at + 3);
-    lists::add(sheet, owner, own, other, others);
-}
-
 // "Every list written is downward monotonic for that m".
 fn hold_downward(tally: &mut [u64], sent: &[u8], owner: u32) {
     let mut answer: u8 = 2;
@@ -136,7 +116,7 @@ fn put(state: &mut u64, tally: &mut [u64], honest: &[u8], owner: u32, list: &[u8
     let mut space = [0u8; parts::ROOM];
     let buffer: &mut [u8] = &mut space;
     others::make(state, honest, owner, buffer);
-    add_list(buffer, list, count);
+    lists::add_listed(buffer, list, count);
     lists::shuffle_free(state, buffer);
     test_tally::add(tally, counts::SHEETS);
     if MAX_CONSTRAINTS <= parts::constraints(buffer) {

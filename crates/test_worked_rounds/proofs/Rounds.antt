@@ -1,6 +1,6 @@
 -- The right-hand sides of the calls' contracts give, for every worked round, what documents 01 and 02 say of it: the antt kernel computes them from
 -- the sheets' bytes, the best pages by trying every page. Some rounds are played with floors as well. So too the answers of the eligibility step, the
--- parts of single bidders, the sheets that are written anew and top-of-page terms.
+-- parts of single bidders, the sheets that are written anew, top-of-page terms, the profile "above named rivals" and sharing, the last by trying every order.
 -- Assumes nothing.
 use mathlib.Core.List.{map}
 use mathlib.Core.Path.{_≡_, refl}
@@ -46,8 +46,12 @@ use Rattle.play.specs.Play.{roomRefusal, playRefusal, playFloorsRefusal, slotEn
 use Rattle.owner_part.specs.OwnerPart.{callRefusal, partRefusal, firstFrom, bytesBefore, constraintBytes, constraintsOf, partLength, boundsFor, boundsOf, beforeFor, beforeOf}
 use Rattle.canonical.specs.Canonical.{hasCondition, conditionsInOrder, canonicalSheet, canonicalRefusal, canonicalBuffer}
 use Rattle.slot_terms.specs.SlotTerms.{barFor, barred, beyond, slotTerms, ownerRefusal, profileRefusal, slotTermsRefusal, conditionsBuffer}
+use Rattle.basis.specs.Counting.{countTo}
+use Rattle.bidder_sets.specs.BidderSets.{inSet, membersOf, numbersWrong, setAt, endAt, setsEnd, rivalsOf}
+use Rattle.above_terms.specs.AboveTerms.{pairsAt, aboveTerms, rivalsRefusal, aboveTermsRefusal}
+use Rattle.share_page.specs.SharePage.{headed, ordersOf, putsAbove, someOf, firstOf, canShare, orderWritten, orderBuffer, sizeRefusal, setsRefusal, shareRefusal}
 use Rattle.test_worked_rounds.specs.Sheets.{A, B, C, D, E, F, F-true, F-version-3, F-eight-bytes, F-in-ticks, F-off-tick, F-tick-0, F-twelve-bytes, F-without-tick, G, H, H-longer, earlier-winner, earlier-winner-and-own, placed-and-own, overbid, overbid-barred, second-not-first, tie-in-ticks, lower-number-in-ticks, tick-above-bids, too-high-and-off-tick, H-in-order, owners-two-and-four, equal-neighbours, repeated-in-version-1, own-place-falls, falls-and-names-itself, falls-before-a-fault, falls-after-a-fault, nine-bidders, two-faults, H-shuffled, owners-four-and-two, repeat-dropped, F-written}
-use Rattle.test_worked_rounds.specs.Worked.{Worked, lent, givenByPlay, givenByBest, givenWithFloors, given, entries, rounds, Candidate, givenByStep, candidates, PartAsked, givenByPart, parts, WriteAsked, givenByWriter, writings, TermsAsked, givenByTerms, terms}
+use Rattle.test_worked_rounds.specs.Worked.{Worked, lent, givenByPlay, givenByBest, givenWithFloors, given, entries, rounds, Candidate, givenByStep, candidates, PartAsked, givenByPart, parts, WriteAsked, givenByWriter, writings, TermsAsked, givenByTerms, terms, AboveAsked, givenByAbove, namedRivals, ShareAsked, givenBySharing, sharings}
 
 pub rounds-hold : map given rounds ≡ map (λ (w : Worked). w .said) rounds
 unfolding word16At word32At bytes32 firstOver unlessRefused row padded joined anyBelow allBelow least tickField effectsStart effectField bidField ownerField ownSlotField otherField otherSlotField formRefusal countsRefusal effectRefusal bidRefusal tickRefusal legalBid inRange fieldsRefusal termsRefusal fieldsBelow constraintBelow aboveBefore orderRefusal constraintRefusal refusalOf kindOf constraintField roundOf ranksNoLower wins winner at put emptyPage placed ownHolds otherHolds broken constraintAt bidOf effectOf withFloors floorOf breaksEarlier firstFailed eligible winnerAt fillSlot pageUpTo greedyPage withBid winsWith priceFor price ownSlot oneLower sameKind listHas asksLower downward testRefusal testedFor testedOf slotOf gainIf gainAt gainOf laterRefusal gainRefusal gainFloorsRefusal gainedFor gainedOf gainedFloorsOf breaks breaksOwn totalUpTo total nobodyTwice reachesFloors isAllowed keep eachChoice tryAll bestPage boundsRefusal bestRefusal bestFloorsRefusal bestBuffer chosenFor roomRefusal playRefusal playFloorsRefusal someTooHigh floorsRefusal slotEntry playedBuffer words quads countBytes bodyBytes sheetOf sheetInTicks A B C D E F F-true F-version-3 F-eight-bytes F-in-ticks F-off-tick F-tick-0 F-twelve-bytes F-without-tick G H H-longer earlier-winner overbid overbid-barred tie-in-ticks lower-number-in-ticks tick-above-bids too-high-and-off-tick H-in-order equal-neighbours repeated-in-version-1 own-place-falls falls-and-names-itself falls-before-a-fault falls-after-a-fault nine-bidders two-faults second-not-first lent givenByPlay givenByBest givenWithFloors given entries rounds
@@ -72,3 +76,13 @@ writings-hold = refl
 pub terms-hold : map givenByTerms terms ≡ map (λ (t : TermsAsked). t .said) terms
 unfolding unlessRefused row joined anyBelow quads barFor barred beyond slotTerms ownerRefusal profileRefusal slotTermsRefusal conditionsBuffer givenByTerms terms
 terms-hold = refl
+
+-- The profile "above named rivals".
+pub named-rivals-hold : map givenByAbove namedRivals ≡ map (λ (a : AboveAsked). a .said) namedRivals
+unfolding unlessRefused row joined anyBelow quads ownerRefusal conditionsBuffer inSet numbersWrong pairsAt aboveTerms rivalsRefusal aboveTermsRefusal givenByAbove namedRivals
+named-rivals-hold = refl
+
+-- Sharing.
+pub sharings-hold : map givenBySharing sharings ≡ map (λ (a : ShareAsked). a .said) sharings
+unfolding unlessRefused joined anyBelow allBelow countTo inSet membersOf numbersWrong setAt endAt setsEnd rivalsOf headed ordersOf putsAbove someOf firstOf canShare orderWritten orderBuffer sizeRefusal setsRefusal shareRefusal givenBySharing sharings
+sharings-hold = refl

@@ -1,12 +1,13 @@
 -- "Rounds worked by hand": what is asked of each round, and what documents 01 and 02 say; candidates for a place, with the answer of the
--- eligibility step (document 02, S-3); bidders asked for, with their part of the sheet (S-5); sheets that are written anew (S-6); and top-of-page
--- terms (S-1). Some rounds are played with floors as well (S-7).
-use Prim.Native.Nat.{ℕ, _*_, _-_}
+-- eligibility step (document 02, S-3); bidders asked for, with their part of the sheet (S-5); sheets that are written anew (S-6); top-of-page
+-- terms (S-1); and the profile "above named rivals" and sharing (S-2). Some rounds are played with floors as well (S-7).
+use Prim.Native.Nat.{ℕ, suc, _*_, _-_}
 use mathlib.Core.Bool.{Bool, true, false}
 use mathlib.Core.List.{List, [], _∷_, _++_, map}
 use lib.IntN.{ℤ, pos, negsuc}
 use lib.ListN.{length, take, drop, replicate}
 use Rattle.basis.specs.First.{unlessRefused}
+use Rattle.basis.specs.Rows.{row}
 use Rattle.sheet.specs.Sheet.{slotCount}
 use Rattle.sheet.specs.Refusal.{refusalOf}
 use Rattle.sheet.specs.Round.{roundOf, withFloors}
@@ -26,6 +27,8 @@ use Rattle.owner_part.specs.declared.Before.{Before}
 use Rattle.owner_part.specs.OwnerPart.{boundsOf, beforeOf}
 use Rattle.canonical.specs.Canonical.{canonicalSheet, canonicalRefusal, canonicalBuffer}
 use Rattle.slot_terms.specs.SlotTerms.{slotTerms, slotTermsRefusal, conditionsBuffer}
+use Rattle.above_terms.specs.AboveTerms.{aboveTerms, aboveTermsRefusal}
+use Rattle.share_page.specs.SharePage.{canShare, orderBuffer, shareRefusal}
 use Rattle.test_worked_rounds.specs.Sheets.{
   A,
   B,
@@ -638,4 +641,228 @@ terms =
     ∷ givesNot 3 3 2 2 (4 ∷ 1 ∷ 3 ∷ []) 0 21
     ∷ givesNot 3 3 2 2 (1 ∷ 4 ∷ 3 ∷ []) 0 21
     ∷ givesNot 3 3 2 2 (1 ∷ 3 ∷ 3 ∷ []) 19 22
+    ∷ []
+
+-- the same of the profile "above named rivals"
+pub record AboveAsked : Type 0 where
+  pub n : ℕ
+  pub m : ℕ
+  pub owner : ℕ
+  pub rivals : List ℕ
+  pub buffer : List ℕ
+  pub said : TermsSaid
+
+-- by the right-hand sides of the contract
+unfoldable pub givenByAbove : AboveAsked → TermsSaid
+givenByAbove a =
+    let number = aboveTermsRefusal (a .n) (a .m) (a .owner) (a .rivals) (a .buffer) in
+    let conditions = aboveTerms (a .n) (a .m) (a .owner) (a .rivals) in
+    record {
+      number = number;
+      count = unlessRefused number (length conditions) 0;
+      buffer = unlessRefused number (conditionsBuffer conditions (a .buffer)) (a .buffer);
+    }
+
+-- n, m, the owner and its rivals: so many conditions, as these bytes, in a buffer with more bytes
+abbrev pub keepsAboveBefore : List ℕ → (n m owner : ℕ) → List ℕ → ℕ → List ℕ → AboveAsked
+keepsAboveBefore later n m owner rivals count bytes =
+    record {
+      n = n;
+      m = m;
+      owner = owner;
+      rivals = rivals;
+      buffer = replicate (length bytes) 9 ++ later;
+      said = record { number = 0; count = count; buffer = bytes ++ later };
+    }
+
+abbrev pub keepsAbove : (n m owner : ℕ) → List ℕ → ℕ → List ℕ → AboveAsked
+keepsAbove = keepsAboveBefore (7 ∷ 8 ∷ [])
+
+-- and a call that is refused with the number k, with a buffer of so many bytes
+abbrev pub keepsAboveNot : (n m owner : ℕ) → List ℕ → ℕ → ℕ → AboveAsked
+keepsAboveNot n m owner rivals room k =
+    record {
+      n = n;
+      m = m;
+      owner = owner;
+      rivals = rivals;
+      buffer = replicate room 9;
+      said = record { number = k; count = 0; buffer = replicate room 9 };
+    }
+
+-- bidders 1 to k
+abbrev pub upTo : ℕ → List ℕ
+upTo = row (λ i. suc i)
+
+-- One rival; two, lent in falling order, with a repeat, and in a buffer of just their bytes; none, also in a buffer of no bytes; the owner between its
+-- rivals, and last; one place, where nothing can stand above; one bidder; and the largest owner, n and rival. Then refused calls, first with one fault, as
+-- far as that can be: 4 for n 0 and 65; 5 for m 0 and 17; 16 for owner 0 and n + 1; 23 for 0, n + 1 and 255, first and last; 24 for the owner alone, last,
+-- and twice; 25 for 9 rivals and 16 places, 1,080, and for 49 and 7, 1,029, the least that is too many; and 19 for a byte too few, also of the 3,840 of 8
+-- rivals and 16 places and of the 4,056 of 13 and 13, 1,014 conditions, the most that there can be, and for none at all. Last with more faults, which show
+-- the order: 4, 5, 16, 23 after and before the owner itself, 24, and 25, each before all that come after it.
+unfoldable pub namedRivals : List AboveAsked
+namedRivals =
+    keepsAbove 3 3 1 (2 ∷ []) 3 (1 ∷ 2 ∷ 2 ∷ 1 ∷ 1 ∷ 3 ∷ 2 ∷ 1 ∷ 1 ∷ 3 ∷ 2 ∷ 2 ∷ [])
+    ∷ keepsAbove 3 3 1 (3 ∷ 2 ∷ []) 6 (1 ∷ 2 ∷ 2 ∷ 1 ∷ 1 ∷ 2 ∷ 3 ∷ 1 ∷ 1 ∷ 3 ∷ 2 ∷ 1 ∷ 1 ∷ 3 ∷ 2 ∷ 2 ∷ 1 ∷ 3 ∷ 3 ∷ 1 ∷ 1 ∷ 3 ∷ 3 ∷ 2 ∷ [])
+    ∷ keepsAbove 3 3 1 (2 ∷ 2 ∷ 3 ∷ []) 6 (1 ∷ 2 ∷ 2 ∷ 1 ∷ 1 ∷ 2 ∷ 3 ∷ 1 ∷ 1 ∷ 3 ∷ 2 ∷ 1 ∷ 1 ∷ 3 ∷ 2 ∷ 2 ∷ 1 ∷ 3 ∷ 3 ∷ 1 ∷ 1 ∷ 3 ∷ 3 ∷ 2 ∷ [])
+    ∷ keepsAboveBefore [] 3 3 1 (3 ∷ 2 ∷ 3 ∷ []) 6 (1 ∷ 2 ∷ 2 ∷ 1 ∷ 1 ∷ 2 ∷ 3 ∷ 1 ∷ 1 ∷ 3 ∷ 2 ∷ 1 ∷ 1 ∷ 3 ∷ 2 ∷ 2 ∷ 1 ∷ 3 ∷ 3 ∷ 1 ∷ 1 ∷ 3 ∷ 3 ∷ 2 ∷ [])
+    ∷ keepsAbove 3 3 1 [] 0 []
+    ∷ keepsAboveBefore [] 3 3 1 [] 0 []
+    ∷ keepsAbove 3 2 2 (1 ∷ 3 ∷ []) 2 (2 ∷ 2 ∷ 1 ∷ 1 ∷ 2 ∷ 2 ∷ 3 ∷ 1 ∷ [])
+    ∷ keepsAbove 3 2 3 (2 ∷ []) 1 (3 ∷ 2 ∷ 2 ∷ 1 ∷ [])
+    ∷ keepsAboveBefore [] 3 1 1 (2 ∷ 3 ∷ []) 0 []
+    ∷ keepsAbove 1 16 1 [] 0 []
+    ∷ keepsAbove 64 2 64 (63 ∷ 1 ∷ []) 2 (64 ∷ 2 ∷ 1 ∷ 1 ∷ 64 ∷ 2 ∷ 63 ∷ 1 ∷ [])
+    ∷ keepsAbove 64 2 1 (64 ∷ []) 1 (1 ∷ 2 ∷ 64 ∷ 1 ∷ [])
+    ∷ keepsAboveNot 0 3 1 [] 24 4
+    ∷ keepsAboveNot 65 3 1 (2 ∷ []) 24 4
+    ∷ keepsAboveNot 3 0 1 (2 ∷ []) 24 5
+    ∷ keepsAboveNot 3 17 1 (2 ∷ []) 544 5
+    ∷ keepsAboveNot 3 3 0 (2 ∷ []) 24 16
+    ∷ keepsAboveNot 3 3 4 (2 ∷ []) 24 16
+    ∷ keepsAboveNot 3 3 1 (0 ∷ []) 24 23
+    ∷ keepsAboveNot 3 3 1 (4 ∷ []) 24 23
+    ∷ keepsAboveNot 3 3 1 (0 ∷ 2 ∷ []) 24 23
+    ∷ keepsAboveNot 3 3 1 (2 ∷ 4 ∷ []) 24 23
+    ∷ keepsAboveNot 3 3 1 (2 ∷ 255 ∷ []) 24 23
+    ∷ keepsAboveNot 3 3 1 (1 ∷ []) 24 24
+    ∷ keepsAboveNot 3 3 3 (2 ∷ 3 ∷ []) 24 24
+    ∷ keepsAboveNot 3 3 2 (2 ∷ 1 ∷ 2 ∷ []) 24 24
+    ∷ keepsAboveNot 64 16 64 (upTo 9) 4320 25
+    ∷ keepsAboveNot 64 7 64 (upTo 49) 4116 25
+    ∷ keepsAboveNot 64 16 64 (upTo 8) 3839 19
+    ∷ keepsAboveNot 64 13 64 (upTo 13) 4055 19
+    ∷ keepsAboveNot 3 3 1 (2 ∷ []) 11 19
+    ∷ keepsAboveNot 3 3 1 (2 ∷ []) 0 19
+    ∷ keepsAboveNot 65 17 66 (0 ∷ 66 ∷ []) 0 4
+    ∷ keepsAboveNot 3 17 4 (0 ∷ 4 ∷ []) 0 5
+    ∷ keepsAboveNot 3 3 4 (0 ∷ 4 ∷ []) 0 16
+    ∷ keepsAboveNot 3 3 1 (1 ∷ 0 ∷ []) 0 23
+    ∷ keepsAboveNot 3 3 1 (4 ∷ 1 ∷ []) 0 23
+    ∷ keepsAboveNot 64 16 1 (upTo 10) 0 24
+    ∷ keepsAboveNot 64 16 64 (upTo 9) 0 25
+    ∷ []
+
+-- What is said of sharing: the number and the answer that the call returns, and the buffer after it.
+pub record ShareSaid : Type 0 where
+  pub number : ℕ
+  pub yes : Bool
+  pub buffer : List ℕ
+
+pub record ShareAsked : Type 0 where
+  pub n : ℕ
+  pub m : ℕ
+  pub members : List ℕ
+  pub sets : List ℕ
+  pub buffer : List ℕ
+  pub said : ShareSaid
+
+-- by the right-hand sides of the contract
+unfoldable pub givenBySharing : ShareAsked → ShareSaid
+givenBySharing a =
+    let number = shareRefusal (a .n) (a .m) (a .members) (a .sets) (a .buffer) in
+    record {
+      number = number;
+      yes = unlessRefused number (canShare (a .n) (a .m) (a .members) (a .sets)) false;
+      buffer = unlessRefused number (orderBuffer (a .n) (a .m) (a .members) (a .sets) (a .buffer)) (a .buffer);
+    }
+
+-- n, m, the members and the rival sets of all bidders: yes, in this order, in a buffer with more bytes
+abbrev pub sharesBefore : List ℕ → (n m : ℕ) → List ℕ → List ℕ → List ℕ → ShareAsked
+sharesBefore later n m members sets order =
+    record {
+      n = n;
+      m = m;
+      members = members;
+      sets = sets;
+      buffer = replicate (length order) 9 ++ later;
+      said = record { number = 0; yes = true; buffer = order ++ later };
+    }
+
+abbrev pub shares : (n m : ℕ) → List ℕ → List ℕ → List ℕ → ShareAsked
+shares = sharesBefore (7 ∷ 8 ∷ [])
+
+-- no, or refused with the number k, with a buffer of so many bytes
+abbrev pub sharesNot : (n m : ℕ) → List ℕ → List ℕ → ℕ → ℕ → ShareAsked
+sharesNot n m members sets room k =
+    record {
+      n = n;
+      m = m;
+      members = members;
+      sets = sets;
+      buffer = replicate room 9;
+      said = record { number = k; yes = false; buffer = replicate room 9 };
+    }
+
+abbrev pub sharesNo : (n m : ℕ) → List ℕ → List ℕ → ℕ → ShareAsked
+sharesNo n m members sets room = sharesNot n m members sets room 0
+
+-- Sets are written as lent: a length, then that many numbers. The empty set, also in a buffer of no bytes; one member, of one place; three with no rivals
+-- among them, however lent, also in a buffer of just their bytes; 3 above 1; a chain upwards; of several orders the first, where 4 is above 1, where 3 is
+-- above 1 and 4 above 2, and where 4 is above 2 and 3; a member that names all others; two of a ring of three; rivals outside the set, one of which names
+-- a member; a member and a rival that are named twice; as many members as places, by repeats; five members; and the largest n and m. No: a ring of two and
+-- of three, the latter also with others beside it; more members than places, also with no rivals; and both with a buffer of no bytes. Then refused calls,
+-- first with one fault, as far as that can be: 4 for n 0 and 65; 5 for m 0 and 17; 23 for members with 0 and n + 1, for rivals 0 and n + 1 of the first,
+-- of the last and of no member, for no bytes, a set too few, a last set that ends early, a first one that takes the others' bytes, and a set or any byte
+-- too many; 24 for the first, for the last, for one that is no member, and for one twice; and 19 for a byte too few and for none at all. Last with more
+-- faults, which show the order: 4, 5, 23 of the members, of the last set though the first has its owner, and of bytes too few and too many, 24 though the
+-- answer would be no and the buffer has no bytes, each before all that come after it.
+unfoldable pub sharings : List ShareAsked
+sharings =
+    shares 3 3 [] (0 ∷ 0 ∷ 0 ∷ []) []
+    ∷ sharesBefore [] 3 3 [] (1 ∷ 2 ∷ 1 ∷ 1 ∷ 0 ∷ []) []
+    ∷ shares 3 1 (2 ∷ []) (0 ∷ 0 ∷ 0 ∷ []) (2 ∷ [])
+    ∷ shares 1 1 (1 ∷ []) (0 ∷ []) (1 ∷ [])
+    ∷ shares 3 3 (3 ∷ 1 ∷ 2 ∷ []) (0 ∷ 0 ∷ 0 ∷ []) (1 ∷ 2 ∷ 3 ∷ [])
+    ∷ sharesBefore [] 3 3 (2 ∷ 3 ∷ 1 ∷ []) (0 ∷ 0 ∷ 0 ∷ []) (1 ∷ 2 ∷ 3 ∷ [])
+    ∷ shares 3 3 (1 ∷ 2 ∷ 3 ∷ []) (0 ∷ 0 ∷ 1 ∷ 1 ∷ []) (2 ∷ 3 ∷ 1 ∷ [])
+    ∷ shares 3 3 (1 ∷ 2 ∷ 3 ∷ []) (0 ∷ 1 ∷ 1 ∷ 1 ∷ 2 ∷ []) (3 ∷ 2 ∷ 1 ∷ [])
+    ∷ shares 4 4 (1 ∷ 2 ∷ 3 ∷ 4 ∷ []) (0 ∷ 0 ∷ 0 ∷ 1 ∷ 1 ∷ []) (2 ∷ 3 ∷ 4 ∷ 1 ∷ [])
+    ∷ shares 4 4 (1 ∷ 2 ∷ 3 ∷ 4 ∷ []) (0 ∷ 0 ∷ 1 ∷ 1 ∷ 1 ∷ 2 ∷ []) (3 ∷ 1 ∷ 4 ∷ 2 ∷ [])
+    ∷ shares 4 4 (1 ∷ 2 ∷ 3 ∷ 4 ∷ []) (0 ∷ 0 ∷ 0 ∷ 2 ∷ 2 ∷ 3 ∷ []) (1 ∷ 4 ∷ 2 ∷ 3 ∷ [])
+    ∷ shares 3 3 (1 ∷ 2 ∷ 3 ∷ []) (0 ∷ 0 ∷ 2 ∷ 2 ∷ 1 ∷ []) (3 ∷ 1 ∷ 2 ∷ [])
+    ∷ shares 3 3 (1 ∷ 3 ∷ []) (1 ∷ 2 ∷ 1 ∷ 3 ∷ 1 ∷ 1 ∷ []) (3 ∷ 1 ∷ [])
+    ∷ shares 3 3 (2 ∷ 1 ∷ []) (1 ∷ 3 ∷ 0 ∷ 1 ∷ 1 ∷ []) (1 ∷ 2 ∷ [])
+    ∷ shares 3 3 (1 ∷ 2 ∷ 2 ∷ []) (0 ∷ 3 ∷ 1 ∷ 3 ∷ 1 ∷ 0 ∷ []) (2 ∷ 1 ∷ [])
+    ∷ shares 3 2 (1 ∷ 2 ∷ 1 ∷ 2 ∷ 2 ∷ []) (0 ∷ 0 ∷ 0 ∷ []) (1 ∷ 2 ∷ [])
+    ∷ shares 5 5 (1 ∷ 2 ∷ 3 ∷ 4 ∷ 5 ∷ []) (0 ∷ 1 ∷ 1 ∷ 1 ∷ 2 ∷ 0 ∷ 1 ∷ 4 ∷ []) (3 ∷ 2 ∷ 1 ∷ 5 ∷ 4 ∷ [])
+    ∷ shares 64 16 (64 ∷ 1 ∷ []) (replicate 63 0 ++ 1 ∷ 1 ∷ []) (64 ∷ 1 ∷ [])
+    ∷ sharesNo 3 3 (1 ∷ 2 ∷ []) (1 ∷ 2 ∷ 1 ∷ 1 ∷ 0 ∷ []) 5
+    ∷ sharesNo 3 3 (1 ∷ 2 ∷ 3 ∷ []) (1 ∷ 2 ∷ 1 ∷ 3 ∷ 1 ∷ 1 ∷ []) 5
+    ∷ sharesNo 5 5 (1 ∷ 2 ∷ 3 ∷ 4 ∷ 5 ∷ []) (0 ∷ 1 ∷ 3 ∷ 1 ∷ 4 ∷ 1 ∷ 2 ∷ 1 ∷ 1 ∷ []) 5
+    ∷ sharesNo 3 2 (1 ∷ 2 ∷ 3 ∷ []) (0 ∷ 0 ∷ 1 ∷ 1 ∷ []) 5
+    ∷ sharesNo 3 2 (3 ∷ 2 ∷ 1 ∷ []) (0 ∷ 0 ∷ 0 ∷ []) 0
+    ∷ sharesNo 3 3 (1 ∷ 2 ∷ []) (1 ∷ 2 ∷ 1 ∷ 1 ∷ 0 ∷ []) 0
+    ∷ sharesNot 0 3 [] [] 5 4
+    ∷ sharesNot 65 3 (1 ∷ []) (replicate 65 0) 5 4
+    ∷ sharesNot 3 0 [] (0 ∷ 0 ∷ 0 ∷ []) 5 5
+    ∷ sharesNot 3 17 (1 ∷ []) (0 ∷ 0 ∷ 0 ∷ []) 5 5
+    ∷ sharesNot 3 3 (1 ∷ 0 ∷ []) (0 ∷ 0 ∷ 0 ∷ []) 5 23
+    ∷ sharesNot 3 3 (4 ∷ 1 ∷ []) (0 ∷ 0 ∷ 0 ∷ []) 5 23
+    ∷ sharesNot 3 3 (1 ∷ []) (1 ∷ 0 ∷ 0 ∷ 0 ∷ []) 5 23
+    ∷ sharesNot 3 3 (1 ∷ []) (1 ∷ 4 ∷ 0 ∷ 0 ∷ []) 5 23
+    ∷ sharesNot 3 3 (1 ∷ 3 ∷ []) (0 ∷ 0 ∷ 2 ∷ 1 ∷ 0 ∷ []) 5 23
+    ∷ sharesNot 3 3 (1 ∷ 3 ∷ []) (0 ∷ 0 ∷ 2 ∷ 1 ∷ 4 ∷ []) 5 23
+    ∷ sharesNot 3 3 (1 ∷ 3 ∷ []) (0 ∷ 1 ∷ 4 ∷ 0 ∷ []) 5 23
+    ∷ sharesNot 3 3 (1 ∷ []) [] 5 23
+    ∷ sharesNot 3 3 (1 ∷ []) (0 ∷ 0 ∷ []) 5 23
+    ∷ sharesNot 3 3 (1 ∷ []) (0 ∷ 0 ∷ 2 ∷ 1 ∷ []) 5 23
+    ∷ sharesNot 3 3 (1 ∷ []) (2 ∷ 2 ∷ 3 ∷ []) 5 23
+    ∷ sharesNot 3 3 (1 ∷ []) (255 ∷ 0 ∷ 0 ∷ []) 5 23
+    ∷ sharesNot 3 3 (1 ∷ []) (0 ∷ 0 ∷ 0 ∷ 0 ∷ []) 5 23
+    ∷ sharesNot 3 3 (1 ∷ []) (0 ∷ 0 ∷ 1 ∷ 1 ∷ 2 ∷ []) 5 23
+    ∷ sharesNot 3 3 (1 ∷ []) (1 ∷ 1 ∷ 0 ∷ 0 ∷ []) 5 24
+    ∷ sharesNot 3 3 (1 ∷ 3 ∷ []) (0 ∷ 0 ∷ 2 ∷ 1 ∷ 3 ∷ []) 5 24
+    ∷ sharesNot 3 3 (1 ∷ 3 ∷ []) (0 ∷ 1 ∷ 2 ∷ 0 ∷ []) 5 24
+    ∷ sharesNot 3 3 [] (0 ∷ 2 ∷ 2 ∷ 2 ∷ 0 ∷ []) 5 24
+    ∷ sharesNot 3 3 (1 ∷ 2 ∷ 3 ∷ []) (0 ∷ 0 ∷ 0 ∷ []) 2 19
+    ∷ sharesNot 3 3 (1 ∷ 1 ∷ []) (0 ∷ 0 ∷ 0 ∷ []) 0 19
+    ∷ sharesNot 65 17 (0 ∷ 66 ∷ []) (1 ∷ 1 ∷ []) 0 4
+    ∷ sharesNot 3 17 (0 ∷ 4 ∷ []) (1 ∷ 1 ∷ []) 0 5
+    ∷ sharesNot 3 3 (1 ∷ 0 ∷ []) (1 ∷ 1 ∷ 0 ∷ 0 ∷ []) 0 23
+    ∷ sharesNot 3 3 (1 ∷ []) (1 ∷ 1 ∷ 0 ∷ 1 ∷ 4 ∷ []) 0 23
+    ∷ sharesNot 3 3 (1 ∷ []) (1 ∷ 1 ∷ 0 ∷ []) 0 23
+    ∷ sharesNot 3 3 (1 ∷ []) (1 ∷ 1 ∷ 0 ∷ 0 ∷ 0 ∷ []) 0 23
+    ∷ sharesNot 3 3 (1 ∷ 2 ∷ []) (1 ∷ 2 ∷ 1 ∷ 1 ∷ 1 ∷ 3 ∷ []) 0 24
+    ∷ sharesNot 3 3 (1 ∷ []) (0 ∷ 0 ∷ 1 ∷ 3 ∷ []) 0 24
     ∷ []

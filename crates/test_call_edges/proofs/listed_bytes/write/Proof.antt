@@ -1,19 +1,19 @@
--- `test_call_edges::terms::write_bars` is safe and ends: the bars passed stay at most the count. The list keeps its length. Assumes nothing.
+-- `test_call_edges::listed_bytes::write` is safe and ends: the numbers passed stay at most the count. The list keeps its length. Assumes nothing.
 use Prim.Native.Nat.{_≤_, _-_}
 use mathlib.Core.Path.{_≡_}
 use lib.ListN.{length}
 use borrow.Author.Needs.{needs}
-use Rattle.test_call_edges.proofs.terms.write_bars.Statement.{statement}
-use Rattle.test_call_edges.proofs.terms.write_bars.Tie as tie
+use Rattle.test_call_edges.proofs.listed_bytes.write.Statement.{statement}
+use Rattle.test_call_edges.proofs.listed_bytes.write.Tie as tie
 
 abbrev Inv-loop : tie.InvT-loop
-Inv-loop words bars₀ count at₀ bars at = (at ≤ count) × (length bars ≡ length bars₀)
+Inv-loop words before list₀ count at₀ list at = (at ≤ count) × (length list ≡ length list₀)
 
 abbrev μ-loop : tie.MeasureT-loop
-μ-loop words bars₀ count at₀ bars at = count - at
+μ-loop words before list₀ count at₀ list at = count - at
 
-bar-count-requires : tie.Need-bar-count-requires Inv-loop μ-loop
-bar-count-requires c κs = search needs
+count-after-requires : tie.Need-count-after-requires Inv-loop μ-loop
+count-after-requires c κs = search needs
 
 loop-holds : tie.Need-loop-holds Inv-loop μ-loop
 loop-holds c = search needs
@@ -54,13 +54,13 @@ same-length c = search needs
 returns : tie.Need-returns Inv-loop μ-loop
 returns c = search needs
 
-pub write-bars-spec : {M : Type 1} → statement M
-write-bars-spec =
+pub write-spec : {M : Type 1} → statement M
+write-spec =
     tie.close
     (tie.spec
     Inv-loop
     μ-loop
-    bar-count-requires
+    count-after-requires
     loop-holds
     add-number
     add-number-2
