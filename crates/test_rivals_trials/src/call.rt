@@ -15,7 +15,7 @@ pub const LIST_ROOM: usize = 80;
 
 pub const SETS_ROOM: usize = 640;
 
-// "second engine (all orders tried, up to 6 members)"
+// No more members are lent, since the second engine tries all their orders.
 const MOST_MEMBERS: u32 = 6;
 
 // A call of the profile, which names an owner, or of sharing, which has rival sets: its numbers, how many rivals or members are lent, and how many bytes of sets.
