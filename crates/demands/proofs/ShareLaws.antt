@@ -53,7 +53,7 @@ use Rattle.share_page.proofs.GoodLaws.{without-parts, Good, order-good}
 use Rattle.share_page.proofs.SharingLaws.{first-order, good-some, order-some, good-many}
 use Rattle.share_page.proofs.RefusalLaws as numbers
 use Rattle.pas.specs.Calls.{yesNumber, AboveTermsGiven, SharePageGiven}
-use Rattle.demands.specs.Demands.{Numbered, Lent, SharedRight, AllNamed, HasAll, HasJust, ListSent}
+use Rattle.demands.specs.Demands.{Numbered, Lent, SharedRight, AllFromProfile, HasAll, HasJust, ListSent}
 use Rattle.demands.proofs.AboveTermsLaws.{above-written}
 
 -- What is known of a call that is not refused.
@@ -180,7 +180,7 @@ pair-there p owner (suc own) (suc other) others a c b e e′ =
     (eq-eqb (at p (suc own)) owner e) (eq-eqb (at p others) (suc other) e′) (placed-at p owner (suc own) a c e)
 
 -- On a round whose lists all come from the profile.
-module _ (s sets : List ℕ) (ok : Accepted s) (all : AllNamed s sets) where
+module _ (s sets : List ℕ) (ok : Accepted s) (all : AllFromProfile s sets) where
   counts : (bidderCount s ≤ 64) × (slotCount s ≤ 16)
   counts = let c = accepted-sheet s ok .counts in (c .most-bidders, c .most-slots)
 
@@ -236,7 +236,7 @@ module _ (s sets : List ℕ) (ok : Accepted s) (all : AllNamed s sets) where
 
 -- The members of a yes on the first places.
 module _ (n m : ℕ) (members sets out out′ : List ℕ) (before : ℕ) (given : SharePageGiven n m members sets out before 0 out′ 1)
-    (s : List ℕ) (ok : Accepted s) (bidders : bidderCount s ≡ n) (slots : slotCount s ≡ m) (all : AllNamed s sets) where
+    (s : List ℕ) (ok : Accepted s) (bidders : bidderCount s ≡ n) (slots : slotCount s ≡ m) (all : AllFromProfile s sets) where
   right : SharedRight n m members sets out out′ 1
   right = shared-right n m members sets out out′ before 1 given
 
@@ -355,7 +355,7 @@ module _ (n m : ℕ) (members sets out out′ : List ℕ) (before : ℕ) (given 
 -- A page that has all the members and breaks nothing.
 module _ (n m : ℕ) (members sets : List ℕ) (within : (b : ℕ) → inSet members b ≡ true → (0 < b) × (b ≤ n))
     (other : (i : ℕ) → i < n → names sets (suc i) (suc i) ≡ false)
-    (s : List ℕ) (ok : Accepted s) (bidders : bidderCount s ≡ n) (slots : slotCount s ≡ m) (all : AllNamed s sets)
+    (s : List ℕ) (ok : Accepted s) (bidders : bidderCount s ≡ n) (slots : slotCount s ≡ m) (all : AllFromProfile s sets)
     (p : Page) (none : breaks (roundOf s) p ≡ false) where
   -- those of a set that stand on slots k + 1 to k + c, from the top
   standing : (ℕ → Bool) → ℕ → ℕ → List ℕ
@@ -455,7 +455,7 @@ module _ (n m : ℕ) (members sets : List ℕ) (within : (b : ℕ) → inSet mem
 
 -- No page has the members of a no.
 pub no-page : (n m : ℕ) (members sets out out′ : List ℕ) (before : ℕ) → SharePageGiven n m members sets out before 0 out′ 0 →
-    (s : List ℕ) → Accepted s → bidderCount s ≡ n → slotCount s ≡ m → AllNamed s sets →
+    (s : List ℕ) → Accepted s → bidderCount s ≡ n → slotCount s ≡ m → AllFromProfile s sets →
     (p : Page) → PageOf (roundOf s) p → breaks (roundOf s) p ≡ false → HasAll p members → ⊥
 no-page n m members sets out out′ before given s ok bidders slots all p page none has =
     let facts = known n m members sets out out′ before 0 given in
@@ -466,7 +466,7 @@ no-page n m members sets out out′ before given s ok bidders slots all p page n
 -- Lists written by the profile's call with the rival sets are such lists.
 pub all-written : (n m : ℕ) (s sets : List ℕ) → Accepted s → bidderCount s ≡ n → slotCount s ≡ m →
     ((i : ℕ) → 0 < i → i ≤ n → (out out′ : List ℕ) × (before count : ℕ) × AboveTermsGiven n m i (rivalsOf sets i) out before 0 out′ count × ListSent s i out′ count) →
-    AllNamed s sets
+    AllFromProfile s sets
 unfolding conditionField
 all-written n m s sets ok bidders slots given =
     record {
@@ -483,22 +483,6 @@ all-written n m s sets ok bidders slots given =
           subst (λ (k′ : ℕ). RivalAbove k′ (rivalsOf sets i) (conditionField s k)) (sym slots)
           (list .conditions (conditionField s k) .0 (w .5 .no-other k l refl) .1);
     }
-
--- Sets lent one after another are read as they were lent.
-pub read-lent : (n : ℕ) (sets : List ℕ) (set : ℕ → List ℕ) → Lent n sets set → (i : ℕ) → 0 < i → i ≤ n → rivalsOf sets i ≡ set i
-read-lent n sets set lent zero some most = absurd (omega arith)
-read-lent n sets set lent (suc i) some most = ap (λ (x : List ℕ). rivalsOf x (suc i)) lent ∙ lent-read set n i most
-
--- Lists with the same members.
-pub same-members : (n m : ℕ) (members members′ sets out : List ℕ) → ((b : ℕ) → inSet members b ≡ inSet members′ b) →
-    (canShare n m members sets ≡ canShare n m members′ sets) × (orderBuffer n m members sets out ≡ orderBuffer n m members′ sets out)
-unfolding canShare orderBuffer orderWritten membersOf
-same-members n m members members′ sets out same =
-    let e = same-set members members′ same in
-    let orders : (ℕ → Bool) → List (List ℕ) = (λ f. ordersOf n (countTo (λ i. f (suc i)) n) f) in
-    let asked : (ℕ → Bool) → Bool = (λ f. leb (countTo (λ i. f (suc i)) n) m && someOf (putsAbove (names sets)) (orders f)) in
-    let bytes : (ℕ → Bool) → List ℕ = (λ f. cond (asked f) (firstOf (putsAbove (names sets)) (orders f)) []) in
-    (ap asked e, ap (λ (f : ℕ → Bool). bytes f ++ drop (length (bytes f)) out) e)
 
 -- The call's numbers.
 module _ (n m : ℕ) (members sets out : List ℕ) where
@@ -573,4 +557,17 @@ module _ (n m : ℕ) (members sets out : List ℕ) where
             (λ (l : membersOf n members ≤ length out). let many = yes-many t in omega arith)
             enough)
             (λ (f : canShare n m members sets ≡ false). let many = no-bytes f in omega arith)
+            (holds-or-fails (canShare n m members sets)))
+
+        pub share-enough : m ≤ length out → shareRefusal n m members sets out ≡ 0
+        unfolding canShare
+        share-enough room =
+            share-answered
+            (⊎-elim
+            (λ (t : canShare n m members sets ≡ true).
+            let few =
+            leb-true (membersOf n members) m
+            (and-parts (leb (membersOf n members) m) (someOf (putsAbove (names sets)) (ordersOf n (membersOf n members) (inSet members))) t .0) in
+            inr (omega arith))
+            (λ (f : canShare n m members sets ≡ false). inl f)
             (holds-or-fails (canShare n m members sets)))
