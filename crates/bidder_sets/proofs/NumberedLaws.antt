@@ -1,16 +1,15 @@
 -- The numbers of a set: wrong where one is 0 or above n, and else every member is a bidder. And lists with the same members are one set. Assumes nothing.
-use Prim.Native.Nat.{ℕ, suc, _<_, _≤_}
+use Prim.Native.Nat.{ℕ, _<_, _≤_}
 use borrow.Author.Tests.{eqb-true}
 use mathlib.Core.Bool.{Bool, true, false, _||_}
 use mathlib.Core.List.{List}
 use mathlib.Core.Logic.{_⊎_}
-use mathlib.Core.Path.{_≡_, ap, subst, fun-ext}
+use mathlib.Core.Path.{_≡_, subst, fun-ext}
 use lib.Dec.{eqb, ltb}
 use lib.ListN.{length, getD}
-use Rattle.basis.specs.Counting.{countTo}
 use Rattle.basis.proofs.NumberLaws.{outside, inside, from-inside}
 use Rattle.basis.proofs.TestLaws.{any-at, any-where, any-none, none-any}
-use Rattle.bidder_sets.specs.BidderSets.{inSet, membersOf, numbersWrong}
+use Rattle.bidder_sets.specs.BidderSets.{inSet, numbersWrong}
 
 module _ (n : ℕ) (set : List ℕ) where
   abbrev wrongAt : ℕ → Bool
@@ -37,7 +36,3 @@ module _ (n : ℕ) (set : List ℕ) where
 
 pub same-set : (set set′ : List ℕ) → ((b : ℕ) → inSet set b ≡ inSet set′ b) → inSet set ≡ inSet set′
 same-set set set′ same = fun-ext same
-
-pub same-many : (n : ℕ) (set set′ : List ℕ) → ((b : ℕ) → inSet set b ≡ inSet set′ b) → membersOf n set ≡ membersOf n set′
-unfolding membersOf
-same-many n set set′ same = ap (λ (f : ℕ → Bool). countTo (λ i. f (suc i)) n) (same-set set set′ same)

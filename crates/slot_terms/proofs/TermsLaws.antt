@@ -8,13 +8,12 @@ use native.Mathlib.Omega.{arith}
 use lib.ListN.{length, getD}
 use Rattle.basis.specs.Rows.{row}
 use Rattle.basis.specs.Rising.{Rising}
-use Rattle.basis.proofs.RisingLaws.{mem-row, row-mem, mem-joined, joined-mem, rising-lower, rising-higher, rising-append, rising-joined, rising-steps, rising-next}
+use Rattle.basis.proofs.RisingLaws.{mem-row, row-mem, mem-joined, joined-mem, rising-lower, rising-higher, rising-append, rising-joined, rising-steps, rising-at}
 use Rattle.sheet.specs.Refusal.{fieldsRefusal}
 use Rattle.sheet.specs.Accepted.{fieldsNumber, numberOf}
 use Rattle.sheet.specs.Encoded.{Condition, on}
 use Rattle.sheet.proofs.AcceptedLaws.{fields-back}
 use Rattle.sheet.proofs.EncodedLaws.{blankCondition}
-use Rattle.sheet.proofs.OrderLaws.{rising-over}
 use Rattle.slot_terms.specs.SlotTerms.{barFor, barred, beyond, ByLimit, ByBar, slotTerms}
 use Rattle.slot_terms.specs.EngineTerms.{barsTo}
 use Rattle.slot_terms.proofs.WriteLaws.{allBarred, bars-most}
@@ -105,10 +104,7 @@ module _ (n m owner limit : ℕ) (bars : List ℕ) where
     -- each is above every one before it
     pub terms-rising : (j k : ℕ) → j < k → k < length (slotTerms n m owner limit bars) →
         numberOf (getD (slotTerms n m owner limit bars) j blankCondition) < numberOf (getD (slotTerms n m owner limit bars) k blankCondition)
-    terms-rising =
-        let qs = slotTerms n m owner limit bars in
-        rising-over (λ k. numberOf (getD qs k blankCondition)) (length qs)
-        (rising-next numberOf (fieldsNumber owner 0 1 0) (fieldsNumber owner (limit + 1 + (m - limit)) 0 0) qs blankCondition terms-rise)
+    terms-rising = rising-at numberOf (fieldsNumber owner 0 1 0) (fieldsNumber owner (limit + 1 + (m - limit)) 0 0) (slotTerms n m owner limit bars) blankCondition terms-rise
 
     -- where the owner is one of the bidders, and nothing is barred against it
     module _ (some : 0 < owner) (within : owner ≤ n) (none : barFor bars owner ≡ 0) where
