@@ -193,7 +193,7 @@ set-pairs n m owner member rivals same =
     (λ j h. ap (λ (t : Bool). cond t (pairsAt owner (suc k) (suc j)) []) (same j h)))
 
 -- and so many: m × (m − 1) / 2 for each rival.
-pub terms-many : (n m owner : ℕ) (rivals : List ℕ) → length (aboveTerms n m owner rivals) ≡ membersOf n rivals * placesAbove m
+terms-many : (n m owner : ℕ) (rivals : List ℕ) → length (aboveTerms n m owner rivals) ≡ membersOf n rivals * placesAbove m
 unfolding membersOf
 terms-many n m owner rivals =
     let others = listed (inSet rivals) n in

@@ -6,14 +6,15 @@ use mathlib.Core.Path.{_≡_, refl, sym, _∙_, ap, subst}
 use native.Mathlib.Omega.{arith}
 use lib.ListN.{length, getD}
 use Rattle.basis.specs.Rising.{Rising}
-use Rattle.basis.specs.Rows.{row, joined}
-use Rattle.basis.proofs.RisingLaws.{mem-row, row-mem, mem-joined, joined-mem, mem-when, rising-lower, rising-higher, rising-joined, rising-steps, rising-at}
+use Rattle.basis.specs.Rows.{joined}
+use Rattle.basis.proofs.RisingLaws.{mem-row, row-mem, mem-joined, joined-mem, mem-when, rising-lower, rising-higher, rising-joined, rising-at}
 use Rattle.basis.proofs.TestLaws.{not-both}
 use Rattle.sheet.specs.Refusal.{fieldsRefusal}
 use Rattle.sheet.specs.Accepted.{fieldsNumber, numberOf}
 use Rattle.sheet.specs.Encoded.{Condition, on}
 use Rattle.sheet.proofs.AcceptedLaws.{fields-back}
 use Rattle.sheet.proofs.EncodedLaws.{blankCondition}
+use Rattle.slot_terms.proofs.TermsLaws.{places-rise}
 use Rattle.bidder_sets.specs.BidderSets.{inSet}
 use Rattle.above_terms.specs.AboveTerms.{RivalAbove, pairsAt, aboveTerms}
 
@@ -90,25 +91,24 @@ module _ (n m owner : ℕ) (rivals : List ℕ) where
   -- They rise, where the numbers are small.
   module _ (few : n ≤ 64) (short : m ≤ 16) where
     pairs-rise : (k j : ℕ) → k < m → Rising numberOf (fieldsNumber owner (suc k) (suc j) 0) (fieldsNumber owner (suc k) (suc (suc j)) 0) (pairsIf k j)
-    unfolding pairsAt numberOf
+    unfolding pairsAt
     pairs-rise k j l = by-test (inSet rivals (suc j))
       where
-        list : List Condition
-        list = row (λ l. on owner (suc k) (suc j) (suc l)) (suc k - 1)
+        lo : ℕ
+        lo = fieldsNumber owner (suc k) (suc j) 0
 
-        by-test : (t : Bool) → Rising numberOf (fieldsNumber owner (suc k) (suc j) 0) (fieldsNumber owner (suc k) (suc (suc j)) 0) (cond t (pairsAt owner (suc k) (suc j)) [])
-        by-test true =
-            rising-lower numberOf (fieldsNumber owner (suc k) (suc j) 1) (fieldsNumber owner (suc k) (suc j) 0) (fieldsNumber owner (suc k) (suc (suc j)) 0) list (omega arith)
-            (rising-higher numberOf (fieldsNumber owner (suc k) (suc j) 1) (fieldsNumber owner (suc k) (suc j) (suc (suc k - 1))) (fieldsNumber owner (suc k) (suc (suc j)) 0)
-            list (omega arith)
-            (rising-steps numberOf (λ l. on owner (suc k) (suc j) (suc l)) (λ l. fieldsNumber owner (suc k) (suc j) (suc l)) (suc k - 1) (λ l b. (omega arith, omega arith))))
+        hi : ℕ
+        hi = fieldsNumber owner (suc k) (suc (suc j)) 0
+
+        by-test : (t : Bool) → Rising numberOf lo hi (cond t (pairsAt owner (suc k) (suc j)) [])
+        by-test true = places-rise owner (suc k) (suc j) (suc k - 1) (omega arith)
         by-test false = omega arith
 
     place-rises : (k : ℕ) → k < m → Rising numberOf (fieldsNumber owner (suc k) 0 0) (fieldsNumber owner (suc (suc k)) 0 0) (joined (pairsIf k) n)
     place-rises k l =
-        rising-lower numberOf (fieldsNumber owner (suc k) 1 0) (fieldsNumber owner (suc k) 0 0) (fieldsNumber owner (suc (suc k)) 0 0) (joined (pairsIf k) n) (omega arith)
-        (rising-higher numberOf (fieldsNumber owner (suc k) 1 0) (fieldsNumber owner (suc k) (suc n) 0) (fieldsNumber owner (suc (suc k)) 0 0) (joined (pairsIf k) n)
-        (omega arith)
+        let list = joined (pairsIf k) n in
+        rising-lower numberOf (fieldsNumber owner (suc k) 1 0) (fieldsNumber owner (suc k) 0 0) (fieldsNumber owner (suc (suc k)) 0 0) list (omega arith)
+        (rising-higher numberOf (fieldsNumber owner (suc k) 1 0) (fieldsNumber owner (suc k) (suc n) 0) (fieldsNumber owner (suc (suc k)) 0 0) list (omega arith)
         (rising-joined numberOf (pairsIf k) (λ j. fieldsNumber owner (suc k) (suc j) 0) n (λ j h. pairs-rise k j l)))
 
     terms-rise : Rising numberOf (fieldsNumber owner 1 0 0) (fieldsNumber owner (suc m) 0 0) (aboveTerms n m owner rivals)

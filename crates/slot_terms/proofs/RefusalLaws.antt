@@ -102,7 +102,7 @@ module _ (n m owner limit : ℕ) (bars : List ℕ) where
       (ap not (eq-eqb (length bars) n many))
       (none-any (λ i. ltb m (barFor bars (suc i))) n (λ i l. le-ltb m (barFor bars (suc i)) (low (suc i) (omega arith) l)))
 
-  pub profile-none : TermsFit n m owner limit bars → profileRefusal n m owner limit bars ≡ 0
+  profile-none : TermsFit n m owner limit bars → profileRefusal n m owner limit bars ≡ 0
   unfolding profileRefusal
   profile-none fit =
       simp (
@@ -145,7 +145,7 @@ module _ (n m owner limit : ℕ) (bars out : List ℕ) where
   unfolding slotTermsRefusal
   owner-passed fits = orElse-right (ownerRefusal n m owner) _ (owner-none n m owner fits)
 
-  pub profile-first : (k : ℕ) → OwnerFits n m owner → profileRefusal n m owner limit bars ≡ suc k → slotTermsRefusal n m owner limit bars out ≡ suc k
+  profile-first : (k : ℕ) → OwnerFits n m owner → profileRefusal n m owner limit bars ≡ suc k → slotTermsRefusal n m owner limit bars out ≡ suc k
   profile-first k fits e = owner-passed fits ∙ ap (λ (a : ℕ). orElse a roomNumber) e
 
   pub four : (n ≡ 0) ⊎ (64 < n) → slotTermsRefusal n m owner limit bars out ≡ 4
