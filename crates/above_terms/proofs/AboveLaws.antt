@@ -1,21 +1,18 @@
 -- The pairs of rivals in a list: how many they are, the bytes that are stored for them, and that the list of a set gives the pairs of the set. Assumes nothing.
 use Prim.Native.Nat.{ℕ, zero, suc, _+_, _-_, _*_, _/_, _<_, _≤_}
-use borrow.Author.Tests.{eqb-true, leb-true}
 use mathlib.Core.Bool.{Bool, true, false, cond}
 use mathlib.Core.List.{List, [], _∷_, _++_, append-nil}
 use mathlib.Core.Logic.{⊎-elim}
 use mathlib.Core.Path.{_≡_, refl, sym, _∙_, ap, ap₂}
-use native.Mathlib.Nat.{eq-or-lt-of-le, le-of-suc-le-suc, mul-add, mul-comm, mul-suc, mul-zero, suc-mul}
+use native.Mathlib.Nat.{eq-or-lt-of-le, le-of-suc-le-suc, mul-add, mul-comm, mul-le-mul, mul-suc, mul-zero, suc-mul}
 use native.Mathlib.Numerals.{add-one}
 use native.Mathlib.Omega.{arith}
-use lib.Dec.{eqb, leb}
 use lib.ListN.{length, getD, length-append, List·getD-append}
 use lib.Seq.{sets, getD-append-seam}
 use Rattle.basis.specs.Bytes.{bytes32}
 use Rattle.basis.specs.Rows.{joined}
-use Rattle.basis.specs.Tests.{allBelow}
 use Rattle.basis.proofs.RowLaws.{length-row, length-joined, joined-same}
-use Rattle.basis.proofs.TestLaws.{all-at, holds-or-fails}
+use Rattle.basis.proofs.TestLaws.{holds-or-fails}
 use Rattle.sheet.specs.Encoded.{on, quads}
 use Rattle.slot_terms.specs.EngineTerms.{wordOf}
 use Rattle.slot_terms.proofs.WriteLaws.{others-words, quads-next}
@@ -26,18 +23,33 @@ use Rattle.bidder_sets.proofs.SetLaws.{listed-member, listed-other}
 use Rattle.above_terms.specs.AboveTerms.{pairsAt, aboveTerms}
 use Rattle.above_terms.specs.EngineAbove.{placePairs, allPairs, placesAbove}
 
--- How many pairs of places there are: each m is tried.
-pub places-product : (m : ℕ) → m < 17 → (m - 1) * (m + 1 - 1) ≤ 240
-unfolding allBelow
-places-product m few = leb-true ((m - 1) * (m + 1 - 1)) 240 (all-at (λ k. leb ((k - 1) * (k + 1 - 1)) 240) 17 refl m few)
+-- How many pairs of places there are: m × (m − 1) / 2, as the engine has it too.
+places-twice : (m : ℕ) → 2 * placesAbove m ≡ m * (m - 1)
+unfolding placesAbove
+places-twice zero = refl
+places-twice (suc zero) = refl
+places-twice (suc (suc k)) =
+    let before = places-twice (suc k) in
+    let less : suc (suc k) - 1 ≡ suc k = omega arith in
+    let less′ : suc k - 1 ≡ k = omega arith in
+    let product = ap (λ (x : ℕ). suc (suc k) * x) less in
+    let product′ = ap (λ (x : ℕ). suc k * x) less′ in
+    let one = suc-mul (suc k) (suc k) in
+    let other = mul-suc (suc k) k in
+    omega arith
 
-pub places-half : (m : ℕ) → m < 17 → (m - 1) * (m + 1 - 1) / 2 ≡ placesAbove m
-unfolding allBelow placesAbove
-places-half m few =
-    eqb-true ((m - 1) * (m + 1 - 1) / 2) (placesAbove m) (all-at (λ k. eqb ((k - 1) * (k + 1 - 1) / 2) (placesAbove k)) 17 refl m few)
+pub places-half : (m : ℕ) → (m - 1) * (m + 1 - 1) / 2 ≡ placesAbove m
+places-half m =
+    let twice = places-twice m in
+    let turned = mul-comm m (m - 1) in
+    let same = ap (λ (k : ℕ). (m - 1) * k) (let e : m + 1 - 1 ≡ m = omega arith in e) in
+    omega arith
 
 pub places-most : (m : ℕ) → m < 17 → placesAbove m ≤ 120
-places-most m few = let half = places-half m few in let most = places-product m few in omega arith
+places-most m few =
+    let twice = places-twice m in
+    let most = mul-le-mul {n₁ = m} {m₁ = m - 1} {n₂ = 16} {m₂ = 15} (omega arith) (omega arith) in
+    omega arith
 
 -- How many conditions one rival gives with the owner at one place,
 pairs-many : (owner own other : ℕ) → length (pairsAt owner own other) ≡ own - 1
@@ -181,21 +193,7 @@ set-pairs n m owner member rivals same =
     (λ j h. ap (λ (t : Bool). cond t (pairsAt owner (suc k) (suc j)) []) (same j h)))
 
 -- and so many: m × (m − 1) / 2 for each rival.
-places-twice : (m : ℕ) → 2 * placesAbove m ≡ m * (m - 1)
-unfolding placesAbove
-places-twice zero = refl
-places-twice (suc zero) = refl
-places-twice (suc (suc k)) =
-    let before = places-twice (suc k) in
-    let less : suc (suc k) - 1 ≡ suc k = omega arith in
-    let less′ : suc k - 1 ≡ k = omega arith in
-    let product = ap (λ (x : ℕ). suc (suc k) * x) less in
-    let product′ = ap (λ (x : ℕ). suc k * x) less′ in
-    let one = suc-mul (suc k) (suc k) in
-    let other = mul-suc (suc k) k in
-    omega arith
-
-pub terms-many : (n m owner : ℕ) (rivals : List ℕ) → length (aboveTerms n m owner rivals) ≡ membersOf n rivals * placesAbove m
+terms-many : (n m owner : ℕ) (rivals : List ℕ) → length (aboveTerms n m owner rivals) ≡ membersOf n rivals * placesAbove m
 unfolding membersOf
 terms-many n m owner rivals =
     let others = listed (inSet rivals) n in

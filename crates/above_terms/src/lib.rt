@@ -4,7 +4,7 @@
 // No sheet is read. The rivals are put into rising order, each once; how many constraints there are is then known before any is written. They go in runs whose
 // numbers differ by one step.
 ghost use mathlib.Core.Path.{_≡_};
-ghost use Prim.Native.Nat.{ℕ, suc, _+_, _*_, _<_, _≤_};
+ghost use Prim.Native.Nat.{ℕ, _+_, _*_, _<_, _≤_};
 ghost use lib.ListN.{length, getD};
 ghost use lib.Seq.{sets};
 ghost use Rattle.sheet.specs.Encoded.{quads};

@@ -1,23 +1,19 @@
 -- The members of a set in rising order: who they are, how many, and that they rise. Assumes nothing.
 use Prim.Native.Nat.{ℕ, zero, suc, _+_, _<_, _≤_}
 use mathlib.Core.Bool.{Bool, true, false, cond}
-use mathlib.Core.List.{List, [], _∷_, List·Memᴰ, List·Memᴰ·head, List·Memᴰ·eq-of-singleton, List·Memᴰ·not-nil}
+use mathlib.Core.List.{List, [], _∷_, List·Memᴰ, List·Memᴰ·head, List·Memᴰ·eq-of-singleton}
 use mathlib.Core.Path.{_≡_, refl, sym, _∙_, ap, ap₂, subst}
 use native.Mathlib.Omega.{arith}
 use lib.ListN.{length, length-append}
 use Rattle.basis.specs.Counting.{countTo}
 use Rattle.basis.specs.Rising.{Rising}
 use Rattle.basis.specs.Rows.{joined}
-use Rattle.basis.proofs.RisingLaws.{mem-joined, joined-mem, rising-joined}
+use Rattle.basis.proofs.RisingLaws.{mem-joined, joined-mem, mem-when, rising-joined}
 use Rattle.bidder_sets.specs.EngineSets.{listed}
 
 -- one bidder, or nobody
 abbrev oneIf : Bool → ℕ → List ℕ
 oneIf t b = cond t (b ∷ []) []
-
-one-where : (t : Bool) (b x : ℕ) → List·Memᴰ x (oneIf t b) → (t ≡ true) × (x ≡ b)
-one-where true b x h = (refl, List·Memᴰ·eq-of-singleton h)
-one-where false b x h = absurd (List·Memᴰ·not-nil h)
 
 one-many : (t : Bool) (b : ℕ) → length (oneIf t b) ≡ cond t 1 0
 one-many true b = refl
@@ -32,9 +28,9 @@ module _ (member : ℕ → Bool) (n : ℕ) where
   unfolding listed
   listed-where x h =
       let w = mem-joined (λ i. oneIf (member (suc i)) (suc i)) n x h in
-      let one = one-where (member (suc (w .0))) (suc (w .0)) x (w .2) in
+      let one = mem-when (member (suc (w .0))) (suc (w .0) ∷ []) x (w .2) in
       let inside = w .1 in
-      let same = one .1 in
+      let same = List·Memᴰ·eq-of-singleton (one .1) in
       (ap member same ∙ one .0, omega arith, omega arith)
 
   pub listed-there : (x : ℕ) → member x ≡ true → 0 < x → x ≤ n → List·Memᴰ x (listed member n)

@@ -23,7 +23,7 @@ module _ (n : ℕ) (set : List ℕ) where
   unfolding numbersWrong
   numbered-right h = none-any wrongAt (length set) (λ k l. inside (getD set k 0) n (h k l .0) (h k l .1))
 
-  pub right-numbered : numbersWrong n set ≡ false → (k : ℕ) → k < length set → (0 < getD set k 0) × (getD set k 0 ≤ n)
+  right-numbered : numbersWrong n set ≡ false → (k : ℕ) → k < length set → (0 < getD set k 0) × (getD set k 0 ≤ n)
   unfolding numbersWrong
   right-numbered e k l = from-inside (getD set k 0) n (any-none wrongAt (length set) e k l)
 

@@ -29,6 +29,8 @@ use Rattle.auction.specs.Broken.{ownHolds, otherHolds, broken, breaks}
 use Rattle.auction.specs.Allowed.{PageOf, Allowed}
 use Rattle.auction.proofs.PageLaws.{at-zero, placed-at, placed-where}
 use Rattle.auction.proofs.BrokenLaws.{broken-parts, parts-broken, breaks-at, none-breaks}
+use Rattle.slot_terms.specs.SlotTerms.{sizeRefusal}
+use Rattle.slot_terms.proofs.RefusalLaws.{size-four, size-five, size-none}
 use Rattle.bidder_sets.specs.BidderSets.{inSet, membersOf, numbersWrong, setsEnd, rivalsOf}
 use Rattle.bidder_sets.proofs.NumberedLaws.{wrong-at, numbered-right, in-numbered, same-set}
 use Rattle.bidder_sets.proofs.LentLaws.{lent-read, lent-end, exactly-laid}
@@ -43,7 +45,6 @@ use Rattle.share_page.specs.SharePage.{
   canShare,
   orderWritten,
   orderBuffer,
-  sizeRefusal,
   setsRefusal,
   shareRefusal,
   OrderOf,
@@ -487,14 +488,14 @@ all-written n m s sets ok bidders slots given =
 -- The call's numbers.
 module _ (n m : ℕ) (members sets out : List ℕ) where
   pub share-four : (n ≡ 0) ⊎ (64 < n) → shareRefusal n m members sets out ≡ 4
-  share-four bad = numbers.size-first n m members sets out 3 (numbers.size-four n m bad)
+  share-four bad = numbers.size-first n m members sets out 3 (size-four n m bad)
 
   pub share-five : 0 < n → n ≤ 64 → (m ≡ 0) ⊎ (16 < m) → shareRefusal n m members sets out ≡ 5
-  share-five some most bad = numbers.size-first n m members sets out 4 (numbers.size-five n m some most bad)
+  share-five some most bad = numbers.size-first n m members sets out 4 (size-five n m some most bad)
 
   module _ (some : 0 < n) (most : n ≤ 64) (some-m : 0 < m) (most-m : m ≤ 16) where
     fits : sizeRefusal n m ≡ 0
-    fits = numbers.size-none n m some most some-m most-m
+    fits = size-none n m some most some-m most-m
 
     pub members-wrong : (k : ℕ) → k < length members → (getD members k 0 ≡ 0) ⊎ (n < getD members k 0) → shareRefusal n m members sets out ≡ 23
     members-wrong k l bad = numbers.members-wrong n m members sets out fits (wrong-at n members k l bad)

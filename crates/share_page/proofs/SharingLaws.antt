@@ -14,7 +14,7 @@ use Rattle.basis.specs.Rows.{row, joined}
 use Rattle.basis.specs.Tests.{allBelow, least}
 use Rattle.basis.proofs.CountLaws as counts
 use Rattle.basis.proofs.NumberLaws.{same-or-not, below-or-not}
-use Rattle.basis.proofs.RisingLaws.{mem-at, at-mem, mem-joined, rising-next}
+use Rattle.basis.proofs.RisingLaws.{mem-at, at-mem, mem-joined, rising-at}
 use Rattle.basis.proofs.RowLaws.{row-head, row-same}
 use Rattle.basis.proofs.TestLaws.{
   holds-or-fails,
@@ -38,7 +38,6 @@ use Rattle.basis.proofs.TestLaws.{
   least-before,
   least-passes,
 }
-use Rattle.sheet.proofs.OrderLaws.{rising-over}
 use Rattle.bidder_sets.specs.EngineSets.{listed}
 use Rattle.bidder_sets.proofs.ListedLaws.{listed-where, listed-there, listed-rises}
 use Rattle.share_page.specs.SharePage.{without, headed, ordersOf, putsAbove, someOf, firstOf, OrderOf, Earlier, FirstOrder}
@@ -205,7 +204,7 @@ module _ (named : ℕ → ℕ → Bool) (n : ℕ) (member : ℕ → Bool) (withi
   some-at k l = listed-where member n (getD L k 0) (at-mem L 0 k l) .1
 
   rises-at : (j k : ℕ) → j < k → k < length L → getD L j 0 < getD L k 0
-  rises-at = rising-over (λ k. getD L k 0) (length L) (rising-next (λ (x : ℕ). x) 1 (suc n) L 0 (listed-rises member n))
+  rises-at = rising-at (λ (x : ℕ). x) 1 (suc n) L 0 (listed-rises member n)
 
   -- The first of the members that passes a test
   module _ (test : ℕ → Bool) where

@@ -12,6 +12,7 @@ use lib.Seq.{sets}
 use Rattle.basis.proofs.FirstLaws.{refused-leaves, answered-gives}
 use Rattle.basis.proofs.RowLaws.{length-row, sets-front}
 use Rattle.basis.proofs.TestLaws.{and-holds}
+use Rattle.slot_terms.specs.SlotTerms.{sizeRefusal}
 use Rattle.bidder_sets.specs.BidderSets.{inSet, membersOf, numbersWrong, rivalsOf}
 use Rattle.bidder_sets.specs.EngineSets.{inWord, Holds, listed}
 use Rattle.bidder_sets.proofs.ListedLaws.{listed-many}
@@ -25,7 +26,6 @@ use Rattle.share_page.specs.SharePage.{
   canShare,
   orderWritten,
   orderBuffer,
-  sizeRefusal,
   setsRefusal,
   shareRefusal,
   PageShared,

@@ -11,6 +11,7 @@ use lib.ListN.{length, getD, drop}
 use Rattle.basis.specs.First.{_when_otherwise_, orElse, unlessRefused}
 use Rattle.basis.specs.Rows.{joined}
 use Rattle.basis.specs.Tests.{anyBelow, allBelow}
+use Rattle.slot_terms.specs.SlotTerms.{sizeRefusal}
 use Rattle.bidder_sets.specs.BidderSets.{inSet, membersOf, numbersWrong, setsEnd, rivalsOf}
 use Rattle.share_page.specs.declared.Shared.{Shared}
 
@@ -59,13 +60,6 @@ orderWritten n m members sets = cond (canShare n m members sets) (firstOf (putsA
 
 unfoldable pub orderBuffer : (n m : ℕ) (members sets out : List ℕ) → List ℕ
 orderBuffer n m members sets out = orderWritten n m members sets ++ drop (length (orderWritten n m members sets)) out
-
--- 4. n is 0 or above 64.  5. m is 0 or above 16.
-unfoldable pub sizeRefusal : (n m : ℕ) → ℕ
-sizeRefusal n m =
-    4 when eqb n 0 || ltb 64 n otherwise
-    5 when eqb m 0 || ltb 16 m otherwise
-    0
 
 -- 23. The bytes are not exactly n rival sets, or one of these has a number 0 or above n.  24. A bidder is in its own set.
 unfoldable pub setsRefusal : (n : ℕ) (sets : List ℕ) → ℕ

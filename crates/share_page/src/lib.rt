@@ -9,7 +9,7 @@ ghost use lib.ListN.{length, getD};
 ghost use lib.Seq.{sets};
 ghost use Rattle.bidder_sets.specs.BidderSets.{inSet, rivalsOf};
 ghost use Rattle.bidder_sets.specs.EngineSets.{inWord, Holds};
-ghost use Rattle.share_page.specs.SharePage.{sizeRefusal, setsRefusal, PageShared};
+ghost use Rattle.share_page.specs.SharePage.{setsRefusal, PageShared};
 ghost use Rattle.share_page.specs.EngineShare.{inTable, namedIn, firstIn, turns, allFound};
 use bidder_sets::Bidders;
 use sheet::Bidder;
@@ -18,25 +18,6 @@ use sheet::Bidder;
 pub struct Shared {
     pub refusal: u32,
     pub yes: bool,
-}
-
-// 4 or 5, or 0 for numbers of bidders and slots that a sheet can have.
-fn size_refusal(n: u32, m: u32) -> u32
-    ensures { λ r. ⌜ r ≡ sizeRefusal n m ⌝ }
-{
-    if n == 0 {
-        return 4;
-    }
-    if 64 < n {
-        return 4;
-    }
-    if m == 0 {
-        return 5;
-    }
-    if 16 < m {
-        return 5;
-    }
-    0
 }
 
 // 23 or 24; or 0, with the rival set of each bidder in a word of the table.
@@ -144,7 +125,7 @@ fn put_bytes(result: &mut [u8], bytes: &[u8])
 pub fn share(n: u32, m: u32, members: &[u8], rivals: &[u8], result: &mut [u8]) -> Shared
     ensures { λ r. ⌜ PageShared n m (now (members .entry)) (now (rivals .entry)) (now (result .entry)) r (now (result .exit)) ⌝ }
 {
-    let size = size_refusal(n, m);
+    let size = slot_terms::size_refusal(n, m);
     if size != 0 {
         return refused(size);
     }

@@ -106,7 +106,7 @@ pub barred-words : (owner other bar : ℕ) → owner ≤ 64 → other ≤ 64 →
 unfolding barred
 barred-words owner other bar ho hj hb = others-words owner 0 other bar ho (omega arith) hj hb
 
-pub beyond-words : (m owner limit : ℕ) → m ≤ 16 → owner ≤ 64 →
+beyond-words : (m owner limit : ℕ) → m ≤ 16 → owner ≤ 64 →
     joined (λ k. bytes32 (wordOf owner (limit + 1) 0 0 + 256 * k)) (m - limit) ≡ quads (beyond m owner limit)
 unfolding beyond
 beyond-words m owner limit hm ho =

@@ -9,12 +9,13 @@ use mathlib.Core.Path.{_≡_, refl, sym, _∙_, ap}
 use native.Mathlib.Omega.{arith}
 use lib.ListN.{length, getD, take, replicate}
 use lib.Seq.{sets, length-sets}
+use Rattle.slot_terms.specs.SlotTerms.{sizeRefusal}
+use Rattle.slot_terms.proofs.RefusalLaws.{sized}
 use Rattle.bidder_sets.specs.BidderSets.{numbersWrong}
 use Rattle.bidder_sets.specs.EngineSets.{inWord, listed}
 use Rattle.bidder_sets.proofs.SetLaws.{listed-at, listed-few, list-front}
-use Rattle.share_page.specs.SharePage.{names, putsAbove, firstOf, memberOrders, canShare, sizeRefusal, setsRefusal}
+use Rattle.share_page.specs.SharePage.{names, putsAbove, firstOf, memberOrders, canShare, setsRefusal}
 use Rattle.share_page.specs.EngineShare.{inTable, turns}
-use Rattle.share_page.proofs.RefusalLaws.{sized}
 use Rattle.share_page.proofs.WriteLaws.{
   Words,
   size-refused,
