@@ -476,11 +476,9 @@ module _ (named : ℕ → ℕ → Bool) (n : ℕ) (member : ℕ → Bool) (withi
         first = λ l o. taken-first c member all-members refl g l (order-good named member l o);
       })
 
-  pub good-some : (l : List ℕ) → Good named member l → someOf (putsAbove named) (ordersOf n (count member n) member) ≡ true
-  good-some l g = some-goes (count member n) member all-members refl ∙ good-goes (count member n) member all-members refl l g
-
   pub order-some : (l : List ℕ) → OrderOf named member l → someOf (putsAbove named) (ordersOf n (count member n) member) ≡ true
-  order-some l o = good-some l (order-good named member l o)
+  order-some l o =
+      some-goes (count member n) member all-members refl ∙ good-goes (count member n) member all-members refl l (order-good named member l o)
 
   -- an order is as long as the set
   pub good-many : (f : ℕ → Bool) → Within f → (l : List ℕ) → Good named f l → length l ≡ count f n
