@@ -16,10 +16,10 @@ use Rattle.basis.specs.Rows.{joined}
 use Rattle.basis.proofs.FirstLaws.{answered-gives}
 use Rattle.sheet.specs.Encoded.{Condition}
 use Rattle.slot_terms.specs.SlotTerms.{ownerRefusal, conditionsBuffer, OwnerFits}
-use Rattle.bidder_sets.specs.BidderSets.{inSet, membersOf, numbersWrong}
+use Rattle.bidder_sets.specs.BidderSets.{inSet, memberCount, numbersWrong}
 use Rattle.bidder_sets.proofs.NumberedLaws.{wrong-at, numbered-right, in-numbered, same-set, same-wrong}
 use Rattle.above_terms.specs.AboveTerms.{RivalAbove, pairsAt, aboveTerms, rivalsRefusal, aboveTermsRefusal}
-use Rattle.above_terms.specs.EngineAbove.{placesAbove}
+use Rattle.above_terms.specs.EngineAbove.{slotsAbove}
 use Rattle.above_terms.proofs.AboveLaws.{terms-many, terms-twice}
 use Rattle.above_terms.proofs.RefusalLaws as numbers
 use Rattle.above_terms.proofs.TermsLaws.{terms-where, terms-there, terms-lower, terms-rising, terms-pass}
@@ -28,24 +28,24 @@ use Rattle.demands.specs.Demands.{Numbered, RivalsFit, ListWritten}
 use Rattle.demands.proofs.ListLaws.{list-written}
 
 -- No set gives more than 1,014 conditions and at most 1,024: each number of rivals and of places is tried.
-within-few : (c m : ℕ) → c < 65 → m < 17 → c * placesAbove m ≤ 1_024 → c * placesAbove m ≤ 1_014
-unfolding allBelow placesAbove
+within-few : (c m : ℕ) → c < 65 → m < 17 → c * slotsAbove m ≤ 1_024 → c * slotsAbove m ≤ 1_014
+unfolding allBelow slotsAbove
 within-few c m some short most =
-    let few : ℕ → ℕ → Bool = (λ k j. not (leb (k * placesAbove j) 1024) || leb (k * placesAbove j) 1014) in
+    let few : ℕ → ℕ → Bool = (λ k j. not (leb (k * slotsAbove j) 1024) || leb (k * slotsAbove j) 1014) in
     ⊎-elim
-    (λ (t : not (leb (c * placesAbove m) 1024) ≡ true). absurd (not-both (le-leb (c * placesAbove m) 1024 most) (not-true (leb (c * placesAbove m) 1024) t)))
-    (λ (t : leb (c * placesAbove m) 1014 ≡ true). leb-true (c * placesAbove m) 1014 t)
-    (or-parts (not (leb (c * placesAbove m) 1024)) (leb (c * placesAbove m) 1014)
+    (λ (t : not (leb (c * slotsAbove m) 1024) ≡ true). absurd (not-both (le-leb (c * slotsAbove m) 1024 most) (not-true (leb (c * slotsAbove m) 1024) t)))
+    (λ (t : leb (c * slotsAbove m) 1014 ≡ true). leb-true (c * slotsAbove m) 1014 t)
+    (or-parts (not (leb (c * slotsAbove m) 1024)) (leb (c * slotsAbove m) 1014)
     (all-at (few c) 17 (all-at (λ k. allBelow (few k) 17) 65 refl c some) m short))
 
 terms-few : (n m owner : ℕ) (rivals : List ℕ) → OwnerFits n m owner → length (aboveTerms n m owner rivals) ≤ 1_024 → length (aboveTerms n m owner rivals) ≤ 1_014
-unfolding membersOf
+unfolding memberCount
 terms-few n m owner rivals fits most =
     let bidders = fits .most-bidders in
     let slots = fits .most-slots in
     let many = terms-many n m owner rivals in
     let members = count-at-most (λ i. inSet rivals (suc i)) n in
-    let few = within-few (membersOf n rivals) m (omega arith) (omega arith) (omega arith) in
+    let few = within-few (memberCount n rivals) m (omega arith) (omega arith) (omega arith) in
     omega arith
 
 -- What the call has written.
@@ -71,7 +71,7 @@ module _ (n m owner : ℕ) (rivals out out′ : List ℕ) (before count : ℕ) (
       (given .buffer ∙ sym (answered-gives (aboveTermsRefusal n m owner rivals out) (conditionsBuffer terms out) out (sym (given .number))))
       many (known .4)
 
-  pub above-many : (2 * count ≡ membersOf n rivals * (m * (m - 1))) × (count ≤ 1_014)
+  pub above-many : (2 * count ≡ memberCount n rivals * (m * (m - 1))) × (count ≤ 1_014)
   above-many =
       let c = many in
       let twice = terms-twice n m owner rivals in
@@ -108,24 +108,24 @@ module _ (n m owner : ℕ) (rivals out : List ℕ) where
     right : numbersWrong n rivals ≡ false
     right = numbered-right n rivals (fit .numbered)
 
-    pub above-twenty-five : 2_048 < membersOf n rivals * (m * (m - 1)) → aboveTermsRefusal n m owner rivals out ≡ 25
+    pub above-twenty-five : 2_048 < memberCount n rivals * (m * (m - 1)) → aboveTermsRefusal n m owner rivals out ≡ 25
     above-twenty-five more =
         let twice = terms-twice n m owner rivals in
         numbers.twenty-five n m owner rivals out (fit .owner-fits) right (fit .not-itself) (omega arith)
 
-    pub above-nineteen : membersOf n rivals * (m * (m - 1)) ≤ 2_048 → length out < 2 * (membersOf n rivals * (m * (m - 1))) →
+    pub above-nineteen : memberCount n rivals * (m * (m - 1)) ≤ 2_048 → length out < 2 * (memberCount n rivals * (m * (m - 1))) →
         aboveTermsRefusal n m owner rivals out ≡ 19
     above-nineteen few short =
         let twice = terms-twice n m owner rivals in
         numbers.nineteen n m owner rivals out (fit .owner-fits) right (fit .not-itself) (omega arith) (omega arith)
 
-    pub above-answered : membersOf n rivals * (m * (m - 1)) ≤ 2_048 → 2 * (membersOf n rivals * (m * (m - 1))) ≤ length out →
+    pub above-answered : memberCount n rivals * (m * (m - 1)) ≤ 2_048 → 2 * (memberCount n rivals * (m * (m - 1))) ≤ length out →
         aboveTermsRefusal n m owner rivals out ≡ 0
     above-answered few room =
         let twice = terms-twice n m owner rivals in
         numbers.answered n m owner rivals out (fit .owner-fits) right (fit .not-itself) (omega arith) (omega arith)
 
-    pub above-enough : membersOf n rivals * (m * (m - 1)) ≤ 2_048 → 4_056 ≤ length out → aboveTermsRefusal n m owner rivals out ≡ 0
+    pub above-enough : memberCount n rivals * (m * (m - 1)) ≤ 2_048 → 4_056 ≤ length out → aboveTermsRefusal n m owner rivals out ≡ 0
     above-enough few room =
         let twice = terms-twice n m owner rivals in
         let most = terms-few n m owner rivals (fit .owner-fits) (omega arith) in

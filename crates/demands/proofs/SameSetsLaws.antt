@@ -9,7 +9,7 @@ use lib.ListN.{length, drop}
 use Rattle.basis.specs.Counting.{countTo}
 use Rattle.basis.specs.First.{_when_otherwise_, orElse}
 use Rattle.basis.proofs.RowLaws.{joined-same}
-use Rattle.bidder_sets.specs.BidderSets.{inSet, membersOf, numbersWrong, rivalsOf}
+use Rattle.bidder_sets.specs.BidderSets.{inSet, memberCount, numbersWrong, rivalsOf}
 use Rattle.bidder_sets.proofs.NumberedLaws.{same-set, same-wrong}
 use Rattle.bidder_sets.proofs.LentLaws.{lent-read}
 use Rattle.share_page.specs.SharePage.{names, ordersOf, putsAbove, someOf, firstOf, canShare, orderWritten, orderBuffer, sizeRefusal, setsRefusal, shareRefusal}
@@ -33,7 +33,7 @@ pub same-members : (n m : ℕ) (members members′ sets out : List ℕ) → ((b 
     (shareRefusal n m members sets out ≡ shareRefusal n m members′ sets out)
     × (canShare n m members sets ≡ canShare n m members′ sets)
     × (orderBuffer n m members sets out ≡ orderBuffer n m members′ sets out)
-unfolding canShare orderBuffer orderWritten membersOf shareRefusal
+unfolding canShare orderBuffer orderWritten memberCount shareRefusal
 same-members n m members members′ sets out same =
     let e = same-set members members′ same in (
       ap₂
@@ -47,7 +47,7 @@ same-members n m members members′ sets out same =
 
 pub same-rivals : (n m : ℕ) (members sets sets′ out : List ℕ) → ((b x : ℕ) → names sets b x ≡ names sets′ b x) →
     (canShare n m members sets ≡ canShare n m members sets′) × (orderBuffer n m members sets out ≡ orderBuffer n m members sets′ out)
-unfolding canShare orderBuffer orderWritten membersOf
+unfolding canShare orderBuffer orderWritten memberCount
 same-rivals n m members sets sets′ out same =
     let e : names sets ≡ names sets′ = fun-ext (λ b. fun-ext (same b)) in (
       ap (λ (r : ℕ → ℕ → Bool). answer n m (inSet members) r) e,

@@ -30,7 +30,7 @@ use Rattle.auction.proofs.PageLaws.{at-zero, placed-at, placed-where}
 use Rattle.auction.proofs.BrokenLaws.{broken-parts, parts-broken, breaks-at, none-breaks}
 use Rattle.slot_terms.specs.SlotTerms.{sizeRefusal}
 use Rattle.slot_terms.proofs.RefusalLaws.{size-four, size-five, size-none}
-use Rattle.bidder_sets.specs.BidderSets.{inSet, membersOf, numbersWrong, setsEnd, rivalsOf}
+use Rattle.bidder_sets.specs.BidderSets.{inSet, memberCount, numbersWrong, setsEnd, rivalsOf}
 use Rattle.bidder_sets.proofs.NumberedLaws.{wrong-at, numbered-right, in-numbered}
 use Rattle.bidder_sets.proofs.LentLaws.{lent-end, exactly-laid}
 use Rattle.above_terms.specs.AboveTerms.{RivalAbove}
@@ -60,34 +60,34 @@ use Rattle.demands.proofs.AboveTermsLaws.{above-written}
 -- What a yes says and writes, where every member is a bidder.
 module _ (n m : ℕ) (members sets : List ℕ) (within : (b : ℕ) → inSet members b ≡ true → (0 < b) × (b ≤ n)) where
   -- an order has each member once
-  order-many : (l : List ℕ) → OrderOf (names sets) (inSet members) l → length l ≡ membersOf n members
-  unfolding membersOf
+  order-many : (l : List ℕ) → OrderOf (names sets) (inSet members) l → length l ≡ memberCount n members
+  unfolding memberCount
   order-many l o = good-many (names sets) n (inSet members) within (inSet members) (λ b h. h) l (order-good (names sets) (inSet members) l o)
 
-  yes-parts : canShare n m members sets ≡ true → (membersOf n members ≤ m) × (someOf (putsAbove (names sets)) (memberOrders n members) ≡ true)
+  yes-parts : canShare n m members sets ≡ true → (memberCount n members ≤ m) × (someOf (putsAbove (names sets)) (memberOrders n members) ≡ true)
   unfolding canShare
   yes-parts t =
-      let both = and-parts (leb (membersOf n members) m) (someOf (putsAbove (names sets)) (memberOrders n members)) t in
-      (leb-true (membersOf n members) m (both .0), both .1)
+      let both = and-parts (leb (memberCount n members) m) (someOf (putsAbove (names sets)) (memberOrders n members)) t in
+      (leb-true (memberCount n members) m (both .0), both .1)
 
   written-first : canShare n m members sets ≡ true → FirstOrder (names sets) (inSet members) (orderWritten n m members sets)
-  unfolding orderWritten membersOf
+  unfolding orderWritten memberCount
   written-first t =
       subst (FirstOrder (names sets) (inSet members)) (sym (ap (λ (s : Bool). cond s (firstOf (putsAbove (names sets)) (memberOrders n members)) []) t))
       (first-order (names sets) n (inSet members) within (yes-parts t .1))
 
-  written-many : canShare n m members sets ≡ true → length (orderWritten n m members sets) ≡ membersOf n members
+  written-many : canShare n m members sets ≡ true → length (orderWritten n m members sets) ≡ memberCount n members
   written-many t = order-many (orderWritten n m members sets) (written-first t .order)
 
-  yes-exactly : Exactly (canShare n m members sets ≡ true) ((membersOf n members ≤ m) × (l : List ℕ) × OrderOf (names sets) (inSet members) l)
-  unfolding canShare membersOf
+  yes-exactly : Exactly (canShare n m members sets ≡ true) ((memberCount n members ≤ m) × (l : List ℕ) × OrderOf (names sets) (inSet members) l)
+  unfolding canShare memberCount
   yes-exactly = (
     (λ t. (yes-parts t .0, orderWritten n m members sets, written-first t .order)),
-    λ (few, l, o). and-holds (le-leb (membersOf n members) m few) (order-some (names sets) n (inSet members) within l o),
+    λ (few, l, o). and-holds (le-leb (memberCount n members) m few) (order-some (names sets) n (inSet members) within l o),
   )
 
 pub can-share : (n m : ℕ) (members sets : List ℕ) → Numbered n members →
-    Exactly (canShare n m members sets ≡ true) ((membersOf n members ≤ m) × (l : List ℕ) × OrderOf (names sets) (inSet members) l)
+    Exactly (canShare n m members sets ≡ true) ((memberCount n members ≤ m) × (l : List ℕ) × OrderOf (names sets) (inSet members) l)
 can-share n m members sets right = yes-exactly n m members sets (in-numbered n members (numbered-right n members right))
 
 -- A no writes nothing.
@@ -136,10 +136,10 @@ module _ (n m : ℕ) (members sets out out′ : List ℕ) (before answer : ℕ) 
   said-no : answer ≡ 0 → yes ≡ false
   said-no e = fails yes (λ t. absurd (let one = yes-said t in omega arith))
 
-  many : answer ≡ 1 → length bytes ≡ membersOf n members
+  many : answer ≡ 1 → length bytes ≡ memberCount n members
   many e = written-many n m members sets within (said-yes e)
 
-  order-there : answer ≡ 1 → take (membersOf n members) out′ ≡ bytes
+  order-there : answer ≡ 1 → take (memberCount n members) out′ ≡ bytes
   order-there e = ap₂ take (sym (many e)) left ∙ take-append-seam bytes (drop (length bytes) out)
 
   pub shared-right : SharedRight n m members sets out out′ answer
@@ -236,7 +236,7 @@ module _ (n m : ℕ) (members sets out out′ : List ℕ) (before : ℕ) (given 
   right = shared-right n m members sets out out′ before 1 given
 
   abbrev order : List ℕ
-  order = take (membersOf n members) out′
+  order = take (memberCount n members) out′
 
   ordered : OrderOf (names sets) (inSet members) order
   ordered = right .first refl .order
@@ -520,22 +520,22 @@ module _ (n m : ℕ) (members sets out : List ℕ) where
         none : setsRefusal n sets ≡ 0
         none = numbers.sets-none n sets ends numbered (λ i l. other (suc i) (omega arith) l)
 
-        yes-many : canShare n m members sets ≡ true → length (orderWritten n m members sets) ≡ membersOf n members
+        yes-many : canShare n m members sets ≡ true → length (orderWritten n m members sets) ≡ memberCount n members
         yes-many = written-many n m members sets (in-numbered n members members-right)
 
-        pub share-nineteen : canShare n m members sets ≡ true → length out < membersOf n members → shareRefusal n m members sets out ≡ 19
+        pub share-nineteen : canShare n m members sets ≡ true → length out < memberCount n members → shareRefusal n m members sets out ≡ 19
         share-nineteen t short =
             let many = yes-many t in
             numbers.nineteen n m members sets out fits members-right none (omega arith)
 
-        pub share-answered : (canShare n m members sets ≡ false) ⊎ (membersOf n members ≤ length out) → shareRefusal n m members sets out ≡ 0
+        pub share-answered : (canShare n m members sets ≡ false) ⊎ (memberCount n members ≤ length out) → shareRefusal n m members sets out ≡ 0
         share-answered enough =
             numbers.answered n m members sets out fits members-right none
             (⊎-elim
             (λ (t : canShare n m members sets ≡ true).
             ⊎-elim
             (λ (f : canShare n m members sets ≡ false). absurd (not-both t f))
-            (λ (l : membersOf n members ≤ length out). let many = yes-many t in omega arith)
+            (λ (l : memberCount n members ≤ length out). let many = yes-many t in omega arith)
             enough)
             (λ (f : canShare n m members sets ≡ false). let nothing = ap length (written-no n m members sets f) in omega arith)
             (holds-or-fails (canShare n m members sets)))
@@ -547,8 +547,8 @@ module _ (n m : ℕ) (members sets out : List ℕ) where
             (⊎-elim
             (λ (t : canShare n m members sets ≡ true).
             let few =
-            leb-true (membersOf n members) m
-            (and-parts (leb (membersOf n members) m) (someOf (putsAbove (names sets)) (ordersOf n (membersOf n members) (inSet members))) t .0) in
+            leb-true (memberCount n members) m
+            (and-parts (leb (memberCount n members) m) (someOf (putsAbove (names sets)) (ordersOf n (memberCount n members) (inSet members))) t .0) in
             inr (omega arith))
             (λ (f : canShare n m members sets ≡ false). inl f)
             (holds-or-fails (canShare n m members sets)))

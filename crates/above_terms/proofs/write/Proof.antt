@@ -13,11 +13,11 @@ use Rattle.sheet.specs.Encoded.{Condition, quads}
 use Rattle.slot_terms.specs.SlotTerms.{OwnerFits}
 use Rattle.slot_terms.proofs.RefusalLaws.{fits-owner}
 use Rattle.bidder_sets.specs.BidderSets.{inSet, numbersWrong}
-use Rattle.bidder_sets.specs.EngineSets.{inWord, Holds, listed}
-use Rattle.bidder_sets.proofs.SetLaws.{listed-few, listed-at, list-front}
+use Rattle.bidder_sets.specs.EngineSets.{inWord, Holds, risingMembers}
+use Rattle.bidder_sets.proofs.SetLaws.{members-few, members-at, list-front}
 use Rattle.above_terms.specs.AboveTerms.{aboveTerms}
 use Rattle.above_terms.specs.EngineAbove.{allPairs}
-use Rattle.above_terms.proofs.AboveLaws.{places-most, all-pairs-many, set-pairs}
+use Rattle.above_terms.proofs.AboveLaws.{slots-most, all-pairs-many, set-pairs}
 use Rattle.above_terms.proofs.WriteLaws.{owner-refused, numbers-refused, own-refused, too-many, buffer-short, terms-written}
 use Rattle.above_terms.proofs.write.Statement.{statement}
 use Rattle.above_terms.proofs.write.Tie as tie
@@ -62,7 +62,7 @@ abbrev word : tie.After-list → ℕ
 word c = set-read c .before .read .result .bidders .0
 
 abbrev others : tie.After-list → List ℕ
-others c = listed (inWord (word c)) (begun c .args .n)
+others c = risingMembers (inWord (word c)) (begun c .args .n)
 
 abbrev taken : tie.After-list → List ℕ
 taken c = take (c .list .result) (c .list .last .1 .1 .0)
@@ -71,7 +71,7 @@ fits : (c : tie.After-list) → OwnerFits (begun c .args .n) (begun c .args .m) 
 fits c = known (set-read c .before .before)
 
 few : (c : tie.After-list) → length (others c) ≤ 64
-few c = let most = listed-few (inWord (word c)) (begun c .args .n) in let bidders = fits c .most-bidders in omega arith
+few c = let most = members-few (inWord (word c)) (begun c .args .n) in let bidders = fits c .most-bidders in omega arith
 
 front : (c : tie.After-list) → taken c ≡ others c
 front c =
@@ -89,16 +89,16 @@ pairs c =
     (λ j l. (let few = fits c .most-bidders in held (set-read c) (suc j) (omega arith) (omega arith)))
 
 -- and their number is known before
-counted : (c : tie.After-places-above) →
-    length (taken (c .before .before)) * c .places-above .result
+counted : (c : tie.After-slots-above) →
+    length (taken (c .before .before)) * c .slots-above .result
     ≡ length (allPairs (begun (c .before .before) .args .owner) (taken (c .before .before)) (begun (c .before .before) .args .m))
 counted c =
     let listing = c .before .before in
     let a = begun listing .args in
-    ap (λ (k : ℕ). length (taken listing) * k) (c .places-above .ensures) ∙ sym (all-pairs-many (a .owner) (taken listing) (a .m))
+    ap (λ (k : ℕ). length (taken listing) * k) (c .slots-above .ensures) ∙ sym (all-pairs-many (a .owner) (taken listing) (a .m))
 
-many : (c : tie.After-places-above) →
-    length (taken (c .before .before)) * c .places-above .result
+many : (c : tie.After-slots-above) →
+    length (taken (c .before .before)) * c .slots-above .result
     ≡ length (aboveTerms (begun (c .before .before) .args .n) (begun (c .before .before) .args .m) (begun (c .before .before) .args .owner)
     (begun (c .before .before) .args .rivals .now))
 many c = counted c ∙ ap length (pairs (c .before .before))
@@ -166,18 +166,18 @@ array-share-prefix-space c =
 slice-aggregate-others : tie.Need-slice-aggregate-others
 slice-aggregate-others c = c .before .list .ensures .0 ∙ sym (ap length (front (c .before)))
 
-places-above-requires : tie.Need-places-above-requires
-places-above-requires c κs = let is = fits (c .before) in (is .some-slots, is .most-slots)
+slots-above-requires : tie.Need-slots-above-requires
+slots-above-requires c κs = let is = fits (c .before) in (is .some-slots, is .most-slots)
 
 mul-pairs : tie.Need-mul-pairs
 mul-pairs c =
     let listing = c .before .before in
     let slots = fits listing .most-slots in
-    let places = places-most (begun listing .args .m) (omega arith) in
-    let each = c .places-above .ensures in
+    let places = slots-most (begun listing .args .m) (omega arith) in
+    let each = c .slots-above .ensures in
     let same = ap length (front listing) in
     let most = few listing in
-    let product = mul-le-mul {n₁ = length (taken listing)} {m₁ = c .places-above .result} {n₂ = 64} {m₂ = 120} (omega arith) (omega arith) in
+    let product = mul-le-mul {n₁ = length (taken listing)} {m₁ = c .slots-above .result} {n₂ = 64} {m₂ = 120} (omega arith) (omega arith) in
     omega arith
 
 refused-requires-4 : tie.Need-refused-requires-4
@@ -218,7 +218,7 @@ put-all-requires c κs =
       omega arith,
       is .most-slots,
       subst (λ (l : List ℕ). (j : ℕ) → j < length l → getD l j 0 ≤ 64) (sym (front listing))
-          (λ j l. let member = listed-at (inWord (word listing)) (begun listing .args .n) j l .1 in omega arith),
+          (λ j l. let member = members-at (inWord (word listing)) (begun listing .args .n) j l .1 in omega arith),
       (let size = counted counting in let room = c .before .if5 .left in omega arith),
     )
 
@@ -257,7 +257,7 @@ write-spec =
     list-requires
     array-share-prefix-space
     slice-aggregate-others
-    places-above-requires
+    slots-above-requires
     mul-pairs
     refused-requires-4
     returns-4
