@@ -1,7 +1,7 @@
 -- Request S-2's sharing: what the answer says of orders, and what it says of the pages of a round whose lists all come from the profile. Assumes nothing.
-use Prim.Native.Nat.{ℕ, zero, suc, _+_, _-_, _<_, _≤_}
+use Prim.Native.Nat.{ℕ, zero, suc, _+_, _<_, _≤_}
 use borrow.Author.Tests.{eq-eqb, eqb-true, le-leb, leb-true}
-use mathlib.Core.Bool.{Bool, true, false, cond, _&&_}
+use mathlib.Core.Bool.{Bool, true, false, cond}
 use mathlib.Core.List.{List, [], _∷_, _++_}
 use mathlib.Core.Logic.{_⊎_, inl, inr, ⊎-elim}
 use mathlib.Core.Path.{_≡_, refl, sym, _∙_, ap, ap₂, subst}
@@ -9,7 +9,6 @@ use native.Mathlib.Omega.{arith}
 use lib.Dec.{leb}
 use lib.ListN.{length, getD, take, drop, List·getD-eq-default}
 use lib.Seq.{take-append-seam, drop-append-seam}
-use Rattle.basis.specs.Counting.{countTo}
 use Rattle.basis.specs.Rows.{row}
 use Rattle.basis.proofs.FirstLaws.{answered-gives}
 use Rattle.basis.proofs.NumberLaws.{below-or-not, same-or-not}
@@ -32,8 +31,8 @@ use Rattle.auction.proofs.BrokenLaws.{broken-parts, parts-broken, breaks-at, no
 use Rattle.slot_terms.specs.SlotTerms.{sizeRefusal}
 use Rattle.slot_terms.proofs.RefusalLaws.{size-four, size-five, size-none}
 use Rattle.bidder_sets.specs.BidderSets.{inSet, membersOf, numbersWrong, setsEnd, rivalsOf}
-use Rattle.bidder_sets.proofs.NumberedLaws.{wrong-at, numbered-right, in-numbered, same-set}
-use Rattle.bidder_sets.proofs.LentLaws.{lent-read, lent-end, exactly-laid}
+use Rattle.bidder_sets.proofs.NumberedLaws.{wrong-at, numbered-right, in-numbered}
+use Rattle.bidder_sets.proofs.LentLaws.{lent-end, exactly-laid}
 use Rattle.above_terms.specs.AboveTerms.{RivalAbove}
 use Rattle.share_page.specs.SharePage.{
   names,
@@ -42,6 +41,7 @@ use Rattle.share_page.specs.SharePage.{
   putsAbove,
   someOf,
   firstOf,
+  memberOrders,
   canShare,
   orderWritten,
   orderBuffer,
@@ -50,37 +50,70 @@ use Rattle.share_page.specs.SharePage.{
   OrderOf,
   FirstOrder,
 }
-use Rattle.share_page.proofs.GoodLaws.{without-parts, Good, order-good}
-use Rattle.share_page.proofs.SharingLaws.{first-order, good-some, order-some, good-many}
+use Rattle.share_page.proofs.GoodLaws.{without-parts, Good, order-good, good-order}
+use Rattle.share_page.proofs.SharingLaws.{first-order, order-some, good-many}
 use Rattle.share_page.proofs.RefusalLaws as numbers
 use Rattle.pas.specs.Calls.{yesNumber, AboveTermsGiven, SharePageGiven}
-use Rattle.demands.specs.Demands.{Numbered, Lent, SharedRight, AllNamed, HasAll, HasJust, ListSent}
+use Rattle.demands.specs.Demands.{Exactly, Numbered, Lent, SharedRight, AllFromProfile, HasAll, HasJust, ListSent}
 use Rattle.demands.proofs.AboveTermsLaws.{above-written}
+
+-- What a yes says and writes, where every member is a bidder.
+module _ (n m : ℕ) (members sets : List ℕ) (within : (b : ℕ) → inSet members b ≡ true → (0 < b) × (b ≤ n)) where
+  -- an order has each member once
+  order-many : (l : List ℕ) → OrderOf (names sets) (inSet members) l → length l ≡ membersOf n members
+  unfolding membersOf
+  order-many l o = good-many (names sets) n (inSet members) within (inSet members) (λ b h. h) l (order-good (names sets) (inSet members) l o)
+
+  yes-parts : canShare n m members sets ≡ true → (membersOf n members ≤ m) × (someOf (putsAbove (names sets)) (memberOrders n members) ≡ true)
+  unfolding canShare
+  yes-parts t =
+      let both = and-parts (leb (membersOf n members) m) (someOf (putsAbove (names sets)) (memberOrders n members)) t in
+      (leb-true (membersOf n members) m (both .0), both .1)
+
+  written-first : canShare n m members sets ≡ true → FirstOrder (names sets) (inSet members) (orderWritten n m members sets)
+  unfolding orderWritten membersOf
+  written-first t =
+      subst (FirstOrder (names sets) (inSet members)) (sym (ap (λ (s : Bool). cond s (firstOf (putsAbove (names sets)) (memberOrders n members)) []) t))
+      (first-order (names sets) n (inSet members) within (yes-parts t .1))
+
+  written-many : canShare n m members sets ≡ true → length (orderWritten n m members sets) ≡ membersOf n members
+  written-many t = order-many (orderWritten n m members sets) (written-first t .order)
+
+  yes-exactly : Exactly (canShare n m members sets ≡ true) ((membersOf n members ≤ m) × (l : List ℕ) × OrderOf (names sets) (inSet members) l)
+  unfolding canShare membersOf
+  yes-exactly = (
+    (λ t. (yes-parts t .0, orderWritten n m members sets, written-first t .order)),
+    λ (few, l, o). and-holds (le-leb (membersOf n members) m few) (order-some (names sets) n (inSet members) within l o),
+  )
+
+pub can-share : (n m : ℕ) (members sets : List ℕ) → Numbered n members →
+    Exactly (canShare n m members sets ≡ true) ((membersOf n members ≤ m) × (l : List ℕ) × OrderOf (names sets) (inSet members) l)
+can-share n m members sets right = yes-exactly n m members sets (in-numbered n members (numbered-right n members right))
+
+-- A no writes nothing.
+written-no : (n m : ℕ) (members sets : List ℕ) → canShare n m members sets ≡ false → orderWritten n m members sets ≡ []
+unfolding orderWritten
+written-no n m members sets t = ap (λ (s : Bool). cond s (firstOf (putsAbove (names sets)) (memberOrders n members)) []) t
 
 -- What is known of a call that is not refused.
 module _ (n m : ℕ) (members sets out out′ : List ℕ) (before answer : ℕ) (given : SharePageGiven n m members sets out before 0 out′ answer) where
-  abbrev member : ℕ → Bool
-  member = inSet members
-
   abbrev yes : Bool
   yes = canShare n m members sets
 
-  abbrev best : List ℕ
-  best = firstOf (putsAbove (names sets)) (ordersOf n (membersOf n members) member)
+  abbrev bytes : List ℕ
+  bytes = orderWritten n m members sets
 
-  abbrev some-passes : Bool
-  some-passes = someOf (putsAbove (names sets)) (ordersOf n (membersOf n members) member)
-
-  known : (sizeRefusal n m ≡ 0) × (numbersWrong n members ≡ false) × (setsRefusal n sets ≡ 0) × (length (orderWritten n m members sets) ≤ length out)
+  known : (sizeRefusal n m ≡ 0) × (numbersWrong n members ≡ false) × (setsRefusal n sets ≡ 0) × (length bytes ≤ length out)
   known = numbers.passed-all n m members sets out (sym (given .number))
 
-  within : (b : ℕ) → member b ≡ true → (0 < b) × (b ≤ n)
+  within : (b : ℕ) → inSet members b ≡ true → (0 < b) × (b ≤ n)
   within = in-numbered n members (known .1)
 
   said : answer ≡ yesNumber yes
   said = given .written ∙ sym (answered-gives (shareRefusal n m members sets out) (yesNumber yes) before (sym (given .number)))
 
-  left : out′ ≡ orderBuffer n m members sets out
+  left : out′ ≡ bytes ++ drop (length bytes) out
+  unfolding orderBuffer
   left = given .buffer ∙ sym (answered-gives (shareRefusal n m members sets out) (orderBuffer n m members sets out) out (sym (given .number)))
 
   -- 1 is a yes and 0 a no
@@ -103,62 +136,23 @@ module _ (n m : ℕ) (members sets out out′ : List ℕ) (before answer : ℕ) 
   said-no : answer ≡ 0 → yes ≡ false
   said-no e = fails yes (λ t. absurd (let one = yes-said t in omega arith))
 
-  -- what a yes says
-  parts : yes ≡ true → (membersOf n members ≤ m) × (some-passes ≡ true)
-  unfolding canShare
-  parts t = let both = and-parts (leb (membersOf n members) m) some-passes t in (leb-true (membersOf n members) m (both .0), both .1)
+  many : answer ≡ 1 → length bytes ≡ membersOf n members
+  many e = written-many n m members sets within (said-yes e)
 
-  can : membersOf n members ≤ m → some-passes ≡ true → yes ≡ true
-  unfolding canShare
-  can few t = and-holds (le-leb (membersOf n members) m few) t
-
-  first-right : yes ≡ true → FirstOrder (names sets) member best
-  unfolding membersOf
-  first-right t = first-order (names sets) n member within (parts t .1)
-
-  as-many : yes ≡ true → length best ≡ membersOf n members
-  unfolding membersOf
-  as-many t = good-many (names sets) n member within member (λ b h. h) best (order-good (names sets) member best (first-right t .order))
-
-  written-yes : yes ≡ true → orderWritten n m members sets ≡ best
-  unfolding orderWritten
-  written-yes t = ap (λ (s : Bool). cond s best []) t
-
-  written-no : yes ≡ false → orderWritten n m members sets ≡ []
-  unfolding orderWritten
-  written-no t = ap (λ (s : Bool). cond s best []) t
-
-  buffer-yes : yes ≡ true → out′ ≡ best ++ drop (length best) out
-  unfolding orderBuffer
-  buffer-yes t = left ∙ ap (λ (l : List ℕ). l ++ drop (length l) out) (written-yes t)
-
-  buffer-no : yes ≡ false → out′ ≡ out
-  unfolding orderBuffer
-  buffer-no t = left ∙ ap (λ (l : List ℕ). l ++ drop (length l) out) (written-no t)
-
-  order-there : yes ≡ true → take (membersOf n members) out′ ≡ best
-  order-there t = ap₂ take (sym (as-many t)) (buffer-yes t) ∙ take-append-seam best (drop (length best) out)
+  order-there : answer ≡ 1 → take (membersOf n members) out′ ≡ bytes
+  order-there e = ap₂ take (sym (many e)) left ∙ take-append-seam bytes (drop (length bytes) out)
 
   pub shared-right : SharedRight n m members sets out out′ answer
-  unfolding membersOf
   shared-right =
+      let exactly = yes-exactly n m members sets within in
       record {
         yes-or-no = ⊎-elim (λ (t : yes ≡ true). inl (yes-said t)) (λ (t : yes ≡ false). inr (no-said t)) (holds-or-fails yes);
-        yes = (
-          (λ e. (parts (said-yes e) .0, best, first-right (said-yes e) .order)),
-          λ (few, l, o). yes-said (can few (order-some (names sets) n member within l o)),
-        );
-        first = λ e. subst (FirstOrder (names sets) member) (sym (order-there (said-yes e))) (first-right (said-yes e));
-        room = λ e.
-            let t = said-yes e in
-            let size = ap length (written-yes t) in
-            let many = as-many t in
-            let enough = known .3 in
-            omega arith;
+        yes = ((λ e. exactly .0 (said-yes e)), λ o. yes-said (exactly .1 o));
+        first = λ e. subst (FirstOrder (names sets) (inSet members)) (sym (order-there e)) (written-first n m members sets within (said-yes e));
+        room = λ e. (let size = many e in let enough = known .3 in omega arith);
         later = λ e.
-            let t = said-yes e in
-            ap₂ drop (sym (as-many t)) (buffer-yes t) ∙ drop-append-seam best (drop (length best) out) ∙ ap (λ (k : ℕ). drop k out) (as-many t);
-        nothing = λ e. buffer-no (said-no e);
+            ap₂ drop (sym (many e)) left ∙ drop-append-seam bytes (drop (length bytes) out) ∙ ap (λ (k : ℕ). drop k out) (many e);
+        nothing = λ e. left ∙ ap (λ (l : List ℕ). l ++ drop (length l) out) (written-no n m members sets (said-no e));
       }
 
 -- A condition that is a pair is broken exactly where both stand at their places.
@@ -181,7 +175,7 @@ pair-there p owner (suc own) (suc other) others a c b e e′ =
     (eq-eqb (at p (suc own)) owner e) (eq-eqb (at p others) (suc other) e′) (placed-at p owner (suc own) a c e)
 
 -- On a round whose lists all come from the profile.
-module _ (s sets : List ℕ) (ok : Accepted s) (all : AllNamed s sets) where
+module _ (s sets : List ℕ) (ok : Accepted s) (all : AllFromProfile s sets) where
   counts : (bidderCount s ≤ 64) × (slotCount s ≤ 16)
   counts = let c = accepted-sheet s ok .counts in (c .most-bidders, c .most-slots)
 
@@ -237,7 +231,7 @@ module _ (s sets : List ℕ) (ok : Accepted s) (all : AllNamed s sets) where
 
 -- The members of a yes on the first places.
 module _ (n m : ℕ) (members sets out out′ : List ℕ) (before : ℕ) (given : SharePageGiven n m members sets out before 0 out′ 1)
-    (s : List ℕ) (ok : Accepted s) (bidders : bidderCount s ≡ n) (slots : slotCount s ≡ m) (all : AllNamed s sets) where
+    (s : List ℕ) (ok : Accepted s) (bidders : bidderCount s ≡ n) (slots : slotCount s ≡ m) (all : AllFromProfile s sets) where
   right : SharedRight n m members sets out out′ 1
   right = shared-right n m members sets out out′ before 1 given
 
@@ -252,9 +246,7 @@ module _ (n m : ℕ) (members sets out out′ : List ℕ) (before : ℕ) (given 
 
   few : length order ≤ m
   few =
-      let t = said-yes n m members sets out out′ before 1 given refl in
-      let same = ap length (order-there n m members sets out out′ before 1 given t) in
-      let many = as-many n m members sets out out′ before 1 given t in
+      let size = order-many n m members sets is-member order ordered in
       let most = right .yes .0 refl .0 in
       omega arith
 
@@ -356,7 +348,7 @@ module _ (n m : ℕ) (members sets out out′ : List ℕ) (before : ℕ) (given 
 -- A page that has all the members and breaks nothing.
 module _ (n m : ℕ) (members sets : List ℕ) (within : (b : ℕ) → inSet members b ≡ true → (0 < b) × (b ≤ n))
     (other : (i : ℕ) → i < n → names sets (suc i) (suc i) ≡ false)
-    (s : List ℕ) (ok : Accepted s) (bidders : bidderCount s ≡ n) (slots : slotCount s ≡ m) (all : AllNamed s sets)
+    (s : List ℕ) (ok : Accepted s) (bidders : bidderCount s ≡ n) (slots : slotCount s ≡ m) (all : AllFromProfile s sets)
     (p : Page) (none : breaks (roundOf s) p ≡ false) where
   -- those of a set that stand on slots k + 1 to k + c, from the top
   standing : (ℕ → Bool) → ℕ → ℕ → List ℕ
@@ -432,8 +424,7 @@ module _ (n m : ℕ) (members sets : List ℕ) (within : (b : ℕ) → inSet mem
           (rest .0, (let long = rest .1 in omega arith))
 
   -- so they could share one
-  pub standing-share : PageOf (roundOf s) p → HasAll p members → canShare n m members sets ≡ true
-  unfolding canShare membersOf
+  standing-share : PageOf (roundOf s) p → HasAll p members → canShare n m members sets ≡ true
   standing-share page has =
       let good =
       standing-good m 0 (inSet members)
@@ -449,14 +440,15 @@ module _ (n m : ℕ) (members sets : List ℕ) (within : (b : ℕ) → inSet mem
       let first = w .1 in
       (t, (w .0, first, omega arith, here)))
       (omega arith) in
-      let many = good-many (names sets) n (inSet members) within (inSet members) (λ b h. h) (standing (inSet members) 0 m) (good .0) in
-      let long = good .1 in
-      and-holds (le-leb (membersOf n members) m (omega arith))
-      (good-some (names sets) n (inSet members) within (standing (inSet members) 0 m) (good .0))
+      let order = standing (inSet members) 0 m in
+      let ordered = good-order (names sets) (inSet members) order (good .0) in
+      let size = order-many n m members sets within order ordered in
+      let short = good .1 in
+      yes-exactly n m members sets within .1 (omega arith, order, ordered)
 
 -- No page has the members of a no.
 pub no-page : (n m : ℕ) (members sets out out′ : List ℕ) (before : ℕ) → SharePageGiven n m members sets out before 0 out′ 0 →
-    (s : List ℕ) → Accepted s → bidderCount s ≡ n → slotCount s ≡ m → AllNamed s sets →
+    (s : List ℕ) → Accepted s → bidderCount s ≡ n → slotCount s ≡ m → AllFromProfile s sets →
     (p : Page) → PageOf (roundOf s) p → breaks (roundOf s) p ≡ false → HasAll p members → ⊥
 no-page n m members sets out out′ before given s ok bidders slots all p page none has =
     let facts = known n m members sets out out′ before 0 given in
@@ -467,7 +459,7 @@ no-page n m members sets out out′ before given s ok bidders slots all p page n
 -- Lists written by the profile's call with the rival sets are such lists.
 pub all-written : (n m : ℕ) (s sets : List ℕ) → Accepted s → bidderCount s ≡ n → slotCount s ≡ m →
     ((i : ℕ) → 0 < i → i ≤ n → (out out′ : List ℕ) × (before count : ℕ) × AboveTermsGiven n m i (rivalsOf sets i) out before 0 out′ count × ListSent s i out′ count) →
-    AllNamed s sets
+    AllFromProfile s sets
 unfolding conditionField
 all-written n m s sets ok bidders slots given =
     record {
@@ -484,22 +476,6 @@ all-written n m s sets ok bidders slots given =
           subst (λ (k′ : ℕ). RivalAbove k′ (rivalsOf sets i) (conditionField s k)) (sym slots)
           (list .conditions (conditionField s k) .0 (w .5 .no-other k l refl) .1);
     }
-
--- Sets lent one after another are read as they were lent.
-pub read-lent : (n : ℕ) (sets : List ℕ) (set : ℕ → List ℕ) → Lent n sets set → (i : ℕ) → 0 < i → i ≤ n → rivalsOf sets i ≡ set i
-read-lent n sets set lent zero some most = absurd (omega arith)
-read-lent n sets set lent (suc i) some most = ap (λ (x : List ℕ). rivalsOf x (suc i)) lent ∙ lent-read set n i most
-
--- Lists with the same members.
-pub same-members : (n m : ℕ) (members members′ sets out : List ℕ) → ((b : ℕ) → inSet members b ≡ inSet members′ b) →
-    (canShare n m members sets ≡ canShare n m members′ sets) × (orderBuffer n m members sets out ≡ orderBuffer n m members′ sets out)
-unfolding canShare orderBuffer orderWritten membersOf
-same-members n m members members′ sets out same =
-    let e = same-set members members′ same in
-    let orders : (ℕ → Bool) → List (List ℕ) = (λ f. ordersOf n (countTo (λ i. f (suc i)) n) f) in
-    let asked : (ℕ → Bool) → Bool = (λ f. leb (countTo (λ i. f (suc i)) n) m && someOf (putsAbove (names sets)) (orders f)) in
-    let bytes : (ℕ → Bool) → List ℕ = (λ f. cond (asked f) (firstOf (putsAbove (names sets)) (orders f)) []) in
-    (ap asked e, ap (λ (f : ℕ → Bool). bytes f ++ drop (length (bytes f)) out) e)
 
 -- The call's numbers.
 module _ (n m : ℕ) (members sets out : List ℕ) where
@@ -526,6 +502,9 @@ module _ (n m : ℕ) (members sets out : List ℕ) where
         numbers.sets-twenty-three n m members sets out fits (numbers.sets-wrong n sets i last (wrong-at n (rivalsOf sets (suc i)) k l bad))
 
     module _ (right : Numbered n members) (lent : Lent n sets (rivalsOf sets)) (each : (i : ℕ) → 0 < i → i ≤ n → Numbered n (rivalsOf sets i)) where
+      members-right : numbersWrong n members ≡ false
+      members-right = numbered-right n members right
+
       ends : setsEnd sets n ≡ length sets
       ends = ap (λ (x : List ℕ). setsEnd x n) lent ∙ lent-end (rivalsOf sets) n ∙ ap length (sym lent)
 
@@ -535,43 +514,41 @@ module _ (n m : ℕ) (members sets out : List ℕ) where
       pub share-twenty-four : (i : ℕ) → 0 < i → i ≤ n → names sets i i ≡ true → shareRefusal n m members sets out ≡ 24
       share-twenty-four zero first last own = absurd (omega arith)
       share-twenty-four (suc i) first last own =
-          numbers.sets-first n m members sets out fits 23 (numbered-right n members right) (numbers.sets-own n sets ends numbered i last own)
+          numbers.sets-first n m members sets out fits 23 members-right (numbers.sets-own n sets ends numbered i last own)
 
       module _ (other : (i : ℕ) → 0 < i → i ≤ n → names sets i i ≡ false) where
         none : setsRefusal n sets ≡ 0
         none = numbers.sets-none n sets ends numbered (λ i l. other (suc i) (omega arith) l)
 
-        within-n : (b : ℕ) → inSet members b ≡ true → (0 < b) × (b ≤ n)
-        within-n = in-numbered n members (numbered-right n members right)
-
-        -- a yes has a byte for each member
         yes-many : canShare n m members sets ≡ true → length (orderWritten n m members sets) ≡ membersOf n members
-        unfolding orderWritten canShare membersOf
-        yes-many t =
-            let best = firstOf (putsAbove (names sets)) (ordersOf n (membersOf n members) (inSet members)) in
-            let first =
-            first-order (names sets) n (inSet members) within-n
-            (and-parts (leb (membersOf n members) m) (someOf (putsAbove (names sets)) (ordersOf n (membersOf n members) (inSet members))) t .1) in
-            ap (λ (s : Bool). length (cond s best [])) t
-            ∙ good-many (names sets) n (inSet members) within-n (inSet members) (λ b h. h) best (order-good (names sets) (inSet members) best (first .order))
-
-        no-bytes : canShare n m members sets ≡ false → length (orderWritten n m members sets) ≡ 0
-        unfolding orderWritten
-        no-bytes t = ap (λ (s : Bool). length (cond s (firstOf (putsAbove (names sets)) (ordersOf n (membersOf n members) (inSet members))) [])) t
+        yes-many = written-many n m members sets (in-numbered n members members-right)
 
         pub share-nineteen : canShare n m members sets ≡ true → length out < membersOf n members → shareRefusal n m members sets out ≡ 19
         share-nineteen t short =
             let many = yes-many t in
-            numbers.nineteen n m members sets out fits (numbered-right n members right) none (omega arith)
+            numbers.nineteen n m members sets out fits members-right none (omega arith)
 
         pub share-answered : (canShare n m members sets ≡ false) ⊎ (membersOf n members ≤ length out) → shareRefusal n m members sets out ≡ 0
         share-answered enough =
-            numbers.answered n m members sets out fits (numbered-right n members right) none
+            numbers.answered n m members sets out fits members-right none
             (⊎-elim
             (λ (t : canShare n m members sets ≡ true).
             ⊎-elim
             (λ (f : canShare n m members sets ≡ false). absurd (not-both t f))
             (λ (l : membersOf n members ≤ length out). let many = yes-many t in omega arith)
             enough)
-            (λ (f : canShare n m members sets ≡ false). let many = no-bytes f in omega arith)
+            (λ (f : canShare n m members sets ≡ false). let nothing = ap length (written-no n m members sets f) in omega arith)
+            (holds-or-fails (canShare n m members sets)))
+
+        pub share-enough : m ≤ length out → shareRefusal n m members sets out ≡ 0
+        unfolding canShare
+        share-enough room =
+            share-answered
+            (⊎-elim
+            (λ (t : canShare n m members sets ≡ true).
+            let few =
+            leb-true (membersOf n members) m
+            (and-parts (leb (membersOf n members) m) (someOf (putsAbove (names sets)) (ordersOf n (membersOf n members) (inSet members))) t .0) in
+            inr (omega arith))
+            (λ (f : canShare n m members sets ≡ false). inl f)
             (holds-or-fails (canShare n m members sets)))

@@ -25,7 +25,7 @@ module _ (f : ℕ → Bool) (b : ℕ) where
       kept true y e = ap not e
       kept false y e = refl
 
-  pub without-same : without f b b ≡ false
+  without-same : without f b b ≡ false
   without-same = fails (without f b b) (λ t. not-both (eq-eqb b b refl) (not-true (eqb b b) (and-parts (f b) (not (eqb b b)) t .1)))
 
   pub without-parts : (i : ℕ) → without f b i ≡ true → (f i ≡ true) × (i ≡ b → ⊥)
@@ -33,7 +33,7 @@ module _ (f : ℕ → Bool) (b : ℕ) where
       let parts = and-parts (f i) (not (eqb i b)) t in
       (parts .0, λ e. not-both (eq-eqb i b e) (not-true (eqb i b) (parts .1)))
 
-  pub without-holds : (i : ℕ) → f i ≡ true → (i ≡ b → ⊥) → without f b i ≡ true
+  without-holds : (i : ℕ) → f i ≡ true → (i ≡ b → ⊥) → without f b i ≡ true
   without-holds i t d = and-holds t (not-holds (ne-eqb i b d))
 
 -- counts one less
@@ -80,12 +80,43 @@ without-swap f x y = fun-ext (λ b. swap (f b) (not (eqb b x)) (not (eqb b y)))
     swap true false false = refl
     swap false q s = refl
 
--- an order of a set, head first
+-- An order of a set, head first,
 abbrev pub Ordered : (ℕ → Bool) → List ℕ → Type 0
 Ordered f [] = (b : ℕ) → f b ≡ false
 Ordered f (x ∷ l) = (f x ≡ true) × Ordered (without f x) l
 
+-- and by index: what stands in it is of the set, and each of the set stands in it, once
+ordered-members : (f : ℕ → Bool) (l : List ℕ) → Ordered f l → (k : ℕ) → k < length l → f (getD l k 0) ≡ true
+ordered-members f [] o k h = absurd (not-suc-le-zero h)
+ordered-members f (x ∷ l) o zero h = o .0
+ordered-members f (x ∷ l) o (suc k) h = without-parts f x (getD l k 0) (ordered-members (without f x) l (o .1) k (omega arith)) .0
+
+ordered-all : (f : ℕ → Bool) (l : List ℕ) → Ordered f l → (b : ℕ) → f b ≡ true → (k : ℕ) × (k < length l) × (getD l k 0 ≡ b)
+ordered-all f [] o b t = absurd (not-both t (o b))
+ordered-all f (x ∷ l) o b t =
+    ⊎-elim
+    (λ (e : b ≡ x). (0, omega arith, sym e))
+    (λ (d : b ≡ x → ⊥). let w = ordered-all (without f x) l (o .1) b (without-holds f x b t d) in (suc (w .0), (let h = w .1 in omega arith), w .2))
+    (same-or-not b x)
+
+away : (f : ℕ → Bool) (x : ℕ) (l : List ℕ) → Ordered f (x ∷ l) → (k : ℕ) → k < length l → x ≡ getD l k 0 → ⊥
+away f x l o k h e = without-parts f x (getD l k 0) (ordered-members (without f x) l (o .1) k h) .1 (sym e)
+
+ordered-once : (f : ℕ → Bool) (l : List ℕ) → Ordered f l → (j k : ℕ) → j < length l → k < length l → getD l j 0 ≡ getD l k 0 → j ≡ k
+ordered-once f [] o j k h h′ e = absurd (not-suc-le-zero h)
+ordered-once f (x ∷ l) o zero zero h h′ e = refl
+ordered-once f (x ∷ l) o zero (suc k) h h′ e = absurd (away f x l o k (omega arith) e)
+ordered-once f (x ∷ l) o (suc j) zero h h′ e = absurd (away f x l o j (omega arith) (sym e))
+ordered-once f (x ∷ l) o (suc j) (suc k) h h′ e = ap suc (ordered-once (without f x) l (o .1) j k (omega arith) (omega arith) e)
+
 module _ (named : ℕ → ℕ → Bool) where
+  -- each above every rival of its own, by index
+  abbrev pub Above : List ℕ → Type 0
+  Above l = (j k : ℕ) → j < length l → k < length l → named (getD l j 0) (getD l k 0) ≡ true → j < k
+
+  pub ordered-order : (f : ℕ → Bool) (l : List ℕ) → Ordered f l → Above l → OrderOf named f l
+  ordered-order f l o a = record { members = ordered-members f l o; all = ordered-all f l o; once = ordered-once f l o; above = a }
+
   -- no member names x
   abbrev pub Free : (ℕ → Bool) → ℕ → Type 0
   Free f x = (j : ℕ) → f j ≡ true → named j x ≡ false
@@ -122,45 +153,18 @@ module _ (named : ℕ → ℕ → Bool) where
       found : (b : ℕ) → (b ≡ x → ⊥) → (k : ℕ) × (k < length (x ∷ l)) × (getD (x ∷ l) k 0 ≡ b) → (k : ℕ) × (k < length l) × (getD l k 0 ≡ b)
       found b d w = after b d (w .0) (w .1) (w .2)
 
-  -- a member that no member names, before an order of the others
-  module _ (f : ℕ → Bool) (x : ℕ) (l : List ℕ) (here : f x ≡ true) (first : Free f x) (o : OrderOf named (without f x) l) where
-    cons-members : (k : ℕ) → k < length (x ∷ l) → f (getD (x ∷ l) k 0) ≡ true
-    cons-members zero h = here
-    cons-members (suc k) h = without-parts f x (getD l k 0) (o .members k (omega arith)) .0
+  good-ordered : (f : ℕ → Bool) (l : List ℕ) → Good f l → Ordered f l
+  good-ordered f [] g = g
+  good-ordered f (x ∷ l) g = (g .0, good-ordered (without f x) l (g .2))
 
-    cons-all : (b : ℕ) → f b ≡ true → (k : ℕ) × (k < length (x ∷ l)) × (getD (x ∷ l) k 0 ≡ b)
-    cons-all b t =
-        ⊎-elim
-        (λ (e : b ≡ x). (0, omega arith, sym e))
-        (λ (d : b ≡ x → ⊥). let w = o .all b (without-holds f x b t d) in (suc (w .0), (let h = w .1 in omega arith), w .2))
-        (same-or-not b x)
-
-    away : (k : ℕ) → k < length l → x ≡ getD l k 0 → ⊥
-    away k h e = without-parts f x (getD l k 0) (o .members k h) .1 (sym e)
-
-    cons-once : (j k : ℕ) → j < length (x ∷ l) → k < length (x ∷ l) → getD (x ∷ l) j 0 ≡ getD (x ∷ l) k 0 → j ≡ k
-    cons-once zero zero h h′ e = refl
-    cons-once zero (suc k) h h′ e = absurd (away k (omega arith) e)
-    cons-once (suc j) zero h h′ e = absurd (away j (omega arith) (sym e))
-    cons-once (suc j) (suc k) h h′ e = ap suc (o .once j k (omega arith) (omega arith) e)
-
-    cons-above : (j k : ℕ) → j < length (x ∷ l) → k < length (x ∷ l) → named (getD (x ∷ l) j 0) (getD (x ∷ l) k 0) ≡ true → j < k
-    cons-above j zero h h′ e = absurd (not-both e (first (getD (x ∷ l) j 0) (cons-members j h)))
-    cons-above zero (suc k) h h′ e = omega arith
-    cons-above (suc j) (suc k) h h′ e = let z = o .above j k (omega arith) (omega arith) e in omega arith
-
-    order-cons : OrderOf named f (x ∷ l)
-    order-cons = record { members = cons-members; all = cons-all; once = cons-once; above = cons-above }
+  good-above : (f : ℕ → Bool) (l : List ℕ) → Good f l → Above l
+  good-above f [] g j k h h′ e = absurd (not-suc-le-zero h)
+  good-above f (x ∷ l) g j zero h h′ e = absurd (not-both e (g .1 (getD (x ∷ l) j 0) (ordered-members f (x ∷ l) (good-ordered f (x ∷ l) g) j h)))
+  good-above f (x ∷ l) g zero (suc k) h h′ e = omega arith
+  good-above f (x ∷ l) g (suc j) (suc k) h h′ e = let z = good-above (without f x) l (g .2) j k (omega arith) (omega arith) e in omega arith
 
   pub good-order : (f : ℕ → Bool) (l : List ℕ) → Good f l → OrderOf named f l
-  good-order f [] g =
-      record {
-        members = λ k h. absurd (not-suc-le-zero h);
-        all = λ b t. absurd (not-both t (g b));
-        once = λ j k h h′ e. absurd (not-suc-le-zero h);
-        above = λ j k h h′ e. absurd (not-suc-le-zero h);
-      }
-  good-order f (x ∷ l) g = order-cons f x l (g .0) (g .1) (good-order (without f x) l (g .2))
+  good-order f l g = ordered-order f l (good-ordered f l g) (good-above f l g)
 
   -- one taken out of a good order leaves a good order of the others
   remove : ℕ → List ℕ → List ℕ

@@ -1,6 +1,6 @@
 -- Again and again the lowest member that nobody left names: this finds the first order in the dictionary that puts each above every rival of its own, and where
 -- it is stuck there is none. So it gives what trying all orders gives. Assumes nothing.
-use Prim.Native.Nat.{ℕ, zero, suc, _+_, _<_, _≤_}
+use Prim.Native.Nat.{ℕ, zero, suc, _<_, _≤_}
 use borrow.Author.Tests.{eq-eqb, ne-eqb, not-true, lt-ltb, ltb-true}
 use mathlib.Core.Bool.{Bool, true, false, cond, not, _&&_, _||_}
 use mathlib.Core.List.{List, [], _∷_, _++_, List·Memᴰ, List·Memᴰ·head, List·Memᴰ·tail, List·Memᴰ·cases-cons, List·Memᴰ·not-nil, List·Memᴰ·eq-of-singleton}
@@ -9,12 +9,12 @@ use mathlib.Core.Path.{_≡_, refl, sym, _∙_, ap, ap₂, subst}
 use native.Mathlib.Nat.{eq-or-lt-of-le, le-of-suc-le-suc, not-suc-le-zero}
 use native.Mathlib.Omega.{arith}
 use lib.Dec.{eqb, ltb}
-use lib.ListN.{length, getD, List·getD-eq-default}
+use lib.ListN.{length, getD}
 use Rattle.basis.specs.Rows.{row, joined}
 use Rattle.basis.specs.Tests.{allBelow, least}
 use Rattle.basis.proofs.CountLaws as counts
-use Rattle.basis.proofs.NumberLaws.{same-or-not, below-or-not}
-use Rattle.basis.proofs.RisingLaws.{mem-at, at-mem, mem-joined, rising-at}
+use Rattle.basis.proofs.NumberLaws.{below-or-not}
+use Rattle.basis.proofs.RisingLaws.{mem-at, at-mem, mem-when, mem-joined, joined-mem, rising-at}
 use Rattle.basis.proofs.RowLaws.{row-head, row-same}
 use Rattle.basis.proofs.TestLaws.{
   holds-or-fails,
@@ -36,13 +36,25 @@ use Rattle.basis.proofs.TestLaws.{
   all-head,
   all-same,
   least-before,
-  least-passes,
 }
 use Rattle.bidder_sets.specs.EngineSets.{listed}
 use Rattle.bidder_sets.proofs.ListedLaws.{listed-where, listed-there, listed-rises}
 use Rattle.share_page.specs.SharePage.{without, headed, ordersOf, putsAbove, someOf, firstOf, OrderOf, Earlier, FirstOrder}
 use Rattle.share_page.specs.EngineShare.{namedIn, firstIn, nextIn, leftAfter, turns, allFound}
-use Rattle.share_page.proofs.GoodLaws.{without-parts, without-holds, count, count-without, Ordered, Free, Good, order-good, good-order, others-good}
+use Rattle.share_page.proofs.GoodLaws.{
+  without-parts,
+  count,
+  count-without,
+  Ordered,
+  Above,
+  ordered-order,
+  Free,
+  Good,
+  order-good,
+  good-order,
+  others-good,
+}
+use Rattle.share_page.proofs.TableLaws.{first-member}
 
 -- none of an empty set
 count-none : (f : ℕ → Bool) (n : ℕ) → ((b : ℕ) → f b ≡ false) → count f n ≡ 0
@@ -50,10 +62,7 @@ count-none f n none = counts.count-none (λ i. f (suc i)) n (λ i l. none (suc i
 
 -- What `putsAbove` tests, by index.
 module _ (named : ℕ → ℕ → Bool) (l : List ℕ) where
-  abbrev Above : Type 0
-  Above = (j k : ℕ) → j < length l → k < length l → named (getD l j 0) (getD l k 0) ≡ true → j < k
-
-  above-where : putsAbove named l ≡ true → Above
+  above-where : putsAbove named l ≡ true → Above named l
   unfolding putsAbove
   above-where t j k h h′ e =
       ⊎-elim
@@ -63,7 +72,7 @@ module _ (named : ℕ → ℕ → Bool) (l : List ℕ) where
       (all-at (λ k. not (named (getD l j 0) (getD l k 0)) || ltb j k) (length l)
       (all-at (λ j. allBelow (λ k. not (named (getD l j 0) (getD l k 0)) || ltb j k) (length l)) (length l) t j h) k h′))
 
-  above-there : Above → putsAbove named l ≡ true
+  above-there : Above named l → putsAbove named l ≡ true
   unfolding putsAbove
   above-there a =
       at-all (λ j. allBelow (λ k. not (named (getD l j 0) (getD l k 0)) || ltb j k) (length l)) (length l)
@@ -107,7 +116,7 @@ module _ (P : List ℕ → Bool) where
     none-before zero l = refl
     none-before (suc k) l = some-append (joined g k) (g k) ∙ or-fails (none-before k (omega arith)) (none k l)
 
-    pub first-joined : (n : ℕ) → i < n → (someOf P (joined g n) ≡ true) × (firstOf P (joined g n) ≡ firstOf P (g i))
+    first-joined : (n : ℕ) → i < n → (someOf P (joined g n) ≡ true) × (firstOf P (joined g n) ≡ firstOf P (g i))
     unfolding joined
     first-joined zero l = absurd (not-suc-le-zero l)
     first-joined (suc n) l =
@@ -153,38 +162,13 @@ headed-where x (y ∷ ls) l h =
     (λ (m : List·Memᴰ l (headed x ls)). let w = headed-where x ls l m in (w .0, List·Memᴰ·tail (w .1), w .2))
     (List·Memᴰ·cases-cons h)
 
--- An order, head first, that passes the test is a good one, and a good one is an order that passes.
+-- A good order passes the test, and what follows the head of one that passes does.
 module _ (named : ℕ → ℕ → Bool) where
-  good-ordered : (f : ℕ → Bool) (l : List ℕ) → Good named f l → Ordered f l
-  good-ordered f [] g = g
-  good-ordered f (x ∷ l) g = (g .0, good-ordered (without f x) l (g .2))
-
   good-passes : (f : ℕ → Bool) (l : List ℕ) → Good named f l → putsAbove named l ≡ true
   good-passes f l g = above-there named l (good-order named f l g .above)
 
   tail-above : (x : ℕ) (l : List ℕ) → putsAbove named (x ∷ l) ≡ true → putsAbove named l ≡ true
   tail-above x l t = above-there named l (λ j k h h′ e. (let z = above-where named (x ∷ l) t (suc j) (suc k) (omega arith) (omega arith) e in omega arith))
-
-  -- each member of an ordered set has an index
-  ordered-at : (f : ℕ → Bool) (l : List ℕ) → Ordered f l → (b : ℕ) → f b ≡ true → (k : ℕ) × (k < length l) × (getD l k 0 ≡ b)
-  ordered-at f [] o b t = absurd (not-both t (o b))
-  ordered-at f (x ∷ l) o b t =
-      ⊎-elim
-      (λ (e : b ≡ x). (0, omega arith, sym e))
-      (λ (d : b ≡ x → ⊥). let w = ordered-at (without f x) l (o .1) b (without-holds f x b t d) in (suc (w .0), (let h = w .1 in omega arith), w .2))
-      (same-or-not b x)
-
-  ordered-good : (f : ℕ → Bool) (l : List ℕ) → Ordered f l → putsAbove named l ≡ true → Good named f l
-  ordered-good f [] o t = o
-  ordered-good f (x ∷ l) o t = (
-    o .0,
-    (λ j u.
-        fails (named j x)
-        (λ v.
-        let w = ordered-at f (x ∷ l) o j u in
-        not-suc-le-zero (above-where named (x ∷ l) t (w .0) 0 (w .1) (omega arith) (subst (λ (y : ℕ). named y x ≡ true) (sym (w .2)) v)))),
-    ordered-good (without f x) l (o .1) (tail-above x l t),
-  )
 
 module _ (named : ℕ → ℕ → Bool) (n : ℕ) (member : ℕ → Bool) (within : (b : ℕ) → member b ≡ true → (0 < b) × (b ≤ n)) where
   -- the members in rising order, and sets of some of them
@@ -210,14 +194,6 @@ module _ (named : ℕ → ℕ → Bool) (n : ℕ) (member : ℕ → Bool) (withi
   module _ (test : ℕ → Bool) where
     abbrev place : ℕ
     place = least (λ k. test (getD L k 0)) (length L)
-
-    first-passes : (firstIn L test ≡ 0 → ⊥) → test (firstIn L test) ≡ true
-    unfolding firstIn
-    first-passes some =
-        ⊎-elim
-        (λ (l : place < length L). least-passes (λ k. test (getD L k 0)) (length L) l)
-        (λ (l : length L ≤ place). absurd (some (List·getD-eq-default L 0 {n = place} l)))
-        (below-or-not place (length L))
 
     first-least : (x : ℕ) → member x ≡ true → test x ≡ true → (0 < firstIn L test) × (firstIn L test ≤ x)
     unfolding firstIn
@@ -256,7 +232,7 @@ module _ (named : ℕ → ℕ → Bool) (n : ℕ) (member : ℕ → Bool) (withi
   unfolding nextIn
   next-free f w some =
       let p = nextIn named L f in
-      let parts = and-parts (f p) (not (namedIn named L f p)) (first-passes (λ x. f x && not (namedIn named L f x)) some) in
+      let parts = and-parts (f p) (not (namedIn named L f p)) (first-member L (λ x. f x && not (namedIn named L f x)) some .3) in
       (parts .0, λ j t. fails (named j p) (λ u. not-both (named-there f w j p t u) (not-true (namedIn named L f p) (parts .1))))
 
   next-lowest : (f : ℕ → Bool) → Within f → (x : ℕ) → f x ≡ true → Free named f x → (0 < nextIn named L f) × (nextIn named L f ≤ x)
@@ -353,12 +329,10 @@ module _ (named : ℕ → ℕ → Bool) (n : ℕ) (member : ℕ → Bool) (withi
 
   beginning-where : (f : ℕ → Bool) (c i : ℕ) (l : List ℕ) → List·Memᴰ l (beginning f c i) →
       (f (suc i) ≡ true) × (l′ : List ℕ) × List·Memᴰ l′ (ordersOf n c (without f (suc i))) × (l ≡ suc i ∷ l′)
-  beginning-where f c i l h = by-test (f (suc i)) refl h
-    where
-      by-test : (t : Bool) → f (suc i) ≡ t → List·Memᴰ l (cond t (headed (suc i) (ordersOf n c (without f (suc i)))) []) →
-          (f (suc i) ≡ true) × (l′ : List ℕ) × List·Memᴰ l′ (ordersOf n c (without f (suc i))) × (l ≡ suc i ∷ l′)
-      by-test true e m = let w = headed-where (suc i) (ordersOf n c (without f (suc i))) l m in (e, w .0, w .1, w .2)
-      by-test false e m = absurd (List·Memᴰ·not-nil m)
+  beginning-where f c i l h =
+      let begins = mem-when (f (suc i)) (headed (suc i) (ordersOf n c (without f (suc i)))) l h in
+      let w = headed-where (suc i) (ordersOf n c (without f (suc i))) l (begins .1) in
+      (begins .0, w .0, w .1, w .2)
 
   -- An order among all is an order of the set,
   orders-ordered : (c : ℕ) (f : ℕ → Bool) → Within f → count f n ≡ c → (l : List ℕ) → List·Memᴰ l (ordersOf n c f) → Ordered f l
@@ -373,7 +347,7 @@ module _ (named : ℕ → ℕ → Bool) (n : ℕ) (member : ℕ → Bool) (withi
 
   -- so one that passes is a good one,
   passing-good : (c : ℕ) (f : ℕ → Bool) → Within f → count f n ≡ c → (l : List ℕ) → List·Memᴰ l (ordersOf n c f) → putsAbove named l ≡ true → Good named f l
-  passing-good c f w e l h t = ordered-good named f l (orders-ordered c f w e l h) t
+  passing-good c f w e l h t = order-good named f l (ordered-order named f l (orders-ordered c f w e l h) (above-where named l t))
 
   -- and the first that passes is the one that the turns find.
   module _ (c : ℕ) (f : ℕ → Bool) (w : Within f) (e : count f n ≡ suc c) where
@@ -385,10 +359,8 @@ module _ (named : ℕ → ℕ → Bool) (n : ℕ) (member : ℕ → Bool) (withi
         (λ t.
         let v = some-where (putsAbove named) (beginning f c i) t in
         let u = beginning-where f c i (v .0) (v .1) in
-        let ordered : Ordered f (v .0)
-        = subst (Ordered f) (sym (u .3))
-        (u .0, orders-ordered c (without f (suc i)) (within-without f (suc i) w) (one-fewer f (suc i) c w (u .0) e) (u .1) (u .2)) in
-        let good = subst (Good named f) (u .3) (ordered-good named f (v .0) ordered (v .2)) in
+        let among = joined-mem (beginning f c) n i (v .0) (within (suc i) (w (suc i) (u .0)) .1) (v .1) in
+        let good = subst (Good named f) (u .3) (passing-good (suc c) f w e (v .0) among (v .2)) in
         let low = next-lowest f w (suc i) (good .0) (good .1) .1 in
         absurd (omega arith))
 
@@ -498,11 +470,9 @@ module _ (named : ℕ → ℕ → Bool) (n : ℕ) (member : ℕ → Bool) (withi
         first = λ l o. taken-first c member all-members refl g l (order-good named member l o);
       })
 
-  pub good-some : (l : List ℕ) → Good named member l → someOf (putsAbove named) (ordersOf n (count member n) member) ≡ true
-  good-some l g = some-goes (count member n) member all-members refl ∙ good-goes (count member n) member all-members refl l g
-
   pub order-some : (l : List ℕ) → OrderOf named member l → someOf (putsAbove named) (ordersOf n (count member n) member) ≡ true
-  order-some l o = good-some l (order-good named member l o)
+  order-some l o =
+      some-goes (count member n) member all-members refl ∙ good-goes (count member n) member all-members refl l (order-good named member l o)
 
   -- an order is as long as the set
   pub good-many : (f : ℕ → Bool) → Within f → (l : List ℕ) → Good named f l → length l ≡ count f n

@@ -1,20 +1,20 @@
 -- How the order is found, in words and in sets. Only what stands in the list of members matters: two sets, and two ways of naming, that agree on the members
 -- give the same turns, so the table's words and the lent sets do. Assumes nothing.
 use Prim.Native.Nat.{ℕ, zero, suc, _-_, _<_, _≤_}
-use borrow.Author.Tests.{eq-eqb, ne-eqb, ltb-true, ltb-false}
+use borrow.Author.Tests.{eq-eqb, ne-eqb}
 use mathlib.Core.Bool.{Bool, true, false, cond, not, _&&_}
 use mathlib.Core.List.{List, [], _∷_}
 use mathlib.Core.Logic.{⊎-elim}
 use mathlib.Core.Path.{_≡_, refl, sym, _∙_, ap, ap₂}
 use native.Mathlib.Omega.{arith}
-use lib.Dec.{eqb, ltb}
+use lib.Dec.{eqb}
 use lib.ListN.{length, getD, set, List·getD-eq-default}
 use lib.Seq.{sets}
 use Rattle.basis.specs.Rows.{row}
 use Rattle.basis.specs.Tests.{allBelow, least}
+use Rattle.basis.proofs.NumberLaws.{below-or-not}
 use Rattle.basis.proofs.RowLaws.{length-row, row-same, joined-same}
 use Rattle.basis.proofs.TestLaws.{
-  holds-or-fails,
   not-both,
   fails,
   and-holds,
@@ -41,18 +41,18 @@ unfolding firstIn
 first-at members test k within none here =
     ap (λ (i : ℕ). getD members i 0) (least-is (λ j. test (getD members j 0)) (length members) k within none here)
 
--- and a member, unless none passes
+-- and a member that passes, unless none does
 pub first-member : (members : List ℕ) (test : ℕ → Bool) → (firstIn members test ≡ 0 → ⊥) →
-    (k : ℕ) × (k < length members) × (getD members k 0 ≡ firstIn members test)
+    (k : ℕ) × (k < length members) × (getD members k 0 ≡ firstIn members test) × (test (firstIn members test) ≡ true)
 unfolding firstIn
 first-member members test some =
     let at = least (λ j. test (getD members j 0)) (length members) in
     ⊎-elim
-    (λ (t : ltb at (length members) ≡ true). (at, ltb-true at (length members) t, refl))
-    (λ (t : ltb at (length members) ≡ false). absurd (some (List·getD-eq-default members 0 (ltb-false at (length members) t))))
-    (holds-or-fails (ltb at (length members)))
+    (λ (l : at < length members). (at, l, refl, least-passes (λ j. test (getD members j 0)) (length members) l))
+    (λ (l : length members ≤ at). absurd (some (List·getD-eq-default members 0 {n = at} l)))
+    (below-or-not at (length members))
 
-pub first-same : (members : List ℕ) (test test′ : ℕ → Bool) → ((k : ℕ) → k < length members → test (getD members k 0) ≡ test′ (getD members k 0)) →
+first-same : (members : List ℕ) (test test′ : ℕ → Bool) → ((k : ℕ) → k < length members → test (getD members k 0) ≡ test′ (getD members k 0)) →
     firstIn members test ≡ firstIn members test′
 unfolding firstIn
 first-same members test test′ agree =
@@ -65,10 +65,10 @@ first-same members test test′ agree =
 -- Two ways of naming that agree on the members.
 module _ (named named′ : ℕ → ℕ → Bool) (members : List ℕ)
     (same : (j k : ℕ) → j < length members → k < length members → named (getD members j 0) (getD members k 0) ≡ named′ (getD members j 0) (getD members k 0)) where
-  abbrev pub Agree : (left left′ : ℕ → Bool) → Type 0
+  abbrev Agree : (left left′ : ℕ → Bool) → Type 0
   Agree left left′ = (k : ℕ) → k < length members → left (getD members k 0) ≡ left′ (getD members k 0)
 
-  pub next-same : (left left′ : ℕ → Bool) → Agree left left′ → nextIn named members left ≡ nextIn named′ members left′
+  next-same : (left left′ : ℕ → Bool) → Agree left left′ → nextIn named members left ≡ nextIn named′ members left′
   unfolding nextIn namedIn
   next-same left left′ agree =
       first-same members (λ x. left x && not (namedIn named members left x)) (λ x. left′ x && not (namedIn named′ members left′ x))
@@ -79,7 +79,7 @@ module _ (named named′ : ℕ → ℕ → Bool) (members : List ℕ)
       (length members) (λ j h. ap₂ _&&_ (agree j h) (same j k h l))))
 
   module _ (left left′ : ℕ → Bool) (agree : Agree left left′) where
-    pub left-same : (i : ℕ) → Agree (leftAfter named members left i) (leftAfter named′ members left′ i)
+    left-same : (i : ℕ) → Agree (leftAfter named members left i) (leftAfter named′ members left′ i)
     unfolding leftAfter
     left-same zero k l = agree k l
     left-same (suc i) k l =
@@ -89,11 +89,11 @@ module _ (named named′ : ℕ → ℕ → Bool) (members : List ℕ)
     turn-same : (i : ℕ) → nextIn named members (leftAfter named members left i) ≡ nextIn named′ members (leftAfter named′ members left′ i)
     turn-same i = next-same (leftAfter named members left i) (leftAfter named′ members left′ i) (left-same i)
 
-    pub turns-same : (k : ℕ) → turns named members left k ≡ turns named′ members left′ k
+    turns-same : (k : ℕ) → turns named members left k ≡ turns named′ members left′ k
     unfolding turns
     turns-same k = row-same _ _ k (λ i l. turn-same i)
 
-    pub found-same : (k : ℕ) → allFound named members left k ≡ allFound named′ members left′ k
+    found-same : (k : ℕ) → allFound named members left k ≡ allFound named′ members left′ k
     unfolding allFound
     found-same k = all-same _ _ k (λ i l. ap (λ (x : ℕ). not (eqb x 0)) (turn-same i))
 
