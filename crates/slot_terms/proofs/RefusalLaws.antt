@@ -145,7 +145,7 @@ module _ (n m owner limit : ℕ) (bars out : List ℕ) where
   unfolding slotTermsRefusal
   owner-passed fits = orElse-right (ownerRefusal n m owner) _ (owner-none n m owner fits)
 
-  profile-first : (k : ℕ) → OwnerFits n m owner → profileRefusal n m owner limit bars ≡ suc k → slotTermsRefusal n m owner limit bars out ≡ suc k
+  pub profile-first : (k : ℕ) → OwnerFits n m owner → profileRefusal n m owner limit bars ≡ suc k → slotTermsRefusal n m owner limit bars out ≡ suc k
   profile-first k fits e = owner-passed fits ∙ ap (λ (a : ℕ). orElse a roomNumber) e
 
   pub four : (n ≡ 0) ⊎ (64 < n) → slotTermsRefusal n m owner limit bars out ≡ 4
