@@ -193,7 +193,7 @@ set-pairs n m owner member rivals same =
     (λ j h. ap (λ (t : Bool). cond t (pairsAt owner (suc k) (suc j)) []) (same j h)))
 
 -- and so many: m × (m − 1) / 2 for each rival.
-terms-many : (n m owner : ℕ) (rivals : List ℕ) → length (aboveTerms n m owner rivals) ≡ memberCount n rivals * slotsAbove m
+pub terms-many : (n m owner : ℕ) (rivals : List ℕ) → length (aboveTerms n m owner rivals) ≡ memberCount n rivals * slotsAbove m
 unfolding memberCount
 terms-many n m owner rivals =
     let others = risingMembers (inSet rivals) n in

@@ -87,11 +87,11 @@ same-terms n m owner rivals rivals′ out same =
     let w = same-wrong n rivals rivals′ same in
     let terms : (ℕ → Bool) → List Condition = (λ f. joined (λ k. joined (λ j. cond (f (suc j)) (pairsAt owner (suc k) (suc j)) []) n) m) in (
       ap₂
-      (λ (t : Bool) (f : ℕ → Bool).
-      orElse (ownerRefusal n m owner)
-      (orElse (23 when t otherwise 24 when f owner otherwise 0)
-      (25 when ltb 1024 (length (terms f)) otherwise 19 when ltb (length out) (4 * length (terms f)) otherwise 0)))
-      w e,
+          (λ (t : Bool) (f : ℕ → Bool).
+          orElse (ownerRefusal n m owner)
+          (orElse (23 when t otherwise 24 when f owner otherwise 0)
+          (25 when ltb 1024 (length (terms f)) otherwise 19 when ltb (length out) (4 * length (terms f)) otherwise 0)))
+          w e,
       ap terms e,
     )
 

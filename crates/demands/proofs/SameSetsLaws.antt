@@ -9,7 +9,7 @@ use lib.ListN.{length, drop}
 use Rattle.basis.specs.Counting.{countTo}
 use Rattle.basis.specs.First.{_when_otherwise_, orElse}
 use Rattle.basis.proofs.RowLaws.{joined-same}
-use Rattle.bidder_sets.specs.BidderSets.{inSet, memberCount, numbersWrong, rivalsOf}
+use Rattle.bidder_sets.specs.BidderSets.{inSet, memberCount, rivalsOf}
 use Rattle.bidder_sets.proofs.NumberedLaws.{same-set, same-wrong}
 use Rattle.bidder_sets.proofs.LentLaws.{lent-read}
 use Rattle.share_page.specs.SharePage.{names, ordersOf, putsAbove, someOf, firstOf, canShare, orderWritten, orderBuffer, sizeRefusal, setsRefusal, shareRefusal}

@@ -231,7 +231,7 @@ pub extern "C" fn pas_share_page(
     if refusal != 0 {
         return refusal;
     }
-    let yes = given.yes;
-    *answer = yes_number(yes);
+    let shared = given.yes;
+    *answer = yes_number(shared);
     0
 }
