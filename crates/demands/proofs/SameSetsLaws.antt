@@ -12,7 +12,8 @@ use Rattle.basis.proofs.RowLaws.{joined-same}
 use Rattle.bidder_sets.specs.BidderSets.{inSet, memberCount, rivalsOf}
 use Rattle.bidder_sets.proofs.NumberedLaws.{same-set, same-wrong}
 use Rattle.bidder_sets.proofs.LentLaws.{lent-read}
-use Rattle.share_page.specs.SharePage.{names, ordersOf, putsAbove, someOf, firstOf, canShare, orderWritten, orderBuffer, sizeRefusal, setsRefusal, shareRefusal}
+use Rattle.slot_terms.specs.SlotTerms.{sizeRefusal}
+use Rattle.share_page.specs.SharePage.{names, ordersOf, putsAbove, someOf, firstOf, canShare, orderWritten, orderBuffer, setsRefusal, shareRefusal}
 use Rattle.demands.specs.Demands.{Lent}
 
 -- the answer and the bytes, from who is a member and who names whom
