@@ -549,8 +549,8 @@ pub record RequestTwo : Type 0 where
   -- m × (m − 1) / 2 for each rival, and never more than 1,014
   pub many : (n m owner : ℕ) (rivals out out′ : List ℕ) (before count : ℕ) → AboveTermsGiven n m owner rivals out before 0 out′ count →
       (2 * count ≡ memberCount n rivals * (m * (m - 1))) × (count ≤ 1_014)
-  -- "a repeat counts once": with lists that have the same members both calls return and leave the same, and so does the second with rival sets that have the
-  -- same members
+  -- "a repeat counts once": with lists that have the same members both calls return and leave the same; and with rival sets that have the same members the
+  -- second gives the same answer and order
   pub same-set : (n m owner : ℕ) (rivals rivals′ out : List ℕ) → ((b : ℕ) → inSet rivals b ≡ inSet rivals′ b) →
       (aboveTermsRefusal n m owner rivals out ≡ aboveTermsRefusal n m owner rivals′ out) × (aboveTerms n m owner rivals ≡ aboveTerms n m owner rivals′)
   pub same-members : (n m : ℕ) (members members′ sets out : List ℕ) → ((b : ℕ) → inSet members b ≡ inSet members′ b) →
