@@ -447,8 +447,8 @@ uint32_t pas_above_terms(uint32_t n, uint32_t m, uint32_t owner, const uint8_t *
  * pas_above_terms writes from its set: after a yes the page with the members on the first places, in the order that is
  * written, and nobody else, breaks no condition; and after a no every page on which all the members stand breaks one.
  *
- * Time: no order is tried. Each set is read once, and then the members are gone through once for each of them. (This is
- * how the search goes; no time is proved.)
+ * Time: no order is tried. Each set is read once, and then the members are gone through twice for each of them. (This
+ * is how the search goes; no time is proved.)
  *
  * Refused with 4, 5, 23 where a member is 0 or above n, where the bytes are not exactly n rival sets or where a rival
  * is 0 or above n, 24 where a bidder, member or not, is in its own set, or 19 for a yes where result_len is below the
