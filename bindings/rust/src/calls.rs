@@ -278,7 +278,7 @@ pub fn rival_sets<Set: AsRef<[Bidder]>>(sets: impl IntoIterator<Item = Set>) -> 
 /// set without members can.
 ///
 /// The members may come in any order and more than once. [`rival_sets`] lays out the rival sets, one for each of the bidders; rivals that are no members do not
-/// matter. On a page with a yes's members in the first slots, in this order, no constraint of [`above_terms`] is broken that comes of these sets.
+/// matter. On a page with a yes's members in the first slots, in this order, and nobody else, no constraint of [`above_terms`] is broken that comes of these sets.
 ///
 /// Refused with 4, 5, 23 for a set that has a number that is 0 or not a bidder's or where there are not as many rival sets as bidders, or 24 for a bidder in its
 /// own set, member or not.

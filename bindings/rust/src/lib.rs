@@ -6,7 +6,7 @@
 //! small round, shows where in a sheet one bidder's constraints stand, writes the one sheet of version 2 for a round, writes a bidder's
 //! constraints from its top-of-page terms or from the rivals that it will only stand above, and tells whether bidders with such rivals could share a page.
 //! Page, gain and best page are there with a floor under each slot too. Its answers are proved, refusals included; this crate adds types and no
-//! judgement of its own.
+//! judgement of its own (but that [`rival_sets`] refuses a set of more than 255 numbers, for which the layout has no length byte).
 //!
 //! The C header `include/pas.h` is the manual: the sheet's layout, the limits, what each call means. It says "place" for a slot and
 //! "condition" for a constraint, and so do the sentences of a [`Refusal`]; `docs/EMBEDDING.md` of the repository has the table of words.

@@ -21,7 +21,7 @@ module _ (n m owner : ℕ) (rivals out : List ℕ) where
   abbrev lastNumber : ℕ
   lastNumber = 25 when ltb 1024 many otherwise 19 when ltb (length out) (4 * many) otherwise 0
 
-  owner-first : (k : ℕ) → ownerRefusal n m owner ≡ suc k → aboveTermsRefusal n m owner rivals out ≡ suc k
+  pub owner-first : (k : ℕ) → ownerRefusal n m owner ≡ suc k → aboveTermsRefusal n m owner rivals out ≡ suc k
   unfolding aboveTermsRefusal
   owner-first k e = ap (λ (a : ℕ). orElse a (orElse (rivalsRefusal n owner rivals) lastNumber)) e
 

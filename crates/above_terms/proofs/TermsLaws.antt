@@ -1,20 +1,20 @@
 -- The conditions that a set of rivals gives: which they are, that they rise, pass 10 to 13 and are downward monotonic. Assumes nothing.
 use Prim.Native.Nat.{ℕ, zero, suc, _-_, _<_, _≤_}
 use mathlib.Core.Bool.{Bool, true, false, cond}
-use mathlib.Core.List.{List, [], List·Memᴰ, List·Memᴰ·not-nil}
+use mathlib.Core.List.{List, [], List·Memᴰ}
 use mathlib.Core.Path.{_≡_, refl, sym, _∙_, ap, subst}
 use native.Mathlib.Omega.{arith}
 use lib.ListN.{length, getD}
 use Rattle.basis.specs.Rising.{Rising}
-use Rattle.basis.specs.Rows.{row, joined}
-use Rattle.basis.proofs.RisingLaws.{mem-row, row-mem, mem-joined, joined-mem, rising-lower, rising-higher, rising-joined, rising-steps, rising-next}
+use Rattle.basis.specs.Rows.{joined}
+use Rattle.basis.proofs.RisingLaws.{mem-row, row-mem, mem-joined, joined-mem, mem-when, rising-lower, rising-higher, rising-joined, rising-at}
 use Rattle.basis.proofs.TestLaws.{not-both}
 use Rattle.sheet.specs.Refusal.{fieldsRefusal}
 use Rattle.sheet.specs.Accepted.{fieldsNumber, numberOf}
 use Rattle.sheet.specs.Encoded.{Condition, on}
 use Rattle.sheet.proofs.AcceptedLaws.{fields-back}
 use Rattle.sheet.proofs.EncodedLaws.{blankCondition}
-use Rattle.sheet.proofs.OrderLaws.{rising-over}
+use Rattle.slot_terms.proofs.TermsLaws.{places-rise}
 use Rattle.bidder_sets.specs.BidderSets.{inSet}
 use Rattle.above_terms.specs.AboveTerms.{RivalAbove, pairsAt, aboveTerms}
 
@@ -27,21 +27,13 @@ module _ (n m owner : ℕ) (rivals : List ℕ) where
   abbrev pairsIf : ℕ → ℕ → List Condition
   pairsIf k j = cond (inSet rivals (suc j)) (pairsAt owner (suc k) (suc j)) []
 
-  if-where : (k j : ℕ) (q : Condition) → List·Memᴰ q (pairsIf k j) → (inSet rivals (suc j) ≡ true) × List·Memᴰ q (pairsAt owner (suc k) (suc j))
-  if-where k j q h = by-test (inSet rivals (suc j)) refl h
-    where
-      by-test : (t : Bool) → inSet rivals (suc j) ≡ t → List·Memᴰ q (cond t (pairsAt owner (suc k) (suc j)) []) →
-          (inSet rivals (suc j) ≡ true) × List·Memᴰ q (pairsAt owner (suc k) (suc j))
-      by-test true e m = (e, m)
-      by-test false e m = absurd (List·Memᴰ·not-nil m)
-
   -- the list has no others
   pub terms-where : (q : Condition) → List·Memᴰ q (aboveTerms n m owner rivals) → GivenBy q
   unfolding aboveTerms pairsAt
   terms-where q at =
       let a = mem-joined (λ k. joined (pairsIf k) n) m q at in
       let b = mem-joined (pairsIf (a .0)) n q (a .2) in
-      let c = if-where (a .0) (b .0) q (b .2) in
+      let c = mem-when (inSet rivals (suc (b .0))) (pairsAt owner (suc (a .0)) (suc (b .0))) q (b .2) in
       let d = mem-row (λ l. on owner (suc (a .0)) (suc (b .0)) (suc l)) (suc (a .0) - 1) q (c .1) in
       let own = a .1 in
       let above = d .1 in
@@ -99,25 +91,24 @@ module _ (n m owner : ℕ) (rivals : List ℕ) where
   -- They rise, where the numbers are small.
   module _ (few : n ≤ 64) (short : m ≤ 16) where
     pairs-rise : (k j : ℕ) → k < m → Rising numberOf (fieldsNumber owner (suc k) (suc j) 0) (fieldsNumber owner (suc k) (suc (suc j)) 0) (pairsIf k j)
-    unfolding pairsAt numberOf
+    unfolding pairsAt
     pairs-rise k j l = by-test (inSet rivals (suc j))
       where
-        list : List Condition
-        list = row (λ l. on owner (suc k) (suc j) (suc l)) (suc k - 1)
+        lo : ℕ
+        lo = fieldsNumber owner (suc k) (suc j) 0
 
-        by-test : (t : Bool) → Rising numberOf (fieldsNumber owner (suc k) (suc j) 0) (fieldsNumber owner (suc k) (suc (suc j)) 0) (cond t (pairsAt owner (suc k) (suc j)) [])
-        by-test true =
-            rising-lower numberOf (fieldsNumber owner (suc k) (suc j) 1) (fieldsNumber owner (suc k) (suc j) 0) (fieldsNumber owner (suc k) (suc (suc j)) 0) list (omega arith)
-            (rising-higher numberOf (fieldsNumber owner (suc k) (suc j) 1) (fieldsNumber owner (suc k) (suc j) (suc (suc k - 1))) (fieldsNumber owner (suc k) (suc (suc j)) 0)
-            list (omega arith)
-            (rising-steps numberOf (λ l. on owner (suc k) (suc j) (suc l)) (λ l. fieldsNumber owner (suc k) (suc j) (suc l)) (suc k - 1) (λ l b. (omega arith, omega arith))))
+        hi : ℕ
+        hi = fieldsNumber owner (suc k) (suc (suc j)) 0
+
+        by-test : (t : Bool) → Rising numberOf lo hi (cond t (pairsAt owner (suc k) (suc j)) [])
+        by-test true = places-rise owner (suc k) (suc j) (suc k - 1) (omega arith)
         by-test false = omega arith
 
     place-rises : (k : ℕ) → k < m → Rising numberOf (fieldsNumber owner (suc k) 0 0) (fieldsNumber owner (suc (suc k)) 0 0) (joined (pairsIf k) n)
     place-rises k l =
-        rising-lower numberOf (fieldsNumber owner (suc k) 1 0) (fieldsNumber owner (suc k) 0 0) (fieldsNumber owner (suc (suc k)) 0 0) (joined (pairsIf k) n) (omega arith)
-        (rising-higher numberOf (fieldsNumber owner (suc k) 1 0) (fieldsNumber owner (suc k) (suc n) 0) (fieldsNumber owner (suc (suc k)) 0 0) (joined (pairsIf k) n)
-        (omega arith)
+        let list = joined (pairsIf k) n in
+        rising-lower numberOf (fieldsNumber owner (suc k) 1 0) (fieldsNumber owner (suc k) 0 0) (fieldsNumber owner (suc (suc k)) 0 0) list (omega arith)
+        (rising-higher numberOf (fieldsNumber owner (suc k) 1 0) (fieldsNumber owner (suc k) (suc n) 0) (fieldsNumber owner (suc (suc k)) 0 0) list (omega arith)
         (rising-joined numberOf (pairsIf k) (λ j. fieldsNumber owner (suc k) (suc j) 0) n (λ j h. pairs-rise k j l)))
 
     terms-rise : Rising numberOf (fieldsNumber owner 1 0 0) (fieldsNumber owner (suc m) 0 0) (aboveTerms n m owner rivals)
@@ -127,7 +118,4 @@ module _ (n m owner : ℕ) (rivals : List ℕ) where
     -- each is above every one before it
     pub terms-rising : (j k : ℕ) → j < k → k < length (aboveTerms n m owner rivals) →
         numberOf (getD (aboveTerms n m owner rivals) j blankCondition) < numberOf (getD (aboveTerms n m owner rivals) k blankCondition)
-    terms-rising =
-        let qs = aboveTerms n m owner rivals in
-        rising-over (λ k. numberOf (getD qs k blankCondition)) (length qs)
-        (rising-next numberOf (fieldsNumber owner 1 0 0) (fieldsNumber owner (suc m) 0 0) qs blankCondition terms-rise)
+    terms-rising = rising-at numberOf (fieldsNumber owner 1 0 0) (fieldsNumber owner (suc m) 0 0) (aboveTerms n m owner rivals) blankCondition terms-rise

@@ -1,35 +1,19 @@
 -- What the call answers. Assumes nothing.
-use Prim.Native.Nat.{ℕ, _*_, _<_, _≤_}
-use mathlib.Core.Bool.{Bool, true, false}
+use Prim.Native.Nat.{ℕ, zero, suc, _*_, _<_, _≤_}
+use mathlib.Core.Bool.{true, false}
 use mathlib.Core.List.{List}
-use mathlib.Core.Path.{_≡_, sym, _∙_, ap, ap₂}
-use borrow.Author.Tests.{lt-ltb, le-ltb}
+use mathlib.Core.Path.{_≡_, refl, sym, _∙_}
 use native.Mathlib.Omega.{arith}
-use lib.Dec.{ltb}
 use lib.ListN.{length}
 use lib.Seq.{sets}
-use Rattle.basis.specs.First.{_when_otherwise_}
-use Rattle.basis.proofs.FirstLaws.{orElse-left, orElse-right, answered-gives}
+use Rattle.basis.proofs.FirstLaws.{answered-gives}
 use Rattle.sheet.specs.Encoded.{Condition, quads}
-use Rattle.slot_terms.specs.SlotTerms.{ownerRefusal}
+use Rattle.slot_terms.specs.SlotTerms.{ownerRefusal, OwnerFits}
 use Rattle.slot_terms.specs.declared.Written.{Written}
 use Rattle.slot_terms.proofs.WriteLaws.{refused-left, terms-left}
 use Rattle.bidder_sets.specs.BidderSets.{inSet, numbersWrong}
-use Rattle.above_terms.specs.AboveTerms.{aboveTerms, rivalsRefusal, aboveTermsRefusal, AboveTermsWritten}
-
--- 23, 24 and none of them
-module _ (n owner : ℕ) (rivals : List ℕ) where
-  pub rivals-wrong : numbersWrong n rivals ≡ true → 23 ≡ rivalsRefusal n owner rivals
-  unfolding rivalsRefusal
-  rivals-wrong e = sym (ap (λ (t : Bool). 23 when t otherwise 24 when inSet rivals owner otherwise 0) e)
-
-  pub rivals-own : numbersWrong n rivals ≡ false → inSet rivals owner ≡ true → 24 ≡ rivalsRefusal n owner rivals
-  unfolding rivalsRefusal
-  rivals-own e h = sym (ap₂ (λ (t u : Bool). 23 when t otherwise 24 when u otherwise 0) e h)
-
-  pub rivals-right : numbersWrong n rivals ≡ false → inSet rivals owner ≡ false → rivalsRefusal n owner rivals ≡ 0
-  unfolding rivalsRefusal
-  rivals-right e h = ap₂ (λ (t u : Bool). 23 when t otherwise 24 when u otherwise 0) e h
+use Rattle.above_terms.specs.AboveTerms.{aboveTerms, aboveTermsRefusal, AboveTermsWritten}
+use Rattle.above_terms.proofs.RefusalLaws.{owner-first, twenty-three, twenty-four, twenty-five, nineteen, answered}
 
 -- The call's ways out: a number, and the conditions.
 module _ (n m owner : ℕ) (rivals out : List ℕ) where
@@ -47,42 +31,37 @@ module _ (n m owner : ℕ) (rivals out : List ℕ) where
 
   pub owner-refused : (returned : Written) (k : ℕ) → returned ≡ record { refusal = k; count = 0 } → k ≡ ownerRefusal n m owner → (k ≡ 0 → ⊥) →
       AboveTermsWritten n m owner rivals out returned out
-  unfolding aboveTermsRefusal
-  owner-refused returned k e same h = left returned k e (same ∙ sym (orElse-left (ownerRefusal n m owner) _ (λ z. h (same ∙ z)))) h
+  owner-refused returned zero e same h = absurd (h refl)
+  owner-refused returned (suc k) e same h = left returned (suc k) e (sym (owner-first n m owner rivals out k (sym same))) h
 
-  module _ (owned : ownerRefusal n m owner ≡ 0) where
-    pub rivals-refused : (returned : Written) (k : ℕ) → returned ≡ record { refusal = k; count = 0 } → k ≡ rivalsRefusal n owner rivals → (k ≡ 0 → ⊥) →
+  module _ (fits : OwnerFits n m owner) where
+    pub numbers-refused : (returned : Written) → returned ≡ record { refusal = 23; count = 0 } → numbersWrong n rivals ≡ true →
         AboveTermsWritten n m owner rivals out returned out
-    unfolding aboveTermsRefusal
-    rivals-refused returned k e same h =
-        left returned k e
-        (same ∙ sym (orElse-right (ownerRefusal n m owner) _ owned ∙ orElse-left (rivalsRefusal n owner rivals) _ (λ z. h (same ∙ z))))
-        h
+    numbers-refused returned e wrong = left returned 23 e (sym (twenty-three n m owner rivals out fits wrong)) (λ z. absurd (omega arith))
 
-    module _ (proper : rivalsRefusal n owner rivals ≡ 0) (count : ℕ) (many : count ≡ length terms) where
-      last-tests : number ≡ (25 when ltb 1024 (length terms) otherwise 19 when ltb (length out) (4 * length terms) otherwise 0)
-      unfolding aboveTermsRefusal
-      last-tests = orElse-right (ownerRefusal n m owner) _ owned ∙ orElse-right (rivalsRefusal n owner rivals) _ proper
-
-      pub too-many : (returned : Written) → returned ≡ record { refusal = 25; count = 0 } → 1024 < count →
+    module _ (right : numbersWrong n rivals ≡ false) where
+      pub own-refused : (returned : Written) → returned ≡ record { refusal = 24; count = 0 } → inSet rivals owner ≡ true →
           AboveTermsWritten n m owner rivals out returned out
-      too-many returned e more =
-          left returned 25 e (sym (last-tests ∙ simp (lt-ltb 1024 (length terms) (omega arith)))) (λ z. absurd (omega arith))
+      own-refused returned e own = left returned 24 e (sym (twenty-four n m owner rivals out fits right own)) (λ z. absurd (omega arith))
 
-      module _ (few : count ≤ 1024) where
-        pub buffer-short : (returned : Written) → returned ≡ record { refusal = 19; count = 0 } → length out < 4 * count →
+      module _ (other : inSet rivals owner ≡ false) (count : ℕ) (many : count ≡ length terms) where
+        pub too-many : (returned : Written) → returned ≡ record { refusal = 25; count = 0 } → 1024 < count →
             AboveTermsWritten n m owner rivals out returned out
-        buffer-short returned e less =
-            left returned 19 e
-            (sym (last-tests ∙ simp (le-ltb 1024 (length terms) (omega arith), lt-ltb (length out) (4 * length terms) (omega arith))))
-            (λ z. absurd (omega arith))
+        too-many returned e more =
+            left returned 25 e (sym (twenty-five n m owner rivals out fits right other (omega arith))) (λ z. absurd (omega arith))
 
-        pub terms-written : (whole : List ℕ) → 4 * count ≤ length out → whole ≡ sets out 0 (quads terms) →
-            AboveTermsWritten n m owner rivals out (record { refusal = 0; count = count }) whole
-        terms-written whole room w =
-            let none : number ≡ 0 = last-tests ∙ simp (le-ltb 1024 (length terms) (omega arith), le-ltb (length out) (4 * length terms) (omega arith)) in
-            record {
-              number = sym none;
-              count = many ∙ answered-gives number (length terms) 0 none;
-              buffer = w ∙ terms-left number terms out none (omega arith);
-            }
+        module _ (few : count ≤ 1024) where
+          pub buffer-short : (returned : Written) → returned ≡ record { refusal = 19; count = 0 } → length out < 4 * count →
+              AboveTermsWritten n m owner rivals out returned out
+          buffer-short returned e less =
+              left returned 19 e (sym (nineteen n m owner rivals out fits right other (omega arith) (omega arith))) (λ z. absurd (omega arith))
+
+          pub terms-written : (whole : List ℕ) → 4 * count ≤ length out → whole ≡ sets out 0 (quads terms) →
+              AboveTermsWritten n m owner rivals out (record { refusal = 0; count = count }) whole
+          terms-written whole room w =
+              let none : number ≡ 0 = answered n m owner rivals out fits right other (omega arith) (omega arith) in
+              record {
+                number = sym none;
+                count = many ∙ answered-gives number (length terms) 0 none;
+                buffer = w ∙ terms-left number terms out none (omega arith);
+              }

@@ -8,14 +8,14 @@ use Rattle.sheet.specs.Encoded.{Condition}
 use Rattle.above_terms.specs.AboveTerms.{pairsAt}
 
 -- those of the first j rivals of a list, with the owner at one place
-unfoldable pub placePairs : (owner own : ℕ) → List ℕ → ℕ → List Condition
-placePairs owner own others j = joined (λ i. pairsAt owner own (getD others i 0)) j
+unfoldable pub slotPairs : (owner own : ℕ) → List ℕ → ℕ → List Condition
+slotPairs owner own others j = joined (λ i. pairsAt owner own (getD others i 0)) j
 
 -- those of all of them, with the owner at places 1 to k
 unfoldable pub allPairs : (owner : ℕ) → List ℕ → ℕ → List Condition
-allPairs owner others k = joined (λ i. placePairs owner (suc i) others (length others)) k
+allPairs owner others k = joined (λ i. slotPairs owner (suc i) others (length others)) k
 
 -- how many pairs of places 1 to m there are with one above the other
-unfoldable pub placesAbove : ℕ → ℕ
-placesAbove zero = 0
-placesAbove (suc k) = placesAbove k + k
+unfoldable pub slotsAbove : ℕ → ℕ
+slotsAbove zero = 0
+slotsAbove (suc k) = slotsAbove k + k

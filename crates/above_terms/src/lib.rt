@@ -4,12 +4,12 @@
 // No sheet is read. The rivals are put into rising order, each once; how many constraints there are is then known before any is written. They go in runs whose
 // numbers differ by one step.
 ghost use mathlib.Core.Path.{_≡_};
-ghost use Prim.Native.Nat.{ℕ, suc, _+_, _*_, _<_, _≤_};
+ghost use Prim.Native.Nat.{ℕ, _+_, _*_, _<_, _≤_};
 ghost use lib.ListN.{length, getD};
 ghost use lib.Seq.{sets};
 ghost use Rattle.sheet.specs.Encoded.{quads};
 ghost use Rattle.above_terms.specs.AboveTerms.{AboveTermsWritten};
-ghost use Rattle.above_terms.specs.EngineAbove.{placePairs, allPairs, placesAbove};
+ghost use Rattle.above_terms.specs.EngineAbove.{slotPairs, allPairs, slotsAbove};
 use sheet::Bidder;
 use sheet::Slot;
 use slot_terms::Written;
@@ -18,9 +18,9 @@ use slot_terms::Written;
 const ABOVE: u32 = 1;
 
 // How many pairs of slots 1 to m have one above the other.
-fn places_above(m: u32) -> usize
+fn slots_above(m: u32) -> usize
     requires { ⌜ (0 < m) × (m ≤ 16) ⌝ }
-    ensures { λ r. ⌜ r ≡ placesAbove m ⌝ }
+    ensures { λ r. ⌜ r ≡ slotsAbove m ⌝ }
 {
     ((m - ABOVE) * (m + 1 - ABOVE) / 2) as usize
 }
@@ -28,8 +28,8 @@ fn places_above(m: u32) -> usize
 // The constraints with the owner at one slot are written at an offset: for each rival, in the order of the list, those with the rival at each slot above. Where
 // they end is returned.
 fn put_slot(result: &mut [u8], start: usize, owner: Bidder, own: Slot, others: &[u8]) -> usize
-    requires { ⌜ (owner .0 ≤ 64) × (0 < own .0) × (own .0 ≤ 16) × ((j : ℕ) → j < length (now others) → getD (now others) j 0 ≤ 64) × (start + 4 * length (placePairs (owner .0) (own .0) (now others) (length (now others))) ≤ length (now result)) ⌝ }
-    ensures { λ r. ⌜ (r ≡ start + 4 * length (placePairs (owner .0) (own .0) (now (others .entry)) (length (now (others .entry))))) × (now (result .exit) ≡ sets (now (result .entry)) start (quads (placePairs (owner .0) (own .0) (now (others .entry)) (length (now (others .entry)))))) ⌝ }
+    requires { ⌜ (owner .0 ≤ 64) × (0 < own .0) × (own .0 ≤ 16) × ((j : ℕ) → j < length (now others) → getD (now others) j 0 ≤ 64) × (start + 4 * length (slotPairs (owner .0) (own .0) (now others) (length (now others))) ≤ length (now result)) ⌝ }
+    ensures { λ r. ⌜ (r ≡ start + 4 * length (slotPairs (owner .0) (own .0) (now (others .entry)) (length (now (others .entry))))) × (now (result .exit) ≡ sets (now (result .entry)) start (quads (slotPairs (owner .0) (own .0) (now (others .entry)) (length (now (others .entry)))))) ⌝ }
 {
     let above = (own.0 as u32 - ABOVE) as usize;
     let mut at = start;
@@ -79,7 +79,7 @@ pub fn write(n: u32, m: u32, owner: u32, rivals: &[u8], result: &mut [u8]) -> Wr
     let mut space = [0u8; 64];
     let count = bidder_sets::list(set, n, &mut space);
     let others = &space[..count];
-    let each = places_above(m);
+    let each = slots_above(m);
     let pairs = others.len() * each;
     if 1024 < pairs {
         return slot_terms::refused(25);

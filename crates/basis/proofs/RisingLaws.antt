@@ -3,9 +3,23 @@
 -- And a list has no more members than a row with them all: without the last of the row, each is shorter by one at most. Assumes nothing.
 use Prim.Native.Nat.{ℕ, zero, suc, _<_, _≤_}
 use borrow.Author.Tests.{eq-eqb, ne-eqb}
-use mathlib.Core.Bool.{Bool, cond}
-use mathlib.Core.List.{List, [], _∷_, _++_, List·Memᴰ, List·Memᴰ·head, List·Memᴰ·tail, List·Memᴰ·cases-cons, Memᴰ·append-left, Memᴰ·append-right, List·Memᴰ·append-cases, List·Memᴰ·eq-of-singleton, List·Memᴰ·not-nil}
-use mathlib.Core.Logic.{_⊎_, inl, inr, ⊎-elim}
+use mathlib.Core.Bool.{Bool, true, false, cond}
+use mathlib.Core.List.{
+  List,
+  [],
+  _∷_,
+  _++_,
+  List·Memᴰ,
+  List·Memᴰ·head,
+  List·Memᴰ·tail,
+  List·Memᴰ·cases-cons,
+  Memᴰ·append-left,
+  Memᴰ·append-right,
+  List·Memᴰ·append-cases,
+  List·Memᴰ·eq-of-singleton,
+  List·Memᴰ·not-nil,
+}
+use mathlib.Core.Logic.{⊎-elim}
 use mathlib.Core.Path.{_≡_, refl, sym, _∙_, ap, ap₂, subst}
 use native.Mathlib.Nat.{eq-or-lt-of-le, le-of-suc-le-suc, not-suc-le-zero}
 use native.Mathlib.Omega.{arith}
@@ -15,7 +29,18 @@ use Rattle.basis.specs.Rows.{row, joined}
 use Rattle.basis.specs.Rising.{Rising}
 use Rattle.basis.proofs.NumberLaws.{same-or-not}
 
--- what a row has, what joined lists have, and what stands at an index
+-- numbers that rise from each index to the next rise over any distance
+pub rising-over : (f : ℕ → ℕ) (n : ℕ) → ((k : ℕ) → suc k < n → f k < f (suc k)) → (i j : ℕ) → i < j → j < n → f i < f j
+rising-over f n step i zero l m = absurd (omega arith)
+rising-over f n step i (suc j) l m =
+    let last = step j m in
+    let within : i ≤ j = omega arith in
+    ⊎-elim
+    (λ (e : i ≡ j). let same : f i ≡ f j = ap f e in omega arith)
+    (λ (h : i < j). let before = rising-over f n step i j h (omega arith) in omega arith)
+    (eq-or-lt-of-le within)
+
+-- what a row has, what joined lists have, what a list has that stands where a test holds, and what stands at an index
 module _ {A : Type 0} where
   pub mem-row : (f : ℕ → A) (n : ℕ) (x : A) → List·Memᴰ x (row f n) → (k : ℕ) × (k < n) × (x ≡ f k)
   unfolding row
@@ -52,6 +77,10 @@ module _ {A : Type 0} where
       (λ (e : k ≡ n). Memᴰ·append-right (joined f n) (subst (λ (j : ℕ). List·Memᴰ x (f j)) e m))
       (λ (h : k < n). Memᴰ·append-left (f n) (joined-mem f n k x h m))
       (eq-or-lt-of-le (le-of-suc-le-suc l))
+
+  pub mem-when : (t : Bool) (l : List A) (x : A) → List·Memᴰ x (cond t l []) → (t ≡ true) × List·Memᴰ x l
+  mem-when true l x m = (refl, m)
+  mem-when false l x m = absurd (List·Memᴰ·not-nil m)
 
   pub mem-at : (l : List A) (d x : A) → List·Memᴰ x l → (k : ℕ) × (k < length l) × (getD l k d ≡ x)
   mem-at [] d x m = absurd (List·Memᴰ·not-nil m)
@@ -111,12 +140,15 @@ module _ {A : Type 0} (key : A → ℕ) where
       (λ (h : List·Memᴰ x l). let b = r .0 in let above = rising-least (suc (key y)) hi l (r .1) x h in omega arith)
       (List·Memᴰ·cases-cons m)
 
-  -- each index is above the one before
+  -- each index is above the one before, and so above all before
   pub rising-next : (lo hi : ℕ) (l : List A) (d : A) → Rising key lo hi l → (k : ℕ) → suc k < length l → key (getD l k d) < key (getD l (suc k) d)
   rising-next lo hi [] d r k h = absurd (not-suc-le-zero h)
   rising-next lo hi (x ∷ []) d r k h = absurd (omega arith)
   rising-next lo hi (x ∷ y ∷ l) d r zero h = r .1 .0
   rising-next lo hi (x ∷ y ∷ l) d r (suc k) h = rising-next (suc (key x)) hi (y ∷ l) d (r .1) k (omega arith)
+
+  pub rising-at : (lo hi : ℕ) (l : List A) (d : A) → Rising key lo hi l → (j k : ℕ) → j < k → k < length l → key (getD l j d) < key (getD l k d)
+  rising-at lo hi l d r = rising-over (λ k. key (getD l k d)) (length l) (rising-next lo hi l d r)
 
   -- of the rest of a list with a first member: what is among all of another with the same first is among its rest
   rest-mem : (lo hi : ℕ) (x : A) (l l′ : List A) → Rising key lo hi (x ∷ l) → ((y : A) → List·Memᴰ y (x ∷ l) → List·Memᴰ y (x ∷ l′)) →

@@ -12,7 +12,7 @@ use Rattle.basis.specs.Rows.{joined}
 use Rattle.bidder_sets.specs.BidderSets.{setAt, endAt, setsEnd, rivalsOf}
 
 -- the bytes of the first n sets
-abbrev pub laid : (ℕ → List ℕ) → ℕ → List ℕ
+abbrev laid : (ℕ → List ℕ) → ℕ → List ℕ
 laid set n = joined (λ i. length (set (suc i)) ∷ set (suc i)) n
 
 module _ (set : ℕ → List ℕ) where

@@ -1,4 +1,4 @@
-pub mod ListedLaws
+pub mod MembersLaws
 pub mod SetLaws
 pub mod NumberedLaws
 pub mod LentLaws

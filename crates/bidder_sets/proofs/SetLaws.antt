@@ -1,10 +1,10 @@
 -- A set in one word: a bidder's bit is the one below its number; a list that is read has the bidders of its numbers, those so far and the next. And the list of
 -- a set: its bidders so far and the next, if that is a member. Assumes nothing.
-use Prim.Native.Nat.{ℕ, suc, _+_, _-_, _<_, _≤_}
+use Prim.Native.Nat.{ℕ, suc, _-_, _<_, _≤_}
 use borrow.Author.Tests.{eq-eqb, eqb-true}
 use mathlib.Core.Bool.{Bool, true, false, cond, _||_}
-use mathlib.Core.List.{List, [], _∷_, _++_, append-nil, List·Memᴰ, List·Memᴰ·eq-of-singleton, List·Memᴰ·not-nil}
-use mathlib.Core.Path.{_≡_, refl, sym, _∙_, ap, ap₂}
+use mathlib.Core.List.{List, [], _∷_, _++_, append-nil}
+use mathlib.Core.Path.{_≡_, sym, _∙_, ap, ap₂}
 use native.Mathlib.Nat.{zero-add}
 use native.Mathlib.Omega.{arith}
 use lib.Dec.{eqb}
@@ -15,11 +15,11 @@ use Rattle.basis.specs.Tests.{anyBelow}
 use Rattle.basis.proofs.BitLaws.{bit-zero}
 use Rattle.basis.proofs.CountLaws.{count-at-most}
 use Rattle.basis.proofs.NumberLaws.{eqb-turned}
-use Rattle.basis.proofs.RisingLaws.{mem-joined, at-mem}
+use Rattle.basis.proofs.RisingLaws.{at-mem}
 use Rattle.basis.proofs.RowLaws.{sets-then, sets-front}
 use Rattle.basis.proofs.TestLaws.{same-tests}
-use Rattle.bidder_sets.specs.EngineSets.{inWord, Holds, listed}
-use Rattle.bidder_sets.proofs.ListedLaws.{listed-many}
+use Rattle.bidder_sets.specs.EngineSets.{inWord, Holds, risingMembers}
+use Rattle.bidder_sets.proofs.MembersLaws.{members-where, members-many}
 
 -- two bidders have the same bit where they are the same
 pub same-bit : (a b : ℕ) → 0 < a → 0 < b → eqb (a - 1) (b - 1) ≡ eqb a b
@@ -43,34 +43,23 @@ next-among list k word more held added b some most = added b some most ∙ ap₂
 
 module _ (member : ℕ → Bool) where
   -- the list of a set with one bidder more, who is a member,
-  pub listed-member : (i : ℕ) → member (suc i) ≡ true → listed member (suc i) ≡ listed member i ++ (suc i ∷ [])
-  unfolding listed joined
-  listed-member i e = ap (λ (t : Bool). listed member i ++ cond t (suc i ∷ []) []) e
+  pub members-next : (i : ℕ) → member (suc i) ≡ true → risingMembers member (suc i) ≡ risingMembers member i ++ (suc i ∷ [])
+  unfolding risingMembers joined
+  members-next i e = ap (λ (t : Bool). risingMembers member i ++ cond t (suc i ∷ []) []) e
 
   -- or is not
-  pub listed-other : (i : ℕ) → member (suc i) ≡ false → listed member (suc i) ≡ listed member i
-  unfolding listed joined
-  listed-other i e = ap (λ (t : Bool). listed member i ++ cond t (suc i ∷ []) []) e ∙ append-nil (listed member i)
+  pub members-same : (i : ℕ) → member (suc i) ≡ false → risingMembers member (suc i) ≡ risingMembers member i
+  unfolding risingMembers joined
+  members-same i e = ap (λ (t : Bool). risingMembers member i ++ cond t (suc i ∷ []) []) e ∙ append-nil (risingMembers member i)
 
   -- it has at most all
-  pub listed-few : (n : ℕ) → length (listed member n) ≤ n
-  listed-few n = let same = listed-many member n in let most = count-at-most (λ i. member (suc i)) n in omega arith
+  pub members-few : (n : ℕ) → length (risingMembers member n) ≤ n
+  members-few n = let same = members-many member n in let most = count-at-most (λ i. member (suc i)) n in omega arith
 
   -- what stands in it are members of 1 to n
-  here : (k x : ℕ) (t : Bool) → List·Memᴰ x (cond t (suc k ∷ []) []) → (x ≡ suc k) × (t ≡ true)
-  here k x true m = (List·Memᴰ·eq-of-singleton m, refl)
-  here k x false m = absurd (List·Memᴰ·not-nil m)
-
-  pub listed-at : (n j : ℕ) → j < length (listed member n) →
-      (0 < getD (listed member n) j 0) × (getD (listed member n) j 0 ≤ n) × (member (getD (listed member n) j 0) ≡ true)
-  unfolding listed
-  listed-at n j l =
-      let x = getD (listed member n) j 0 in
-      let w = mem-joined (λ i. cond (member (suc i)) (suc i ∷ []) []) n x (at-mem (listed member n) 0 j l) in
-      let below : w .0 < n = w .1 in
-      let found = here (w .0) x (member (suc (w .0))) (w .2) in
-      let same : x ≡ suc (w .0) = found .0 in
-      (omega arith, omega arith, ap member same ∙ found .1)
+  pub members-at : (n j : ℕ) → j < length (risingMembers member n) →
+      (0 < getD (risingMembers member n) j 0) × (getD (risingMembers member n) j 0 ≤ n) × (member (getD (risingMembers member n) j 0) ≡ true)
+  members-at n j l = let found = members-where member n _ (at-mem (risingMembers member n) 0 j l) in (found .1, found .2, found .0)
 
 -- a list at the front of a space is taken back from there
 pub list-front : (space list : List ℕ) (count : ℕ) → count ≡ length list → length list ≤ length space → take count (sets space 0 list) ≡ list

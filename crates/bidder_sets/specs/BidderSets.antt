@@ -13,8 +13,8 @@ unfoldable pub inSet : List ℕ → ℕ → Bool
 inSet set b = anyBelow (λ k. eqb (getD set k 0) b) (length set)
 
 -- how many of bidders 1 to n are in the set
-unfoldable pub membersOf : (n : ℕ) → List ℕ → ℕ
-membersOf n set = countTo (λ i. inSet set (suc i)) n
+unfoldable pub memberCount : (n : ℕ) → List ℕ → ℕ
+memberCount n set = countTo (λ i. inSet set (suc i)) n
 
 -- "any set with a number 0 or above n"
 unfoldable pub numbersWrong : (n : ℕ) → List ℕ → Bool

@@ -6,20 +6,20 @@ ghost use lib.Dec.{eqb, ltb};
 ghost use lib.ListN.{length};
 ghost use lib.Seq.{sets};
 ghost use Rattle.bidder_sets.specs.BidderSets.{inSet, numbersWrong, setAt, endAt};
-ghost use Rattle.bidder_sets.specs.EngineSets.{inWord, Holds, listed};
+ghost use Rattle.bidder_sets.specs.EngineSets.{inWord, Holds, risingMembers};
 use sheet::Bidder;
 
 // A set of bidders, a bit each, bidder 1's the lowest.
 pub struct Bidders(pub u64);
 
 // What a lent list names: whether one of its numbers is 0 or above n, and else the set.
-pub struct Named {
+pub struct SetRead {
     pub wrong: bool,
     pub bidders: Bidders,
 }
 
 // One of several sets lent one after another: whether it runs past the bytes or a number is wrong, and else the set and where it ends.
-pub struct Lent {
+pub struct NextSet {
     pub wrong: bool,
     pub bidders: Bidders,
     pub end: usize,
@@ -72,7 +72,7 @@ pub fn without(set: Bidders, bidder: Bidder) -> Bidders
 }
 
 // The set that a list names.
-pub fn read(set: &[u8], n: u32) -> Named
+pub fn read(set: &[u8], n: u32) -> SetRead
     requires { ⌜ n ≤ 64 ⌝ }
     ensures { λ r. ⌜ (r .wrong ≡ numbersWrong n (now (set .entry))) × (r .wrong ≡ false → Holds (r .bidders .0) (inSet (now (set .entry)))) ⌝ }
 {
@@ -81,13 +81,13 @@ pub fn read(set: &[u8], n: u32) -> Named
     while k < set.len() {
         let bidder = Bidder(set[k] as u16);
         if bidder.0 == 0 {
-            return Named {
+            return SetRead {
                 wrong: true,
                 bidders,
             };
         }
         if n < bidder.0 as u32 {
-            return Named {
+            return SetRead {
                 wrong: true,
                 bidders,
             };
@@ -95,14 +95,14 @@ pub fn read(set: &[u8], n: u32) -> Named
         bidders = with(bidders, bidder);
         k += 1;
     }
-    Named {
+    SetRead {
         wrong: false,
         bidders,
     }
 }
 
 // The set whose length stands at a byte.
-pub fn read_at(sets: &[u8], at: usize, n: u32) -> Lent
+pub fn read_at(sets: &[u8], at: usize, n: u32) -> NextSet
     requires { ⌜ n ≤ 64 ⌝ }
     ensures { λ r. ⌜ (r .wrong ≡ (ltb (length (now (sets .entry))) (endAt (now (sets .entry)) at) || numbersWrong n (setAt (now (sets .entry)) at))) × (r .wrong ≡ false → (r .end ≡ endAt (now (sets .entry)) at) × Holds (r .bidders .0) (inSet (setAt (now (sets .entry)) at))) ⌝ }
 {
@@ -118,7 +118,7 @@ pub fn read_at(sets: &[u8], at: usize, n: u32) -> Lent
     let named = read(&sets[start..end], n);
     let wrong = named.wrong;
     let bidders = named.bidders;
-    Lent {
+    NextSet {
         wrong,
         bidders,
         end,
@@ -126,10 +126,10 @@ pub fn read_at(sets: &[u8], at: usize, n: u32) -> Lent
 }
 
 // Bytes that end before the set does.
-fn no_set() -> Lent
+fn no_set() -> NextSet
     ensures { λ r. ⌜ r .wrong ≡ true ⌝ }
 {
-    Lent {
+    NextSet {
         wrong: true,
         bidders: Bidders(0),
         end: 0,
@@ -139,7 +139,7 @@ fn no_set() -> Lent
 // The bidders of a set, up to bidder n, in rising order at the front of a space: how many they are.
 pub fn list(set: Bidders, n: u32, space: &mut [u8; 64]) -> usize
     requires { ⌜ n ≤ 64 ⌝ }
-    ensures { λ r. ⌜ (r ≡ length (listed (inWord (set .0)) n)) × (now (space .exit) ≡ sets (now (space .entry)) 0 (listed (inWord (set .0)) n)) ⌝ }
+    ensures { λ r. ⌜ (r ≡ length (risingMembers (inWord (set .0)) n)) × (now (space .exit) ≡ sets (now (space .entry)) 0 (risingMembers (inWord (set .0)) n)) ⌝ }
 {
     let mut count: usize = 0;
     let mut i: u32 = 0;

@@ -11,7 +11,7 @@ use lib.Dec.{eqb}
 use lib.ListN.{length, getD}
 use Rattle.basis.specs.Rows.{row, joined}
 use Rattle.basis.specs.Rising.{Rising}
-use Rattle.basis.proofs.RisingLaws.{mem-row, row-mem, mem-joined, joined-mem, mem-at, at-mem, rising-higher, rising-joined, rising-row, rising-next, rising-equal, rising-few}
+use Rattle.basis.proofs.RisingLaws.{mem-row, row-mem, mem-joined, joined-mem, mem-at, at-mem, rising-higher, rising-joined, rising-row, rising-next, rising-over, rising-equal, rising-few}
 use Rattle.basis.proofs.RowLaws.{joined-same, length-row}
 use Rattle.basis.proofs.TestLaws.{and-holds, and-parts, any-at, any-where}
 use Rattle.sheet.specs.Sheet.{
@@ -28,7 +28,6 @@ use Rattle.sheet.specs.Refusal.{Accepted}
 use Rattle.sheet.specs.Accepted.{fieldsNumber, numberOf, orderNumber, AcceptedSheet}
 use Rattle.sheet.specs.Encoded.{Condition, on, quads, conditionField}
 use Rattle.sheet.proofs.AcceptedLaws.{accepted-sheet}
-use Rattle.sheet.proofs.OrderLaws.{rising-over}
 use Rattle.canonical_sort.specs.EngineSort.{digitOf, DigitsBelow, Among, Sorted, EachOnce}
 use Rattle.canonical.specs.Canonical.{hasCondition, conditionsInOrder}
 use Rattle.canonical.specs.EngineParts.{numberBytes, numbersBytes, InSheetOrder}

@@ -59,14 +59,15 @@ use Rattle.demands.proofs.AboveTermsLaws.{
   above-twenty-five,
   above-nineteen,
   above-answered,
+  above-enough,
 }
+use Rattle.demands.proofs.SameSetsLaws.{same-members, same-rivals, read-lent}
 use Rattle.demands.proofs.ShareLaws.{
+  can-share,
   shared-right,
   first-places,
   no-page,
   all-written,
-  read-lent,
-  same-members,
   share-four,
   share-five,
   members-wrong,
@@ -75,6 +76,7 @@ use Rattle.demands.proofs.ShareLaws.{
   share-twenty-four,
   share-nineteen,
   share-answered,
+  share-enough,
 }
 
 -- what stands in lent memory is what stood there, or the result
@@ -205,7 +207,9 @@ request-two =
       many = above-many;
       same-set = same-terms;
       same-members = same-members;
+      same-rivals = same-rivals;
       read = read-lent;
+      can-share = can-share;
       shared = shared-right;
       all-written = all-written;
       on-first-places = first-places;
@@ -218,6 +222,7 @@ request-two =
       twenty-five = λ n m owner rivals out fit. above-twenty-five n m owner rivals out fit;
       nineteen = λ n m owner rivals out fit. above-nineteen n m owner rivals out fit;
       answered = λ n m owner rivals out fit. above-answered n m owner rivals out fit;
+      enough = λ n m owner rivals out fit. above-enough n m owner rivals out fit;
       share-four = share-four;
       share-five = share-five;
       members-wrong = members-wrong;
@@ -229,5 +234,8 @@ request-two =
           (fit .numbered) (fit .lent) (fit .each-numbered) (fit .not-itself);
       share-answered = λ n m members sets out fit.
           share-answered n m members sets out (fit .some-bidders) (fit .most-bidders) (fit .some-slots) (fit .most-slots)
+          (fit .numbered) (fit .lent) (fit .each-numbered) (fit .not-itself);
+      share-enough = λ n m members sets out fit.
+          share-enough n m members sets out (fit .some-bidders) (fit .most-bidders) (fit .some-slots) (fit .most-slots)
           (fit .numbered) (fit .lent) (fit .each-numbered) (fit .not-itself);
     }

@@ -10,5 +10,6 @@ pub mod CanonicalLaws
 pub mod ListLaws
 pub mod SlotTermsLaws
 pub mod AboveTermsLaws
+pub mod SameSetsLaws
 pub mod ShareLaws
 pub mod Demands

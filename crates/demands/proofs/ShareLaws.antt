@@ -1,7 +1,7 @@
 -- Request S-2's sharing: what the answer says of orders, and what it says of the pages of a round whose lists all come from the profile. Assumes nothing.
 use Prim.Native.Nat.{ℕ, zero, suc, _+_, _<_, _≤_}
 use borrow.Author.Tests.{eq-eqb, eqb-true, le-leb, leb-true}
-use mathlib.Core.Bool.{Bool, true, false, cond, _&&_}
+use mathlib.Core.Bool.{Bool, true, false, cond}
 use mathlib.Core.List.{List, [], _∷_, _++_}
 use mathlib.Core.Logic.{_⊎_, inl, inr, ⊎-elim}
 use mathlib.Core.Path.{_≡_, refl, sym, _∙_, ap, ap₂, subst}
@@ -9,7 +9,6 @@ use native.Mathlib.Omega.{arith}
 use lib.Dec.{leb}
 use lib.ListN.{length, getD, take, drop, List·getD-eq-default}
 use lib.Seq.{take-append-seam, drop-append-seam}
-use Rattle.basis.specs.Counting.{countTo}
 use Rattle.basis.specs.Rows.{row}
 use Rattle.basis.proofs.FirstLaws.{answered-gives}
 use Rattle.basis.proofs.NumberLaws.{below-or-not, same-or-not}
@@ -29,9 +28,11 @@ use Rattle.auction.specs.Broken.{ownHolds, otherHolds, broken, breaks}
 use Rattle.auction.specs.Allowed.{PageOf, Allowed}
 use Rattle.auction.proofs.PageLaws.{at-zero, placed-at, placed-where}
 use Rattle.auction.proofs.BrokenLaws.{broken-parts, parts-broken, breaks-at, none-breaks}
-use Rattle.bidder_sets.specs.BidderSets.{inSet, membersOf, numbersWrong, setsEnd, rivalsOf}
-use Rattle.bidder_sets.proofs.NumberedLaws.{wrong-at, numbered-right, in-numbered, same-set}
-use Rattle.bidder_sets.proofs.LentLaws.{lent-read, lent-end, exactly-laid}
+use Rattle.slot_terms.specs.SlotTerms.{sizeRefusal}
+use Rattle.slot_terms.proofs.RefusalLaws.{size-four, size-five, size-none}
+use Rattle.bidder_sets.specs.BidderSets.{inSet, memberCount, numbersWrong, setsEnd, rivalsOf}
+use Rattle.bidder_sets.proofs.NumberedLaws.{wrong-at, numbered-right, in-numbered}
+use Rattle.bidder_sets.proofs.LentLaws.{lent-end, exactly-laid}
 use Rattle.above_terms.specs.AboveTerms.{RivalAbove}
 use Rattle.share_page.specs.SharePage.{
   names,
@@ -44,7 +45,6 @@ use Rattle.share_page.specs.SharePage.{
   canShare,
   orderWritten,
   orderBuffer,
-  sizeRefusal,
   setsRefusal,
   shareRefusal,
   OrderOf,
@@ -54,40 +54,40 @@ use Rattle.share_page.proofs.GoodLaws.{without-parts, Good, order-good, good-or
 use Rattle.share_page.proofs.SharingLaws.{first-order, order-some, good-many}
 use Rattle.share_page.proofs.RefusalLaws as numbers
 use Rattle.pas.specs.Calls.{yesNumber, AboveTermsGiven, SharePageGiven}
-use Rattle.demands.specs.Demands.{Exactly, Numbered, Lent, SharedRight, AllNamed, HasAll, HasJust, ListSent}
+use Rattle.demands.specs.Demands.{Exactly, Numbered, Lent, SharedRight, AllFromProfile, HasAll, HasJust, ListSent}
 use Rattle.demands.proofs.AboveTermsLaws.{above-written}
 
 -- What a yes says and writes, where every member is a bidder.
 module _ (n m : ℕ) (members sets : List ℕ) (within : (b : ℕ) → inSet members b ≡ true → (0 < b) × (b ≤ n)) where
   -- an order has each member once
-  order-many : (l : List ℕ) → OrderOf (names sets) (inSet members) l → length l ≡ membersOf n members
-  unfolding membersOf
+  order-many : (l : List ℕ) → OrderOf (names sets) (inSet members) l → length l ≡ memberCount n members
+  unfolding memberCount
   order-many l o = good-many (names sets) n (inSet members) within (inSet members) (λ b h. h) l (order-good (names sets) (inSet members) l o)
 
-  yes-parts : canShare n m members sets ≡ true → (membersOf n members ≤ m) × (someOf (putsAbove (names sets)) (memberOrders n members) ≡ true)
+  yes-parts : canShare n m members sets ≡ true → (memberCount n members ≤ m) × (someOf (putsAbove (names sets)) (memberOrders n members) ≡ true)
   unfolding canShare
   yes-parts t =
-      let both = and-parts (leb (membersOf n members) m) (someOf (putsAbove (names sets)) (memberOrders n members)) t in
-      (leb-true (membersOf n members) m (both .0), both .1)
+      let both = and-parts (leb (memberCount n members) m) (someOf (putsAbove (names sets)) (memberOrders n members)) t in
+      (leb-true (memberCount n members) m (both .0), both .1)
 
   written-first : canShare n m members sets ≡ true → FirstOrder (names sets) (inSet members) (orderWritten n m members sets)
-  unfolding orderWritten membersOf
+  unfolding orderWritten memberCount
   written-first t =
       subst (FirstOrder (names sets) (inSet members)) (sym (ap (λ (s : Bool). cond s (firstOf (putsAbove (names sets)) (memberOrders n members)) []) t))
       (first-order (names sets) n (inSet members) within (yes-parts t .1))
 
-  written-many : canShare n m members sets ≡ true → length (orderWritten n m members sets) ≡ membersOf n members
+  written-many : canShare n m members sets ≡ true → length (orderWritten n m members sets) ≡ memberCount n members
   written-many t = order-many (orderWritten n m members sets) (written-first t .order)
 
-  yes-exactly : Exactly (canShare n m members sets ≡ true) ((membersOf n members ≤ m) × (l : List ℕ) × OrderOf (names sets) (inSet members) l)
-  unfolding canShare membersOf
+  yes-exactly : Exactly (canShare n m members sets ≡ true) ((memberCount n members ≤ m) × (l : List ℕ) × OrderOf (names sets) (inSet members) l)
+  unfolding canShare memberCount
   yes-exactly = (
     (λ t. (yes-parts t .0, orderWritten n m members sets, written-first t .order)),
-    λ (few, l, o). and-holds (le-leb (membersOf n members) m few) (order-some (names sets) n (inSet members) within l o),
+    λ (few, l, o). and-holds (le-leb (memberCount n members) m few) (order-some (names sets) n (inSet members) within l o),
   )
 
 pub can-share : (n m : ℕ) (members sets : List ℕ) → Numbered n members →
-    Exactly (canShare n m members sets ≡ true) ((membersOf n members ≤ m) × (l : List ℕ) × OrderOf (names sets) (inSet members) l)
+    Exactly (canShare n m members sets ≡ true) ((memberCount n members ≤ m) × (l : List ℕ) × OrderOf (names sets) (inSet members) l)
 can-share n m members sets right = yes-exactly n m members sets (in-numbered n members (numbered-right n members right))
 
 -- A no writes nothing.
@@ -136,10 +136,10 @@ module _ (n m : ℕ) (members sets out out′ : List ℕ) (before answer : ℕ) 
   said-no : answer ≡ 0 → yes ≡ false
   said-no e = fails yes (λ t. absurd (let one = yes-said t in omega arith))
 
-  many : answer ≡ 1 → length bytes ≡ membersOf n members
+  many : answer ≡ 1 → length bytes ≡ memberCount n members
   many e = written-many n m members sets within (said-yes e)
 
-  order-there : answer ≡ 1 → take (membersOf n members) out′ ≡ bytes
+  order-there : answer ≡ 1 → take (memberCount n members) out′ ≡ bytes
   order-there e = ap₂ take (sym (many e)) left ∙ take-append-seam bytes (drop (length bytes) out)
 
   pub shared-right : SharedRight n m members sets out out′ answer
@@ -175,7 +175,7 @@ pair-there p owner (suc own) (suc other) others a c b e e′ =
     (eq-eqb (at p (suc own)) owner e) (eq-eqb (at p others) (suc other) e′) (placed-at p owner (suc own) a c e)
 
 -- On a round whose lists all come from the profile.
-module _ (s sets : List ℕ) (ok : Accepted s) (all : AllNamed s sets) where
+module _ (s sets : List ℕ) (ok : Accepted s) (all : AllFromProfile s sets) where
   counts : (bidderCount s ≤ 64) × (slotCount s ≤ 16)
   counts = let c = accepted-sheet s ok .counts in (c .most-bidders, c .most-slots)
 
@@ -231,12 +231,12 @@ module _ (s sets : List ℕ) (ok : Accepted s) (all : AllNamed s sets) where
 
 -- The members of a yes on the first places.
 module _ (n m : ℕ) (members sets out out′ : List ℕ) (before : ℕ) (given : SharePageGiven n m members sets out before 0 out′ 1)
-    (s : List ℕ) (ok : Accepted s) (bidders : bidderCount s ≡ n) (slots : slotCount s ≡ m) (all : AllNamed s sets) where
+    (s : List ℕ) (ok : Accepted s) (bidders : bidderCount s ≡ n) (slots : slotCount s ≡ m) (all : AllFromProfile s sets) where
   right : SharedRight n m members sets out out′ 1
   right = shared-right n m members sets out out′ before 1 given
 
   abbrev order : List ℕ
-  order = take (membersOf n members) out′
+  order = take (memberCount n members) out′
 
   ordered : OrderOf (names sets) (inSet members) order
   ordered = right .first refl .order
@@ -348,7 +348,7 @@ module _ (n m : ℕ) (members sets out out′ : List ℕ) (before : ℕ) (given 
 -- A page that has all the members and breaks nothing.
 module _ (n m : ℕ) (members sets : List ℕ) (within : (b : ℕ) → inSet members b ≡ true → (0 < b) × (b ≤ n))
     (other : (i : ℕ) → i < n → names sets (suc i) (suc i) ≡ false)
-    (s : List ℕ) (ok : Accepted s) (bidders : bidderCount s ≡ n) (slots : slotCount s ≡ m) (all : AllNamed s sets)
+    (s : List ℕ) (ok : Accepted s) (bidders : bidderCount s ≡ n) (slots : slotCount s ≡ m) (all : AllFromProfile s sets)
     (p : Page) (none : breaks (roundOf s) p ≡ false) where
   -- those of a set that stand on slots k + 1 to k + c, from the top
   standing : (ℕ → Bool) → ℕ → ℕ → List ℕ
@@ -448,7 +448,7 @@ module _ (n m : ℕ) (members sets : List ℕ) (within : (b : ℕ) → inSet mem
 
 -- No page has the members of a no.
 pub no-page : (n m : ℕ) (members sets out out′ : List ℕ) (before : ℕ) → SharePageGiven n m members sets out before 0 out′ 0 →
-    (s : List ℕ) → Accepted s → bidderCount s ≡ n → slotCount s ≡ m → AllNamed s sets →
+    (s : List ℕ) → Accepted s → bidderCount s ≡ n → slotCount s ≡ m → AllFromProfile s sets →
     (p : Page) → PageOf (roundOf s) p → breaks (roundOf s) p ≡ false → HasAll p members → ⊥
 no-page n m members sets out out′ before given s ok bidders slots all p page none has =
     let facts = known n m members sets out out′ before 0 given in
@@ -459,7 +459,7 @@ no-page n m members sets out out′ before given s ok bidders slots all p page n
 -- Lists written by the profile's call with the rival sets are such lists.
 pub all-written : (n m : ℕ) (s sets : List ℕ) → Accepted s → bidderCount s ≡ n → slotCount s ≡ m →
     ((i : ℕ) → 0 < i → i ≤ n → (out out′ : List ℕ) × (before count : ℕ) × AboveTermsGiven n m i (rivalsOf sets i) out before 0 out′ count × ListSent s i out′ count) →
-    AllNamed s sets
+    AllFromProfile s sets
 unfolding conditionField
 all-written n m s sets ok bidders slots given =
     record {
@@ -477,33 +477,17 @@ all-written n m s sets ok bidders slots given =
           (list .conditions (conditionField s k) .0 (w .5 .no-other k l refl) .1);
     }
 
--- Sets lent one after another are read as they were lent.
-pub read-lent : (n : ℕ) (sets : List ℕ) (set : ℕ → List ℕ) → Lent n sets set → (i : ℕ) → 0 < i → i ≤ n → rivalsOf sets i ≡ set i
-read-lent n sets set lent zero some most = absurd (omega arith)
-read-lent n sets set lent (suc i) some most = ap (λ (x : List ℕ). rivalsOf x (suc i)) lent ∙ lent-read set n i most
-
--- Lists with the same members.
-pub same-members : (n m : ℕ) (members members′ sets out : List ℕ) → ((b : ℕ) → inSet members b ≡ inSet members′ b) →
-    (canShare n m members sets ≡ canShare n m members′ sets) × (orderBuffer n m members sets out ≡ orderBuffer n m members′ sets out)
-unfolding canShare orderBuffer orderWritten membersOf
-same-members n m members members′ sets out same =
-    let e = same-set members members′ same in
-    let orders : (ℕ → Bool) → List (List ℕ) = (λ f. ordersOf n (countTo (λ i. f (suc i)) n) f) in
-    let asked : (ℕ → Bool) → Bool = (λ f. leb (countTo (λ i. f (suc i)) n) m && someOf (putsAbove (names sets)) (orders f)) in
-    let bytes : (ℕ → Bool) → List ℕ = (λ f. cond (asked f) (firstOf (putsAbove (names sets)) (orders f)) []) in
-    (ap asked e, ap (λ (f : ℕ → Bool). bytes f ++ drop (length (bytes f)) out) e)
-
 -- The call's numbers.
 module _ (n m : ℕ) (members sets out : List ℕ) where
   pub share-four : (n ≡ 0) ⊎ (64 < n) → shareRefusal n m members sets out ≡ 4
-  share-four bad = numbers.size-first n m members sets out 3 (numbers.size-four n m bad)
+  share-four bad = numbers.size-first n m members sets out 3 (size-four n m bad)
 
   pub share-five : 0 < n → n ≤ 64 → (m ≡ 0) ⊎ (16 < m) → shareRefusal n m members sets out ≡ 5
-  share-five some most bad = numbers.size-first n m members sets out 4 (numbers.size-five n m some most bad)
+  share-five some most bad = numbers.size-first n m members sets out 4 (size-five n m some most bad)
 
   module _ (some : 0 < n) (most : n ≤ 64) (some-m : 0 < m) (most-m : m ≤ 16) where
     fits : sizeRefusal n m ≡ 0
-    fits = numbers.size-none n m some most some-m most-m
+    fits = size-none n m some most some-m most-m
 
     pub members-wrong : (k : ℕ) → k < length members → (getD members k 0 ≡ 0) ⊎ (n < getD members k 0) → shareRefusal n m members sets out ≡ 23
     members-wrong k l bad = numbers.members-wrong n m members sets out fits (wrong-at n members k l bad)
@@ -536,22 +520,35 @@ module _ (n m : ℕ) (members sets out : List ℕ) where
         none : setsRefusal n sets ≡ 0
         none = numbers.sets-none n sets ends numbered (λ i l. other (suc i) (omega arith) l)
 
-        yes-many : canShare n m members sets ≡ true → length (orderWritten n m members sets) ≡ membersOf n members
+        yes-many : canShare n m members sets ≡ true → length (orderWritten n m members sets) ≡ memberCount n members
         yes-many = written-many n m members sets (in-numbered n members members-right)
 
-        pub share-nineteen : canShare n m members sets ≡ true → length out < membersOf n members → shareRefusal n m members sets out ≡ 19
+        pub share-nineteen : canShare n m members sets ≡ true → length out < memberCount n members → shareRefusal n m members sets out ≡ 19
         share-nineteen t short =
             let many = yes-many t in
             numbers.nineteen n m members sets out fits members-right none (omega arith)
 
-        pub share-answered : (canShare n m members sets ≡ false) ⊎ (membersOf n members ≤ length out) → shareRefusal n m members sets out ≡ 0
+        pub share-answered : (canShare n m members sets ≡ false) ⊎ (memberCount n members ≤ length out) → shareRefusal n m members sets out ≡ 0
         share-answered enough =
             numbers.answered n m members sets out fits members-right none
             (⊎-elim
             (λ (t : canShare n m members sets ≡ true).
             ⊎-elim
             (λ (f : canShare n m members sets ≡ false). absurd (not-both t f))
-            (λ (l : membersOf n members ≤ length out). let many = yes-many t in omega arith)
+            (λ (l : memberCount n members ≤ length out). let many = yes-many t in omega arith)
             enough)
             (λ (f : canShare n m members sets ≡ false). let nothing = ap length (written-no n m members sets f) in omega arith)
+            (holds-or-fails (canShare n m members sets)))
+
+        pub share-enough : m ≤ length out → shareRefusal n m members sets out ≡ 0
+        unfolding canShare
+        share-enough room =
+            share-answered
+            (⊎-elim
+            (λ (t : canShare n m members sets ≡ true).
+            let few =
+            leb-true (memberCount n members) m
+            (and-parts (leb (memberCount n members) m) (someOf (putsAbove (names sets)) (ordersOf n (memberCount n members) (inSet members))) t .0) in
+            inr (omega arith))
+            (λ (f : canShare n m members sets ≡ false). inl f)
             (holds-or-fails (canShare n m members sets)))

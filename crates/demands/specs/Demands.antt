@@ -40,7 +40,7 @@ use Rattle.owner_part.specs.declared.Before.{Before}
 use Rattle.owner_part.specs.OwnerPart.{partRefusal, bytesBefore, constraintsOf, partLength, beforeOf, PartHanded}
 use Rattle.canonical.specs.Canonical.{canonicalSheet, canonicalRefusal, canonicalBuffer, SameRound}
 use Rattle.slot_terms.specs.SlotTerms.{barFor, ByLimit, ByBar, slotTerms, slotTermsRefusal, conditionsBuffer, OwnerFits, TermsFit}
-use Rattle.bidder_sets.specs.BidderSets.{inSet, membersOf, rivalsOf}
+use Rattle.bidder_sets.specs.BidderSets.{inSet, memberCount, rivalsOf}
 use Rattle.above_terms.specs.AboveTerms.{RivalAbove, aboveTerms, aboveTermsRefusal}
 use Rattle.share_page.specs.SharePage.{names, canShare, orderBuffer, shareRefusal, OrderOf, FirstOrder}
 use Rattle.pas.specs.Calls.{yesNumber, DownwardGiven, GainGiven, GainFloorsGiven, BestPageGiven, BestFloorsPageGiven, PartGiven, CanonicalGiven, SlotTermsGiven, AboveTermsGiven, SharePageGiven}
@@ -521,21 +521,21 @@ pub record SetsFit (n m : ℕ) (members sets : List ℕ) : Type 0 where
 pub record SharedRight (n m : ℕ) (members sets out out′ : List ℕ) (answer : ℕ) : Type 0 where
   pub yes-or-no : (answer ≡ 1) ⊎ (answer ≡ 0)
   -- "yes exactly when the set has at most m members and some order of them puts each above every rival of its own in the set"
-  pub yes : Exactly (answer ≡ 1) ((membersOf n members ≤ m) × (l : List ℕ) × OrderOf (names sets) (inSet members) l)
+  pub yes : Exactly (answer ≡ 1) ((memberCount n members ≤ m) × (l : List ℕ) × OrderOf (names sets) (inSet members) l)
   -- "a yes writes the first such order in dictionary order, one byte a member, and no later byte. A no writes nothing."
-  pub first : answer ≡ 1 → FirstOrder (names sets) (inSet members) (take (membersOf n members) out′)
-  pub room : answer ≡ 1 → membersOf n members ≤ length out
-  pub later : answer ≡ 1 → drop (membersOf n members) out′ ≡ drop (membersOf n members) out
+  pub first : answer ≡ 1 → FirstOrder (names sets) (inSet members) (take (memberCount n members) out′)
+  pub room : answer ≡ 1 → memberCount n members ≤ length out
+  pub later : answer ≡ 1 → drop (memberCount n members) out′ ≡ drop (memberCount n members) out
   pub nothing : answer ≡ 0 → out′ ≡ out
 
--- A sheet's lists all come from the profile, with these rival sets: each bidder's list has the pairs in which a rival of its own set stands above it, each in any
--- order and any number of times, and no other.
-pub record AllNamed (s sets : List ℕ) : Type 0 where
+-- A sheet's lists all come from the profile, with these rival sets: each bidder's list has all pairs in which a rival of its own set stands above it, in any
+-- order and each any number of times, and no other condition.
+pub record AllFromProfile (s sets : List ℕ) : Type 0 where
   pub each : (q : Condition) → 0 < q .owner → q .owner ≤ bidderCount s → RivalAbove (slotCount s) (rivalsOf sets (q .owner)) q →
       (k : ℕ) × (k < constraintCount s) × (conditionField s k ≡ q)
   pub no-other : (k : ℕ) → k < constraintCount s → RivalAbove (slotCount s) (rivalsOf sets (ownerField s k)) (conditionField s k)
 
--- all members have a place on a page, and nobody else has
+-- all members have a place on a page; and nobody else has
 abbrev pub HasAll : Page → List ℕ → Type 0
 HasAll p members = (b : ℕ) → inSet members b ≡ true → placed p b ≡ true
 
@@ -546,29 +546,39 @@ pub record RequestTwo : Type 0 where
   -- what is written, wherever the call is not refused: for each rival all pairs in which its place is above the owner's
   pub written : (n m owner : ℕ) (rivals out out′ : List ℕ) (before count : ℕ) → AboveTermsGiven n m owner rivals out before 0 out′ count →
       ListWritten n m owner (RivalAbove m rivals) out out′ count
-  -- m × (m − 1) / 2 for each rival, and never more than 1,024
+  -- m × (m − 1) / 2 for each rival, and never more than 1,014
   pub many : (n m owner : ℕ) (rivals out out′ : List ℕ) (before count : ℕ) → AboveTermsGiven n m owner rivals out before 0 out′ count →
-      (2 * count ≡ membersOf n rivals * (m * (m - 1))) × (count ≤ 1_024)
-  -- "a repeat counts once": lists with the same members are one set, for both calls
-  pub same-set : (n m owner : ℕ) (rivals rivals′ : List ℕ) → ((b : ℕ) → inSet rivals b ≡ inSet rivals′ b) → aboveTerms n m owner rivals ≡ aboveTerms n m owner rivals′
+      (2 * count ≡ memberCount n rivals * (m * (m - 1))) × (count ≤ 1_014)
+  -- "a repeat counts once": with lists that have the same members both calls return and leave the same, and so does the second with rival sets that have the
+  -- same members
+  pub same-set : (n m owner : ℕ) (rivals rivals′ out : List ℕ) → ((b : ℕ) → inSet rivals b ≡ inSet rivals′ b) →
+      (aboveTermsRefusal n m owner rivals out ≡ aboveTermsRefusal n m owner rivals′ out) × (aboveTerms n m owner rivals ≡ aboveTerms n m owner rivals′)
   pub same-members : (n m : ℕ) (members members′ sets out : List ℕ) → ((b : ℕ) → inSet members b ≡ inSet members′ b) →
-      (canShare n m members sets ≡ canShare n m members′ sets) × (orderBuffer n m members sets out ≡ orderBuffer n m members′ sets out)
+      (shareRefusal n m members sets out ≡ shareRefusal n m members′ sets out)
+      × (canShare n m members sets ≡ canShare n m members′ sets)
+      × (orderBuffer n m members sets out ≡ orderBuffer n m members′ sets out)
+  pub same-rivals : (n m : ℕ) (members sets sets′ out : List ℕ) → ((b x : ℕ) → names sets b x ≡ names sets′ b x) →
+      (canShare n m members sets ≡ canShare n m members sets′) × (orderBuffer n m members sets out ≡ orderBuffer n m members sets′ out)
   -- sets lent one after another, each with its length before it, are read as they were lent
-  pub read : (n : ℕ) (sets : List ℕ) (set : ℕ → List ℕ) → Lent n sets set → (i : ℕ) → 0 < i → i ≤ n → rivalsOf sets i ≡ set i
+  pub read : (n : ℕ) (sets : List ℕ) (set : ℕ → List ℕ) → Lent n sets set →
+      ((i : ℕ) → 0 < i → i ≤ n → rivalsOf sets i ≡ set i) × Lent n sets (rivalsOf sets)
+  -- when the definition says yes, be the call refused or not
+  pub can-share : (n m : ℕ) (members sets : List ℕ) → Numbered n members →
+      Exactly (canShare n m members sets ≡ true) ((memberCount n members ≤ m) × (l : List ℕ) × OrderOf (names sets) (inSet members) l)
   -- the answer, wherever the call is not refused
   pub shared : (n m : ℕ) (members sets out out′ : List ℕ) (before answer : ℕ) → SharePageGiven n m members sets out before 0 out′ answer →
       SharedRight n m members sets out out′ answer
   -- lists written by the one call, with the rival sets lent to the other, are such lists
   pub all-written : (n m : ℕ) (s sets : List ℕ) → Accepted s → bidderCount s ≡ n → slotCount s ≡ m →
       ((i : ℕ) → 0 < i → i ≤ n → (out out′ : List ℕ) × (before count : ℕ) × AboveTermsGiven n m i (rivalsOf sets i) out before 0 out′ count × ListSent s i out′ count) →
-      AllNamed s sets
+      AllFromProfile s sets
   -- on a round with such lists, the members of a yes stand on the first places in the order written, nobody else stands anywhere, and no condition is broken
   pub on-first-places : (n m : ℕ) (members sets out out′ : List ℕ) (before : ℕ) → SharePageGiven n m members sets out before 0 out′ 1 →
-      (s : List ℕ) → Accepted s → bidderCount s ≡ n → slotCount s ≡ m → AllNamed s sets →
-      (p : Page) × ((k : ℕ) → at p (suc k) ≡ getD (take (membersOf n members) out′) k 0) × HasJust p members × Allowed (roundOf s) p
+      (s : List ℕ) → Accepted s → bidderCount s ≡ n → slotCount s ≡ m → AllFromProfile s sets →
+      (p : Page) × ((k : ℕ) → at p (suc k) ≡ getD (take (memberCount n members) out′) k 0) × HasJust p members × Allowed (roundOf s) p
   -- and where the answer is no, no page of that round has all of them, be others there or not, without breaking one
   pub on-no-page : (n m : ℕ) (members sets out out′ : List ℕ) (before : ℕ) → SharePageGiven n m members sets out before 0 out′ 0 →
-      (s : List ℕ) → Accepted s → bidderCount s ≡ n → slotCount s ≡ m → AllNamed s sets →
+      (s : List ℕ) → Accepted s → bidderCount s ≡ n → slotCount s ≡ m → AllFromProfile s sets →
       (p : Page) → PageOf (roundOf s) p → breaks (roundOf s) p ≡ false → HasAll p members → ⊥
   -- the numbers of the profile's call: 4, 5 and 16 first, then 23 and 24,
   pub four : (n m owner : ℕ) (rivals out : List ℕ) → (n ≡ 0) ⊎ (64 < n) → aboveTermsRefusal n m owner rivals out ≡ 4
@@ -578,11 +588,14 @@ pub record RequestTwo : Type 0 where
       aboveTermsRefusal n m owner rivals out ≡ 23
   pub twenty-four : (n m owner : ℕ) (rivals out : List ℕ) → OwnerFits n m owner → Numbered n rivals → inSet rivals owner ≡ true → aboveTermsRefusal n m owner rivals out ≡ 24
   -- then 25 for more than 1,024 conditions, 19 for a buffer shorter than four bytes for each, and none for any other
-  pub twenty-five : (n m owner : ℕ) (rivals out : List ℕ) → RivalsFit n m owner rivals → 2_048 < membersOf n rivals * (m * (m - 1)) → aboveTermsRefusal n m owner rivals out ≡ 25
-  pub nineteen : (n m owner : ℕ) (rivals out : List ℕ) → RivalsFit n m owner rivals → membersOf n rivals * (m * (m - 1)) ≤ 2_048 →
-      length out < 2 * (membersOf n rivals * (m * (m - 1))) → aboveTermsRefusal n m owner rivals out ≡ 19
-  pub answered : (n m owner : ℕ) (rivals out : List ℕ) → RivalsFit n m owner rivals → membersOf n rivals * (m * (m - 1)) ≤ 2_048 →
-      2 * (membersOf n rivals * (m * (m - 1))) ≤ length out → aboveTermsRefusal n m owner rivals out ≡ 0
+  pub twenty-five : (n m owner : ℕ) (rivals out : List ℕ) → RivalsFit n m owner rivals → 2_048 < memberCount n rivals * (m * (m - 1)) → aboveTermsRefusal n m owner rivals out ≡ 25
+  pub nineteen : (n m owner : ℕ) (rivals out : List ℕ) → RivalsFit n m owner rivals → memberCount n rivals * (m * (m - 1)) ≤ 2_048 →
+      length out < 2 * (memberCount n rivals * (m * (m - 1))) → aboveTermsRefusal n m owner rivals out ≡ 19
+  pub answered : (n m owner : ℕ) (rivals out : List ℕ) → RivalsFit n m owner rivals → memberCount n rivals * (m * (m - 1)) ≤ 2_048 →
+      2 * (memberCount n rivals * (m * (m - 1))) ≤ length out → aboveTermsRefusal n m owner rivals out ≡ 0
+  -- 4,056 bytes are always enough
+  pub enough : (n m owner : ℕ) (rivals out : List ℕ) → RivalsFit n m owner rivals → memberCount n rivals * (m * (m - 1)) ≤ 2_048 → 4_056 ≤ length out →
+      aboveTermsRefusal n m owner rivals out ≡ 0
   -- the numbers of the sharing call: 4 and 5, then 23 for a number of the members, for bytes that are not n sets, and for a number of a set,
   pub share-four : (n m : ℕ) (members sets out : List ℕ) → (n ≡ 0) ⊎ (64 < n) → shareRefusal n m members sets out ≡ 4
   pub share-five : (n m : ℕ) (members sets out : List ℕ) → 0 < n → n ≤ 64 → (m ≡ 0) ⊎ (16 < m) → shareRefusal n m members sets out ≡ 5
@@ -595,7 +608,9 @@ pub record RequestTwo : Type 0 where
   pub share-twenty-four : (n m : ℕ) (members sets out : List ℕ) → 0 < n → n ≤ 64 → 0 < m → m ≤ 16 → Numbered n members → Lent n sets (rivalsOf sets) →
       ((i : ℕ) → 0 < i → i ≤ n → Numbered n (rivalsOf sets i)) → (i : ℕ) → 0 < i → i ≤ n → names sets i i ≡ true → shareRefusal n m members sets out ≡ 24
   -- then 19 for a yes with a buffer shorter than the members, and none for any other
-  pub share-nineteen : (n m : ℕ) (members sets out : List ℕ) → SetsFit n m members sets → canShare n m members sets ≡ true → length out < membersOf n members →
+  pub share-nineteen : (n m : ℕ) (members sets out : List ℕ) → SetsFit n m members sets → canShare n m members sets ≡ true → length out < memberCount n members →
       shareRefusal n m members sets out ≡ 19
-  pub share-answered : (n m : ℕ) (members sets out : List ℕ) → SetsFit n m members sets → (canShare n m members sets ≡ false) ⊎ (membersOf n members ≤ length out) →
+  pub share-answered : (n m : ℕ) (members sets out : List ℕ) → SetsFit n m members sets → (canShare n m members sets ≡ false) ⊎ (memberCount n members ≤ length out) →
       shareRefusal n m members sets out ≡ 0
+  -- m bytes are always enough
+  pub share-enough : (n m : ℕ) (members sets out : List ℕ) → SetsFit n m members sets → m ≤ length out → shareRefusal n m members sets out ≡ 0

@@ -10,12 +10,12 @@ use native.Mathlib.Nat.{eq-or-lt-of-le}
 use native.Mathlib.Omega.{arith}
 use lib.Dec.{ltb}
 use Rattle.basis.proofs.NumberLaws.{below-or-not}
+use Rattle.basis.proofs.RisingLaws.{rising-over}
 use Rattle.basis.proofs.TestLaws.{least-at-most, least-before, least-passes, least-is}
 use Rattle.sheet.specs.Sheet.{version, constraintCount, ownerField}
 use Rattle.sheet.specs.Refusal.{Accepted}
 use Rattle.sheet.specs.Accepted.{orderNumber, AcceptedSheet}
 use Rattle.sheet.proofs.AcceptedLaws.{accepted-sheet}
-use Rattle.sheet.proofs.OrderLaws.{rising-over}
 use Rattle.owner_part.specs.OwnerPart.{firstFrom}
 
 -- whether the condition at index k has the owner i or a higher one

@@ -220,18 +220,18 @@ pub extern "C" fn pas_share_page(
     n: u32,
     m: u32,
     members: &[u8],
-    rivals: &[u8],
+    sets: &[u8],
     result: &mut [u8],
     answer: &mut u8,
 ) -> u32
-    ensures { λ r. ⌜ SharePageGiven n m (now (members .entry)) (now (rivals .entry)) (now (result .entry)) (now (answer .entry)) r (now (result .exit)) (now (answer .exit)) ⌝ }
+    ensures { λ r. ⌜ SharePageGiven n m (now (members .entry)) (now (sets .entry)) (now (result .entry)) (now (answer .entry)) r (now (result .exit)) (now (answer .exit)) ⌝ }
 {
-    let given = share_page::share(n, m, members, rivals, result);
+    let given = share_page::share(n, m, members, sets, result);
     let refusal = given.refusal;
     if refusal != 0 {
         return refusal;
     }
-    let yes = given.yes;
-    *answer = yes_number(yes);
+    let shared = given.yes;
+    *answer = yes_number(shared);
     0
 }

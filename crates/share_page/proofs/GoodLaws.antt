@@ -110,32 +110,32 @@ ordered-once f (x ∷ l) o zero (suc k) h h′ e = absurd (away f x l o k (omega
 ordered-once f (x ∷ l) o (suc j) zero h h′ e = absurd (away f x l o j (omega arith) (sym e))
 ordered-once f (x ∷ l) o (suc j) (suc k) h h′ e = ap suc (ordered-once (without f x) l (o .1) j k (omega arith) (omega arith) e)
 
-module _ (named : ℕ → ℕ → Bool) where
+module _ (rival : ℕ → ℕ → Bool) where
   -- each above every rival of its own, by index
   abbrev pub Above : List ℕ → Type 0
-  Above l = (j k : ℕ) → j < length l → k < length l → named (getD l j 0) (getD l k 0) ≡ true → j < k
+  Above l = (j k : ℕ) → j < length l → k < length l → rival (getD l j 0) (getD l k 0) ≡ true → j < k
 
-  pub ordered-order : (f : ℕ → Bool) (l : List ℕ) → Ordered f l → Above l → OrderOf named f l
+  pub ordered-order : (f : ℕ → Bool) (l : List ℕ) → Ordered f l → Above l → OrderOf rival f l
   ordered-order f l o a = record { members = ordered-members f l o; all = ordered-all f l o; once = ordered-once f l o; above = a }
 
   -- no member names x
   abbrev pub Free : (ℕ → Bool) → ℕ → Type 0
-  Free f x = (j : ℕ) → f j ≡ true → named j x ≡ false
+  Free f x = (j : ℕ) → f j ≡ true → rival j x ≡ false
 
   -- an order that puts each above every rival of its own, head first
   abbrev pub Good : (ℕ → Bool) → List ℕ → Type 0
   Good f [] = (b : ℕ) → f b ≡ false
   Good f (x ∷ l) = (f x ≡ true) × Free f x × Good (without f x) l
 
-  pub order-good : (f : ℕ → Bool) (l : List ℕ) → OrderOf named f l → Good f l
+  pub order-good : (f : ℕ → Bool) (l : List ℕ) → OrderOf rival f l → Good f l
   order-good f [] o = λ b. fails (f b) (λ t. not-suc-le-zero (o .all b t .1))
   order-good f (x ∷ l) o = (
     o .members 0 (omega arith),
     (λ j t.
-        fails (named j x)
+        fails (rival j x)
         (λ u.
         let w = o .all j t in
-        not-suc-le-zero (o .above (w .0) 0 (w .1) (omega arith) (subst (λ (y : ℕ). named y x ≡ true) (sym (w .2)) u)))),
+        not-suc-le-zero (o .above (w .0) 0 (w .1) (omega arith) (subst (λ (y : ℕ). rival y x ≡ true) (sym (w .2)) u)))),
     order-good (without f x) l
         (record {
           members = λ k h.
@@ -164,7 +164,7 @@ module _ (named : ℕ → ℕ → Bool) where
   good-above f (x ∷ l) g zero (suc k) h h′ e = omega arith
   good-above f (x ∷ l) g (suc j) (suc k) h h′ e = let z = good-above (without f x) l (g .2) j k (omega arith) (omega arith) e in omega arith
 
-  pub good-order : (f : ℕ → Bool) (l : List ℕ) → Good f l → OrderOf named f l
+  pub good-order : (f : ℕ → Bool) (l : List ℕ) → Good f l → OrderOf rival f l
   good-order f l g = ordered-order f l (good-ordered f l g) (good-above f l g)
 
   -- one taken out of a good order leaves a good order of the others

@@ -3,40 +3,16 @@ use Prim.Native.Nat.{ℕ, suc, _<_, _≤_}
 use borrow.Author.Tests.{eq-eqb, ne-eqb, eqb-true, lt-ltb, le-ltb, ltb-false, not-false}
 use mathlib.Core.Bool.{Bool, true, false, not, _||_}
 use mathlib.Core.List.{List}
-use mathlib.Core.Logic.{_⊎_}
 use mathlib.Core.Path.{_≡_, refl, _∙_, ap}
 use lib.Dec.{eqb, ltb}
 use lib.ListN.{length}
 use Rattle.basis.specs.First.{_when_otherwise_, orElse}
 use Rattle.basis.specs.Tests.{anyBelow}
 use Rattle.basis.proofs.FirstLaws.{orElse-none, orElse-right, when-none}
-use Rattle.basis.proofs.NumberLaws.{outside, inside, from-inside}
 use Rattle.basis.proofs.TestLaws.{or-left, or-right, or-none, or-fails, not-holds, any-at, any-none, none-any}
+use Rattle.slot_terms.specs.SlotTerms.{sizeRefusal}
 use Rattle.bidder_sets.specs.BidderSets.{numbersWrong, setsEnd, rivalsOf}
-use Rattle.share_page.specs.SharePage.{names, orderWritten, sizeRefusal, setsRefusal, shareRefusal}
-
--- 4 and 5
-module _ (n m : ℕ) where
-  pub size-four : (n ≡ 0) ⊎ (64 < n) → sizeRefusal n m ≡ 4
-  unfolding sizeRefusal
-  size-four bad = simp (outside n 64 bad)
-
-  pub size-five : 0 < n → n ≤ 64 → (m ≡ 0) ⊎ (16 < m) → sizeRefusal n m ≡ 5
-  unfolding sizeRefusal
-  size-five some most bad = simp (inside n 64 some most, outside m 16 bad)
-
-  pub size-none : 0 < n → n ≤ 64 → 0 < m → m ≤ 16 → sizeRefusal n m ≡ 0
-  unfolding sizeRefusal
-  size-none some most some-m most-m = simp (inside n 64 some most, inside m 16 some-m most-m)
-
-  pub sized : sizeRefusal n m ≡ 0 → (0 < n) × (n ≤ 64) × (0 < m) × (m ≤ 16)
-  unfolding sizeRefusal
-  sized e =
-      let first = when-none 3 (eqb n 0 || ltb 64 n) _ e in
-      let second = when-none 4 (eqb m 0 || ltb 16 m) 0 (first .1) in
-      let bidders = from-inside n 64 (first .0) in
-      let slots = from-inside m 16 (second .0) in
-      (bidders .0, bidders .1, slots .0, slots .1)
+use Rattle.share_page.specs.SharePage.{names, orderWritten, setsRefusal, shareRefusal}
 
 -- 23 and 24 of the rival sets
 module _ (n : ℕ) (sets : List ℕ) where

@@ -14,7 +14,7 @@ use Rattle.basis.specs.Rows.{row, joined}
 use Rattle.basis.specs.Tests.{allBelow, least}
 use Rattle.basis.proofs.CountLaws as counts
 use Rattle.basis.proofs.NumberLaws.{below-or-not}
-use Rattle.basis.proofs.RisingLaws.{mem-at, at-mem, mem-joined, joined-mem, rising-next}
+use Rattle.basis.proofs.RisingLaws.{mem-at, at-mem, mem-when, mem-joined, joined-mem, rising-at}
 use Rattle.basis.proofs.RowLaws.{row-head, row-same}
 use Rattle.basis.proofs.TestLaws.{
   holds-or-fails,
@@ -37,11 +37,10 @@ use Rattle.basis.proofs.TestLaws.{
   all-same,
   least-before,
 }
-use Rattle.sheet.proofs.OrderLaws.{rising-over}
-use Rattle.bidder_sets.specs.EngineSets.{listed}
-use Rattle.bidder_sets.proofs.ListedLaws.{listed-where, listed-there, listed-rises}
-use Rattle.share_page.specs.SharePage.{without, headed, ordersOf, putsAbove, someOf, firstOf, OrderOf, Earlier, FirstOrder}
-use Rattle.share_page.specs.EngineShare.{namedIn, firstIn, nextIn, leftAfter, turns, allFound}
+use Rattle.bidder_sets.specs.EngineSets.{risingMembers}
+use Rattle.bidder_sets.proofs.MembersLaws.{members-where, members-there, members-rise}
+use Rattle.share_page.specs.SharePage.{without, headed, ordersOf, putsAbove, someOf, firstOf, OrderOf, Precedes, FirstOrder}
+use Rattle.share_page.specs.EngineShare.{rivalIn, firstIn, nextIn, leftAfter, turns, allFound}
 use Rattle.share_page.proofs.GoodLaws.{
   without-parts,
   count,
@@ -62,28 +61,28 @@ count-none : (f : ℕ → Bool) (n : ℕ) → ((b : ℕ) → f b ≡ false) → 
 count-none f n none = counts.count-none (λ i. f (suc i)) n (λ i l. none (suc i))
 
 -- What `putsAbove` tests, by index.
-module _ (named : ℕ → ℕ → Bool) (l : List ℕ) where
-  above-where : putsAbove named l ≡ true → Above named l
+module _ (rival : ℕ → ℕ → Bool) (l : List ℕ) where
+  above-where : putsAbove rival l ≡ true → Above rival l
   unfolding putsAbove
   above-where t j k h h′ e =
       ⊎-elim
-      (λ (x : not (named (getD l j 0) (getD l k 0)) ≡ true). absurd (not-both e (not-true (named (getD l j 0) (getD l k 0)) x)))
+      (λ (x : not (rival (getD l j 0) (getD l k 0)) ≡ true). absurd (not-both e (not-true (rival (getD l j 0) (getD l k 0)) x)))
       (λ (x : ltb j k ≡ true). ltb-true j k x)
-      (or-parts (not (named (getD l j 0) (getD l k 0))) (ltb j k)
-      (all-at (λ k. not (named (getD l j 0) (getD l k 0)) || ltb j k) (length l)
-      (all-at (λ j. allBelow (λ k. not (named (getD l j 0) (getD l k 0)) || ltb j k) (length l)) (length l) t j h) k h′))
+      (or-parts (not (rival (getD l j 0) (getD l k 0))) (ltb j k)
+      (all-at (λ k. not (rival (getD l j 0) (getD l k 0)) || ltb j k) (length l)
+      (all-at (λ j. allBelow (λ k. not (rival (getD l j 0) (getD l k 0)) || ltb j k) (length l)) (length l) t j h) k h′))
 
-  above-there : Above named l → putsAbove named l ≡ true
+  above-there : Above rival l → putsAbove rival l ≡ true
   unfolding putsAbove
   above-there a =
-      at-all (λ j. allBelow (λ k. not (named (getD l j 0) (getD l k 0)) || ltb j k) (length l)) (length l)
+      at-all (λ j. allBelow (λ k. not (rival (getD l j 0) (getD l k 0)) || ltb j k) (length l)) (length l)
       (λ j h.
-      at-all (λ k. not (named (getD l j 0) (getD l k 0)) || ltb j k) (length l)
+      at-all (λ k. not (rival (getD l j 0) (getD l k 0)) || ltb j k) (length l)
       (λ k h′.
       ⊎-elim
-      (λ (e : named (getD l j 0) (getD l k 0) ≡ true). or-right (not (named (getD l j 0) (getD l k 0))) (lt-ltb j k (a j k h h′ e)))
-      (λ (e : named (getD l j 0) (getD l k 0) ≡ false). or-left (ltb j k) (not-holds e))
-      (holds-or-fails (named (getD l j 0) (getD l k 0)))))
+      (λ (e : rival (getD l j 0) (getD l k 0) ≡ true). or-right (not (rival (getD l j 0) (getD l k 0))) (lt-ltb j k (a j k h h′ e)))
+      (λ (e : rival (getD l j 0) (getD l k 0) ≡ false). or-left (ltb j k) (not-holds e))
+      (holds-or-fails (rival (getD l j 0) (getD l k 0)))))
 
 -- Some list, and the first, of several that pass a test.
 module _ (P : List ℕ → Bool) where
@@ -154,11 +153,6 @@ module _ (P : List ℕ → Bool) where
       ))
       (holds-or-fails (P l))
 
--- what a list has that is there only where a test holds
-mem-when : (t : Bool) (ls : List (List ℕ)) (l : List ℕ) → List·Memᴰ l (cond t ls []) → (t ≡ true) × List·Memᴰ l ls
-mem-when true ls l h = (refl, h)
-mem-when false ls l h = absurd (List·Memᴰ·not-nil h)
-
 headed-where : (x : ℕ) (ls : List (List ℕ)) (l : List ℕ) → List·Memᴰ l (headed x ls) → (l′ : List ℕ) × List·Memᴰ l′ ls × (l ≡ x ∷ l′)
 unfolding headed
 headed-where x [] l h = absurd (List·Memᴰ·not-nil h)
@@ -169,17 +163,17 @@ headed-where x (y ∷ ls) l h =
     (List·Memᴰ·cases-cons h)
 
 -- A good order passes the test, and what follows the head of one that passes does.
-module _ (named : ℕ → ℕ → Bool) where
-  good-passes : (f : ℕ → Bool) (l : List ℕ) → Good named f l → putsAbove named l ≡ true
-  good-passes f l g = above-there named l (good-order named f l g .above)
+module _ (rival : ℕ → ℕ → Bool) where
+  good-passes : (f : ℕ → Bool) (l : List ℕ) → Good rival f l → putsAbove rival l ≡ true
+  good-passes f l g = above-there rival l (good-order rival f l g .above)
 
-  tail-above : (x : ℕ) (l : List ℕ) → putsAbove named (x ∷ l) ≡ true → putsAbove named l ≡ true
-  tail-above x l t = above-there named l (λ j k h h′ e. (let z = above-where named (x ∷ l) t (suc j) (suc k) (omega arith) (omega arith) e in omega arith))
+  tail-above : (x : ℕ) (l : List ℕ) → putsAbove rival (x ∷ l) ≡ true → putsAbove rival l ≡ true
+  tail-above x l t = above-there rival l (λ j k h h′ e. (let z = above-where rival (x ∷ l) t (suc j) (suc k) (omega arith) (omega arith) e in omega arith))
 
-module _ (named : ℕ → ℕ → Bool) (n : ℕ) (member : ℕ → Bool) (within : (b : ℕ) → member b ≡ true → (0 < b) × (b ≤ n)) where
+module _ (rival : ℕ → ℕ → Bool) (n : ℕ) (member : ℕ → Bool) (within : (b : ℕ) → member b ≡ true → (0 < b) × (b ≤ n)) where
   -- the members in rising order, and sets of some of them
   abbrev L : List ℕ
-  L = listed member n
+  L = risingMembers member n
 
   abbrev Within : (ℕ → Bool) → Type 0
   Within f = (b : ℕ) → f b ≡ true → member b ≡ true
@@ -188,13 +182,13 @@ module _ (named : ℕ → ℕ → Bool) (n : ℕ) (member : ℕ → Bool) (withi
   within-without f x w b t = w b (without-parts f x b t .0)
 
   index-of : (b : ℕ) → member b ≡ true → (k : ℕ) × (k < length L) × (getD L k 0 ≡ b)
-  index-of b t = let h = within b t in mem-at L 0 b (listed-there member n b t (h .0) (h .1))
+  index-of b t = let h = within b t in mem-at L 0 b (members-there member n b t (h .0) (h .1))
 
   some-at : (k : ℕ) → k < length L → 0 < getD L k 0
-  some-at k l = listed-where member n (getD L k 0) (at-mem L 0 k l) .1
+  some-at k l = members-where member n (getD L k 0) (at-mem L 0 k l) .1
 
   rises-at : (j k : ℕ) → j < k → k < length L → getD L j 0 < getD L k 0
-  rises-at = rising-over (λ k. getD L k 0) (length L) (rising-next (λ (x : ℕ). x) 1 (suc n) L 0 (listed-rises member n))
+  rises-at = rising-at (λ (x : ℕ). x) 1 (suc n) L 0 (members-rise member n)
 
   -- The first of the members that passes a test
   module _ (test : ℕ → Bool) where
@@ -219,47 +213,47 @@ module _ (named : ℕ → ℕ → Bool) (n : ℕ) (member : ℕ → Bool) (withi
         (below-or-not (w .0) place)
 
   -- whom somebody left names
-  named-there : (f : ℕ → Bool) → Within f → (j x : ℕ) → f j ≡ true → named j x ≡ true → namedIn named L f x ≡ true
-  unfolding namedIn
-  named-there f w j x t u =
+  rival-there : (f : ℕ → Bool) → Within f → (j x : ℕ) → f j ≡ true → rival j x ≡ true → rivalIn rival L f x ≡ true
+  unfolding rivalIn
+  rival-there f w j x t u =
       let v = index-of j (w j t) in
-      any-at (λ k. f (getD L k 0) && named (getD L k 0) x) (length L) (v .0) (v .1)
-      (subst (λ (y : ℕ). (f y && named y x) ≡ true) (sym (v .2)) (and-holds t u))
+      any-at (λ k. f (getD L k 0) && rival (getD L k 0) x) (length L) (v .0) (v .1)
+      (subst (λ (y : ℕ). (f y && rival y x) ≡ true) (sym (v .2)) (and-holds t u))
 
-  named-where : (f : ℕ → Bool) (x : ℕ) → namedIn named L f x ≡ true → (j : ℕ) × (f j ≡ true) × (named j x ≡ true)
-  unfolding namedIn
-  named-where f x t =
-      let v = any-where (λ k. f (getD L k 0) && named (getD L k 0) x) (length L) t in
-      let both = and-parts (f (getD L (v .0) 0)) (named (getD L (v .0) 0) x) (v .2) in
+  rival-where : (f : ℕ → Bool) (x : ℕ) → rivalIn rival L f x ≡ true → (j : ℕ) × (f j ≡ true) × (rival j x ≡ true)
+  unfolding rivalIn
+  rival-where f x t =
+      let v = any-where (λ k. f (getD L k 0) && rival (getD L k 0) x) (length L) t in
+      let both = and-parts (f (getD L (v .0) 0)) (rival (getD L (v .0) 0) x) (v .2) in
       (getD L (v .0) 0, both .0, both .1)
 
   -- the next one is left, nobody left names it, and it is the lowest such
-  next-free : (f : ℕ → Bool) → Within f → (nextIn named L f ≡ 0 → ⊥) → (f (nextIn named L f) ≡ true) × Free named f (nextIn named L f)
+  next-free : (f : ℕ → Bool) → Within f → (nextIn rival L f ≡ 0 → ⊥) → (f (nextIn rival L f) ≡ true) × Free rival f (nextIn rival L f)
   unfolding nextIn
   next-free f w some =
-      let p = nextIn named L f in
-      let parts = and-parts (f p) (not (namedIn named L f p)) (first-member L (λ x. f x && not (namedIn named L f x)) some .3) in
-      (parts .0, λ j t. fails (named j p) (λ u. not-both (named-there f w j p t u) (not-true (namedIn named L f p) (parts .1))))
+      let p = nextIn rival L f in
+      let parts = and-parts (f p) (not (rivalIn rival L f p)) (first-member L (λ x. f x && not (rivalIn rival L f x)) some .3) in
+      (parts .0, λ j t. fails (rival j p) (λ u. not-both (rival-there f w j p t u) (not-true (rivalIn rival L f p) (parts .1))))
 
-  next-lowest : (f : ℕ → Bool) → Within f → (x : ℕ) → f x ≡ true → Free named f x → (0 < nextIn named L f) × (nextIn named L f ≤ x)
+  next-lowest : (f : ℕ → Bool) → Within f → (x : ℕ) → f x ≡ true → Free rival f x → (0 < nextIn rival L f) × (nextIn rival L f ≤ x)
   unfolding nextIn
   next-lowest f w x t free =
-      first-least (λ x. f x && not (namedIn named L f x)) x (w x t)
+      first-least (λ x. f x && not (rivalIn rival L f x)) x (w x t)
       (and-holds t
       (not-holds
-      (fails (namedIn named L f x) (λ u. let v = named-where f x u in not-both (v .2) (free (v .0) (v .1))))))
+      (fails (rivalIn rival L f x) (λ u. let v = rival-where f x u in not-both (v .2) (free (v .0) (v .1))))))
 
   -- The turns, head first, and whether each finds one.
   taken : ℕ → (ℕ → Bool) → List ℕ
   taken zero f = []
-  taken (suc c) f = nextIn named L f ∷ taken c (without f (nextIn named L f))
+  taken (suc c) f = nextIn rival L f ∷ taken c (without f (nextIn rival L f))
 
   goes : ℕ → (ℕ → Bool) → Bool
   goes zero f = true
-  goes (suc c) f = not (eqb (nextIn named L f) 0) && goes c (without f (nextIn named L f))
+  goes (suc c) f = not (eqb (nextIn rival L f) 0) && goes c (without f (nextIn rival L f))
 
-  found-one : (f : ℕ → Bool) → not (eqb (nextIn named L f) 0) ≡ true → nextIn named L f ≡ 0 → ⊥
-  found-one f t e = not-both t (ap not (eq-eqb (nextIn named L f) 0 e))
+  found-one : (f : ℕ → Bool) → not (eqb (nextIn rival L f) 0) ≡ true → nextIn rival L f ≡ 0 → ⊥
+  found-one f t e = not-both t (ap not (eq-eqb (nextIn rival L f) 0 e))
 
   -- one member fewer
   one-fewer : (f : ℕ → Bool) (x c : ℕ) → Within f → f x ≡ true → count f n ≡ suc c → count (without f x) n ≡ c
@@ -268,17 +262,17 @@ module _ (named : ℕ → ℕ → Bool) (n : ℕ) (member : ℕ → Bool) (withi
   none-left : (f : ℕ → Bool) → Within f → count f n ≡ 0 → (b : ℕ) → f b ≡ false
   none-left f w e b = fails (f b) (λ t. let h = within b (w b t) in let less = count-without f b n (h .0) (h .1) t in absurd (omega arith))
 
-  taken-good : (c : ℕ) (f : ℕ → Bool) → Within f → count f n ≡ c → goes c f ≡ true → Good named f (taken c f)
+  taken-good : (c : ℕ) (f : ℕ → Bool) → Within f → count f n ≡ c → goes c f ≡ true → Good rival f (taken c f)
   unfolding taken goes
   taken-good zero f w e g = none-left f w e
   taken-good (suc c) f w e g =
-      let p = nextIn named L f in
+      let p = nextIn rival L f in
       let parts = and-parts (not (eqb p 0)) (goes c (without f p)) g in
       let open-one = next-free f w (found-one f (parts .0)) in
       (open-one .0, open-one .1, taken-good c (without f p) (within-without f p w) (one-fewer f p c w (open-one .0) e) (parts .1))
 
   -- no good order comes before it in the dictionary
-  later : (x : ℕ) (l l′ : List ℕ) → Earlier l l′ → Earlier (x ∷ l) (x ∷ l′)
+  later : (x : ℕ) (l l′ : List ℕ) → Precedes l l′ → Precedes (x ∷ l) (x ∷ l′)
   later x l l′ s =
       record {
         index = suc (s .index);
@@ -292,40 +286,40 @@ module _ (named : ℕ → ℕ → Bool) (n : ℕ) (member : ℕ → Bool) (withi
       same zero u = refl
       same (suc j) u = s .same j (omega arith)
 
-  taken-first : (c : ℕ) (f : ℕ → Bool) → Within f → count f n ≡ c → goes c f ≡ true → (l : List ℕ) → Good named f l →
-      (taken c f ≡ l) ⊎ Earlier (taken c f) l
+  taken-first : (c : ℕ) (f : ℕ → Bool) → Within f → count f n ≡ c → goes c f ≡ true → (l : List ℕ) → Good rival f l →
+      (taken c f ≡ l) ⊎ Precedes (taken c f) l
   unfolding taken goes
   taken-first zero f w e g [] h = inl refl
   taken-first zero f w e g (x ∷ l) h = absurd (not-both (h .0) (none-left f w e x))
   taken-first (suc c) f w e g [] h = let y = count-none f n h in absurd (omega arith)
   taken-first (suc c) f w e g (x ∷ l) h =
-      let p = nextIn named L f in
+      let p = nextIn rival L f in
       let parts = and-parts (not (eqb p 0)) (goes c (without f p)) g in
       let open-one = next-free f w (found-one f (parts .0)) in
       ⊎-elim
       (λ (q : p ≡ x).
       ⊎-elim
       (λ (s : taken c (without f p) ≡ l). inl (ap₂ _∷_ q s))
-      (λ (s : Earlier (taken c (without f p)) l).
-      inr (subst (λ (y : ℕ). Earlier (p ∷ taken c (without f p)) (y ∷ l)) q (later p (taken c (without f p)) l s)))
+      (λ (s : Precedes (taken c (without f p)) l).
+      inr (subst (λ (y : ℕ). Precedes (p ∷ taken c (without f p)) (y ∷ l)) q (later p (taken c (without f p)) l s)))
       (taken-first c (without f p) (within-without f p w) (one-fewer f p c w (open-one .0) e) (parts .1) l
-      (subst (λ (y : ℕ). Good named (without f y) l) (sym q) (h .2))))
+      (subst (λ (y : ℕ). Good rival (without f y) l) (sym q) (h .2))))
       (λ (s : p < x).
       inr
       (record { index = 0; inside = omega arith; inside′ = omega arith; smaller = s; same = λ j u. absurd (not-suc-le-zero u) }))
       (eq-or-lt-of-le (next-lowest f w x (h .0) (h .1) .1))
 
   -- where a good order is, no turn is stuck
-  good-goes : (c : ℕ) (f : ℕ → Bool) → Within f → count f n ≡ c → (l : List ℕ) → Good named f l → goes c f ≡ true
+  good-goes : (c : ℕ) (f : ℕ → Bool) → Within f → count f n ≡ c → (l : List ℕ) → Good rival f l → goes c f ≡ true
   unfolding goes
   good-goes zero f w e l h = refl
   good-goes (suc c) f w e [] h = let y = count-none f n h in absurd (omega arith)
   good-goes (suc c) f w e (x ∷ l) h =
-      let p = nextIn named L f in
+      let p = nextIn rival L f in
       let low = next-lowest f w x (h .0) (h .1) .0 in
       let some : p ≡ 0 → ⊥ = (λ z. absurd (omega arith)) in
       let open-one = next-free f w some in
-      let rest = others-good named f p (x ∷ l) h in
+      let rest = others-good rival f p (x ∷ l) h in
       and-holds (not-holds (ne-eqb p 0 some))
       (good-goes c (without f p) (within-without f p w) (one-fewer f p c w (open-one .0) e) (rest .0) (rest .1))
 
@@ -352,41 +346,41 @@ module _ (named : ℕ → ℕ → Bool) (n : ℕ) (member : ℕ → Bool) (withi
       (u .0, orders-ordered c (without f x) (within-without f x w) (one-fewer f x c w (u .0) e) (u .1) (u .2))
 
   -- so one that passes is a good one,
-  passing-good : (c : ℕ) (f : ℕ → Bool) → Within f → count f n ≡ c → (l : List ℕ) → List·Memᴰ l (ordersOf n c f) → putsAbove named l ≡ true → Good named f l
-  passing-good c f w e l h t = order-good named f l (ordered-order named f l (orders-ordered c f w e l h) (above-where named l t))
+  passing-good : (c : ℕ) (f : ℕ → Bool) → Within f → count f n ≡ c → (l : List ℕ) → List·Memᴰ l (ordersOf n c f) → putsAbove rival l ≡ true → Good rival f l
+  passing-good c f w e l h t = order-good rival f l (ordered-order rival f l (orders-ordered c f w e l h) (above-where rival l t))
 
   -- and the first that passes is the one that the turns find.
   module _ (c : ℕ) (f : ℕ → Bool) (w : Within f) (e : count f n ≡ suc c) where
     -- none of those that begin with a lower bidder passes
-    lower-none : (i : ℕ) → suc i < nextIn named L f → someOf (putsAbove named) (beginning f c i) ≡ false
+    lower-none : (i : ℕ) → suc i < nextIn rival L f → someOf (putsAbove rival) (beginning f c i) ≡ false
     unfolding ordersOf
     lower-none i less =
-        fails (someOf (putsAbove named) (beginning f c i))
+        fails (someOf (putsAbove rival) (beginning f c i))
         (λ t.
-        let v = some-where (putsAbove named) (beginning f c i) t in
+        let v = some-where (putsAbove rival) (beginning f c i) t in
         let u = beginning-where f c i (v .0) (v .1) in
         let among = joined-mem (beginning f c) n i (v .0) (within (suc i) (w (suc i) (u .0)) .1) (v .1) in
-        let good = subst (Good named f) (u .3) (passing-good (suc c) f w e (v .0) among (v .2)) in
+        let good = subst (Good rival f) (u .3) (passing-good (suc c) f w e (v .0) among (v .2)) in
         let low = next-lowest f w (suc i) (good .0) (good .1) .1 in
         absurd (omega arith))
 
     -- with the next one before them, those of the others pass as they do without it
-    no-difference : (nextIn named L f ≡ 0 → ⊥) → (l : List ℕ) → List·Memᴰ l (ordersOf n c (without f (nextIn named L f))) →
-        putsAbove named (nextIn named L f ∷ l) ≡ putsAbove named l
+    no-difference : (nextIn rival L f ≡ 0 → ⊥) → (l : List ℕ) → List·Memᴰ l (ordersOf n c (without f (nextIn rival L f))) →
+        putsAbove rival (nextIn rival L f ∷ l) ≡ putsAbove rival l
     no-difference some l h =
-        let p = nextIn named L f in
+        let p = nextIn rival L f in
         let open-one = next-free f w some in
-        same-tests (putsAbove named (p ∷ l)) (putsAbove named l) (tail-above named p l)
+        same-tests (putsAbove rival (p ∷ l)) (putsAbove rival l) (tail-above rival p l)
         (λ t.
-        good-passes named f (p ∷ l) (
+        good-passes rival f (p ∷ l) (
           open-one .0,
           open-one .1,
           passing-good c (without f p) (within-without f p w) (one-fewer f p c w (open-one .0) e) l h t,
         ))
 
-    by-number : (p : ℕ) → nextIn named L f ≡ p → (p ≡ 0 → ⊥) → someOf (putsAbove named) (ordersOf n c (without f p)) ≡ true →
-        (someOf (putsAbove named) (ordersOf n (suc c) f) ≡ true)
-        × (firstOf (putsAbove named) (ordersOf n (suc c) f) ≡ p ∷ firstOf (putsAbove named) (ordersOf n c (without f p)))
+    by-number : (p : ℕ) → nextIn rival L f ≡ p → (p ≡ 0 → ⊥) → someOf (putsAbove rival) (ordersOf n c (without f p)) ≡ true →
+        (someOf (putsAbove rival) (ordersOf n (suc c) f) ≡ true)
+        × (firstOf (putsAbove rival) (ordersOf n (suc c) f) ≡ p ∷ firstOf (putsAbove rival) (ordersOf n c (without f p)))
     unfolding ordersOf
     by-number zero q some rest = absurd (some refl)
     by-number (suc i) q some rest =
@@ -395,93 +389,93 @@ module _ (named : ℕ → ℕ → Bool) (n : ℕ) (member : ℕ → Bool) (withi
         let begins : beginning f c i ≡ headed (suc i) (ordersOf n c (without f (suc i)))
         = ap (λ (t : Bool). cond t (headed (suc i) (ordersOf n c (without f (suc i)))) []) here in
         let heads =
-        headed-same (putsAbove named) (suc i) (ordersOf n c (without f (suc i)))
-        (subst (λ (x : ℕ). (l : List ℕ) → List·Memᴰ l (ordersOf n c (without f x)) → putsAbove named (x ∷ l) ≡ putsAbove named l) q
+        headed-same (putsAbove rival) (suc i) (ordersOf n c (without f (suc i)))
+        (subst (λ (x : ℕ). (l : List ℕ) → List·Memᴰ l (ordersOf n c (without f x)) → putsAbove rival (x ∷ l) ≡ putsAbove rival l) q
         (no-difference (λ z. some (sym q ∙ z))))
         rest in
         let all =
-        first-joined (putsAbove named) (beginning f c) i (λ j l. lower-none j (omega arith)) (ap (someOf (putsAbove named)) begins ∙ heads .0) n
+        first-joined (putsAbove rival) (beginning f c) i (λ j l. lower-none j (omega arith)) (ap (someOf (putsAbove rival)) begins ∙ heads .0) n
         (within (suc i) (w (suc i) here) .1) in
-        (all .0, all .1 ∙ ap (firstOf (putsAbove named)) begins ∙ heads .1)
+        (all .0, all .1 ∙ ap (firstOf (putsAbove rival)) begins ∙ heads .1)
 
   first-taken : (c : ℕ) (f : ℕ → Bool) → Within f → count f n ≡ c → goes c f ≡ true →
-      (someOf (putsAbove named) (ordersOf n c f) ≡ true) × (firstOf (putsAbove named) (ordersOf n c f) ≡ taken c f)
+      (someOf (putsAbove rival) (ordersOf n c f) ≡ true) × (firstOf (putsAbove rival) (ordersOf n c f) ≡ taken c f)
   unfolding taken goes ordersOf someOf firstOf putsAbove allBelow
   first-taken zero f w e g = (refl, refl)
   first-taken (suc c) f w e g =
-      let p = nextIn named L f in
+      let p = nextIn rival L f in
       let parts = and-parts (not (eqb p 0)) (goes c (without f p)) g in
       let some = found-one f (parts .0) in
       let rest = first-taken c (without f p) (within-without f p w) (one-fewer f p c w (next-free f w some .0) e) (parts .1) in
       let here = by-number c f w e p refl some (rest .0) in
       (here .0, here .1 ∙ ap (λ (l : List ℕ). p ∷ l) (rest .1))
 
-  some-goes : (c : ℕ) (f : ℕ → Bool) → Within f → count f n ≡ c → someOf (putsAbove named) (ordersOf n c f) ≡ goes c f
+  some-goes : (c : ℕ) (f : ℕ → Bool) → Within f → count f n ≡ c → someOf (putsAbove rival) (ordersOf n c f) ≡ goes c f
   some-goes c f w e =
-      same-tests (someOf (putsAbove named) (ordersOf n c f)) (goes c f)
+      same-tests (someOf (putsAbove rival) (ordersOf n c f)) (goes c f)
       (λ t.
-      let v = some-where (putsAbove named) (ordersOf n c f) t in
+      let v = some-where (putsAbove rival) (ordersOf n c f) t in
       good-goes c f w e (v .0) (passing-good c f w e (v .0) (v .1) (v .2)))
       (λ g. first-taken c f w e g .0)
 
   -- The turns in the loop's shape.
-  left-next : (f : ℕ → Bool) (k : ℕ) → leftAfter named L f (suc k) ≡ leftAfter named L (without f (nextIn named L f)) k
+  left-next : (f : ℕ → Bool) (k : ℕ) → leftAfter rival L f (suc k) ≡ leftAfter rival L (without f (nextIn rival L f)) k
   unfolding leftAfter
   left-next f zero = refl
-  left-next f (suc k) = ap (λ (g : ℕ → Bool). without g (nextIn named L g)) (left-next f k)
+  left-next f (suc k) = ap (λ (g : ℕ → Bool). without g (nextIn rival L g)) (left-next f k)
 
-  taken-turns : (c : ℕ) (f : ℕ → Bool) → turns named L f c ≡ taken c f
+  taken-turns : (c : ℕ) (f : ℕ → Bool) → turns rival L f c ≡ taken c f
   unfolding taken turns row leftAfter
   taken-turns zero f = refl
   taken-turns (suc c) f =
-      row-head (λ k. nextIn named L (leftAfter named L f k)) c
-      ∙ ap (λ (l : List ℕ). nextIn named L f ∷ l)
-      (row-same (λ k. nextIn named L (leftAfter named L f (suc k))) (λ k. nextIn named L (leftAfter named L (without f (nextIn named L f)) k)) c
-      (λ i h. ap (nextIn named L) (left-next f i))
-      ∙ taken-turns c (without f (nextIn named L f)))
+      row-head (λ k. nextIn rival L (leftAfter rival L f k)) c
+      ∙ ap (λ (l : List ℕ). nextIn rival L f ∷ l)
+      (row-same (λ k. nextIn rival L (leftAfter rival L f (suc k))) (λ k. nextIn rival L (leftAfter rival L (without f (nextIn rival L f)) k)) c
+      (λ i h. ap (nextIn rival L) (left-next f i))
+      ∙ taken-turns c (without f (nextIn rival L f)))
 
-  goes-found : (c : ℕ) (f : ℕ → Bool) → allFound named L f c ≡ goes c f
+  goes-found : (c : ℕ) (f : ℕ → Bool) → allFound rival L f c ≡ goes c f
   unfolding goes allFound allBelow leftAfter
   goes-found zero f = refl
   goes-found (suc c) f =
-      all-head (λ k. not (eqb (nextIn named L (leftAfter named L f k)) 0)) c
-      ∙ ap (λ (x : Bool). not (eqb (nextIn named L f) 0) && x)
-      (all-same (λ k. not (eqb (nextIn named L (leftAfter named L f (suc k))) 0))
-      (λ k. not (eqb (nextIn named L (leftAfter named L (without f (nextIn named L f)) k)) 0)) c
-      (λ i h. ap (λ (g : ℕ → Bool). not (eqb (nextIn named L g) 0)) (left-next f i))
-      ∙ goes-found c (without f (nextIn named L f)))
+      all-head (λ k. not (eqb (nextIn rival L (leftAfter rival L f k)) 0)) c
+      ∙ ap (λ (x : Bool). not (eqb (nextIn rival L f) 0) && x)
+      (all-same (λ k. not (eqb (nextIn rival L (leftAfter rival L f (suc k))) 0))
+      (λ k. not (eqb (nextIn rival L (leftAfter rival L (without f (nextIn rival L f)) k)) 0)) c
+      (λ i h. ap (λ (g : ℕ → Bool). not (eqb (nextIn rival L g) 0)) (left-next f i))
+      ∙ goes-found c (without f (nextIn rival L f)))
 
   -- What the call needs: trying all orders and taking turns come to the same.
   all-members : Within member
   all-members b t = t
 
-  pub some-found : someOf (putsAbove named) (ordersOf n (count member n) member) ≡ allFound named L member (count member n)
+  pub some-found : someOf (putsAbove rival) (ordersOf n (count member n) member) ≡ allFound rival L member (count member n)
   some-found = some-goes (count member n) member all-members refl ∙ sym (goes-found (count member n) member)
 
-  pub first-found : allFound named L member (count member n) ≡ true →
-      firstOf (putsAbove named) (ordersOf n (count member n) member) ≡ turns named L member (count member n)
+  pub first-found : allFound rival L member (count member n) ≡ true →
+      firstOf (putsAbove rival) (ordersOf n (count member n) member) ≡ turns rival L member (count member n)
   first-found t =
       first-taken (count member n) member all-members refl (sym (goes-found (count member n) member) ∙ t) .1
       ∙ sym (taken-turns (count member n) member)
 
   -- And what it tells: an order there is exactly where one of all passes, and the first that passes is the first.
-  pub first-order : someOf (putsAbove named) (ordersOf n (count member n) member) ≡ true →
-      FirstOrder named member (firstOf (putsAbove named) (ordersOf n (count member n) member))
+  pub first-order : someOf (putsAbove rival) (ordersOf n (count member n) member) ≡ true →
+      FirstOrder rival member (firstOf (putsAbove rival) (ordersOf n (count member n) member))
   first-order t =
       let c = count member n in
       let g = sym (some-goes c member all-members refl) ∙ t in
-      subst (FirstOrder named member) (sym (first-taken c member all-members refl g .1))
+      subst (FirstOrder rival member) (sym (first-taken c member all-members refl g .1))
       (record {
-        order = good-order named member (taken c member) (taken-good c member all-members refl g);
-        first = λ l o. taken-first c member all-members refl g l (order-good named member l o);
+        order = good-order rival member (taken c member) (taken-good c member all-members refl g);
+        first = λ l o. taken-first c member all-members refl g l (order-good rival member l o);
       })
 
-  pub order-some : (l : List ℕ) → OrderOf named member l → someOf (putsAbove named) (ordersOf n (count member n) member) ≡ true
+  pub order-some : (l : List ℕ) → OrderOf rival member l → someOf (putsAbove rival) (ordersOf n (count member n) member) ≡ true
   order-some l o =
-      some-goes (count member n) member all-members refl ∙ good-goes (count member n) member all-members refl l (order-good named member l o)
+      some-goes (count member n) member all-members refl ∙ good-goes (count member n) member all-members refl l (order-good rival member l o)
 
   -- an order is as long as the set
-  pub good-many : (f : ℕ → Bool) → Within f → (l : List ℕ) → Good named f l → length l ≡ count f n
+  pub good-many : (f : ℕ → Bool) → Within f → (l : List ℕ) → Good rival f l → length l ≡ count f n
   good-many f w [] g = sym (count-none f n g)
   good-many f w (x ∷ l) g =
       let h = within x (w x (g .0)) in

@@ -12,9 +12,10 @@ use lib.Seq.{sets}
 use Rattle.basis.proofs.FirstLaws.{refused-leaves, answered-gives}
 use Rattle.basis.proofs.RowLaws.{length-row, sets-front}
 use Rattle.basis.proofs.TestLaws.{and-holds}
-use Rattle.bidder_sets.specs.BidderSets.{inSet, membersOf, numbersWrong, rivalsOf}
-use Rattle.bidder_sets.specs.EngineSets.{inWord, Holds, listed}
-use Rattle.bidder_sets.proofs.ListedLaws.{listed-many}
+use Rattle.slot_terms.specs.SlotTerms.{sizeRefusal}
+use Rattle.bidder_sets.specs.BidderSets.{inSet, memberCount, numbersWrong, rivalsOf}
+use Rattle.bidder_sets.specs.EngineSets.{inWord, Holds, risingMembers}
+use Rattle.bidder_sets.proofs.MembersLaws.{members-many}
 use Rattle.bidder_sets.proofs.NumberedLaws.{in-numbered}
 use Rattle.share_page.specs.SharePage.{
   names,
@@ -25,7 +26,6 @@ use Rattle.share_page.specs.SharePage.{
   canShare,
   orderWritten,
   orderBuffer,
-  sizeRefusal,
   setsRefusal,
   shareRefusal,
   PageShared,
@@ -34,7 +34,7 @@ use Rattle.share_page.specs.declared.Shared.{Shared}
 use Rattle.share_page.specs.EngineShare.{inTable, turns, allFound}
 use Rattle.share_page.proofs.RefusalLaws.{size-first, members-wrong, sets-first, nineteen, answered}
 use Rattle.share_page.proofs.SharingLaws.{some-found, first-found}
-use Rattle.share_page.proofs.TableLaws.{word-listed, words-turns, words-found}
+use Rattle.share_page.proofs.TableLaws.{word-members, words-turns, words-found}
 
 module _ (n m : ℕ) (members rivals out : List ℕ) where
   abbrev number : ℕ
@@ -111,39 +111,39 @@ pub record Words (n : ℕ) (members rivals table : List ℕ) (word : ℕ) (risin
   pub right : numbersWrong n members ≡ false
   pub tabled : (i : ℕ) → i < n → Holds (getD table i 0) (inSet (rivalsOf rivals (suc i)))
   pub held : Holds word (inSet members)
-  pub listing : rising ≡ listed (inWord word) n
+  pub listing : rising ≡ risingMembers (inWord word) n
 
 module _ (n m : ℕ) (members rivals table : List ℕ) (word : ℕ) (rising : List ℕ) (read : Words n members rivals table word rising) where
   abbrev all : List ℕ
-  all = listed (inSet members) n
+  all = risingMembers (inSet members) n
 
   rising-is : rising ≡ all
-  rising-is = read .listing ∙ word-listed n (read .few) rivals members table word (read .tabled) (read .held)
+  rising-is = read .listing ∙ word-members n (read .few) rivals members table word (read .tabled) (read .held)
 
-  many : length all ≡ membersOf n members
-  unfolding membersOf
-  many = listed-many (inSet members) n
+  many : length all ≡ memberCount n members
+  unfolding memberCount
+  many = members-many (inSet members) n
 
-  size-is : length rising ≡ membersOf n members
+  size-is : length rising ≡ memberCount n members
   size-is = ap length rising-is ∙ many
 
   -- each turn finds one where some order of all passes,
   abbrev found : Bool
   found = allFound (inTable table) rising (inWord word) (length rising)
 
-  found-sets : found ≡ allFound (names rivals) all (inSet members) (membersOf n members)
+  found-sets : found ≡ allFound (names rivals) all (inSet members) (memberCount n members)
   found-sets =
       ap (λ (l : List ℕ). allFound (inTable table) l (inWord word) (length l)) rising-is
       ∙ words-found n (read .few) rivals members table word (read .tabled) (read .held) (length all)
       ∙ ap (allFound (names rivals) all (inSet members)) many
 
   found-some : found ≡ someOf (putsAbove (names rivals)) (memberOrders n members)
-  unfolding membersOf
+  unfolding memberCount
   found-some = found-sets ∙ sym (some-found (names rivals) n (inSet members) (in-numbered n members (read .right)))
 
   -- and then they are the first that does
   pub turns-first : found ≡ true → turns (inTable table) rising (inWord word) (length rising) ≡ firstOf (putsAbove (names rivals)) (memberOrders n members)
-  unfolding membersOf
+  unfolding memberCount
   turns-first e =
       ap (λ (l : List ℕ). turns (inTable table) l (inWord word) (length l)) rising-is
       ∙ words-turns n (read .few) rivals members table word (read .tabled) (read .held) (length all)
@@ -155,17 +155,17 @@ module _ (n m : ℕ) (members rivals table : List ℕ) (word : ℕ) (rising : Li
   unfolding canShare
   too-many more =
       let size = size-is in
-      ap (λ (t : Bool). t && someOf (putsAbove (names rivals)) (memberOrders n members)) (lt-leb (membersOf n members) m (omega arith))
+      ap (λ (t : Bool). t && someOf (putsAbove (names rivals)) (memberOrders n members)) (lt-leb (memberCount n members) m (omega arith))
 
   pub none-passes : found ≡ false → canShare n m members rivals ≡ false
   unfolding canShare
-  none-passes e = ap (λ (t : Bool). leb (membersOf n members) m && t) (sym found-some ∙ e) ∙ and-false (leb (membersOf n members) m)
+  none-passes e = ap (λ (t : Bool). leb (memberCount n members) m && t) (sym found-some ∙ e) ∙ and-false (leb (memberCount n members) m)
 
   pub one-passes : length rising ≤ m → found ≡ true → canShare n m members rivals ≡ true
   unfolding canShare
-  one-passes fit e = let size = size-is in and-holds (le-leb (membersOf n members) m (omega arith)) (sym found-some ∙ e)
+  one-passes fit e = let size = size-is in and-holds (le-leb (memberCount n members) m (omega arith)) (sym found-some ∙ e)
 
 -- as many as the members
-pub turns-many : (named : ℕ → ℕ → Bool) (members : List ℕ) (left : ℕ → Bool) (k : ℕ) → length (turns named members left k) ≡ k
+pub turns-many : (rival : ℕ → ℕ → Bool) (members : List ℕ) (left : ℕ → Bool) (k : ℕ) → length (turns rival members left k) ≡ k
 unfolding turns
-turns-many named members left k = length-row _ k
+turns-many rival members left k = length-row _ k

@@ -15,8 +15,8 @@ abbrev pub inTable : List ℕ → ℕ → ℕ → Bool
 inTable table b x = inWord (getD table (b - 1) 0) x
 
 -- some of the members that are left names x
-unfoldable pub namedIn : (ℕ → ℕ → Bool) → List ℕ → (ℕ → Bool) → ℕ → Bool
-namedIn named members left x = anyBelow (λ k. left (getD members k 0) && named (getD members k 0) x) (length members)
+unfoldable pub rivalIn : (ℕ → ℕ → Bool) → List ℕ → (ℕ → Bool) → ℕ → Bool
+rivalIn rival members left x = anyBelow (λ k. left (getD members k 0) && rival (getD members k 0) x) (length members)
 
 -- the first of the members that passes, and 0 where none does
 unfoldable pub firstIn : List ℕ → (ℕ → Bool) → ℕ
@@ -24,16 +24,16 @@ firstIn members test = getD members (least (λ k. test (getD members k 0)) (leng
 
 -- the first that is left and that nobody left names
 unfoldable pub nextIn : (ℕ → ℕ → Bool) → List ℕ → (ℕ → Bool) → ℕ
-nextIn named members left = firstIn members (λ x. left x && not (namedIn named members left x))
+nextIn rival members left = firstIn members (λ x. left x && not (rivalIn rival members left x))
 
 -- who is left after k turns
 unfoldable pub leftAfter : (ℕ → ℕ → Bool) → List ℕ → (ℕ → Bool) → ℕ → ℕ → Bool
-leftAfter named members left zero = left
-leftAfter named members left (suc k) = without (leftAfter named members left k) (nextIn named members (leftAfter named members left k))
+leftAfter rival members left zero = left
+leftAfter rival members left (suc k) = without (leftAfter rival members left k) (nextIn rival members (leftAfter rival members left k))
 
 -- those of the first k turns, and whether each of these found one
 unfoldable pub turns : (ℕ → ℕ → Bool) → List ℕ → (ℕ → Bool) → ℕ → List ℕ
-turns named members left k = row (λ i. nextIn named members (leftAfter named members left i)) k
+turns rival members left k = row (λ i. nextIn rival members (leftAfter rival members left i)) k
 
 unfoldable pub allFound : (ℕ → ℕ → Bool) → List ℕ → (ℕ → Bool) → ℕ → Bool
-allFound named members left k = allBelow (λ i. not (eqb (nextIn named members (leftAfter named members left i)) 0)) k
+allFound rival members left k = allBelow (λ i. not (eqb (nextIn rival members (leftAfter rival members left i)) 0)) k

@@ -11,7 +11,8 @@ use lib.ListN.{length, getD, drop}
 use Rattle.basis.specs.First.{_when_otherwise_, orElse, unlessRefused}
 use Rattle.basis.specs.Rows.{joined}
 use Rattle.basis.specs.Tests.{anyBelow, allBelow}
-use Rattle.bidder_sets.specs.BidderSets.{inSet, membersOf, numbersWrong, setsEnd, rivalsOf}
+use Rattle.slot_terms.specs.SlotTerms.{sizeRefusal}
+use Rattle.bidder_sets.specs.BidderSets.{inSet, memberCount, numbersWrong, setsEnd, rivalsOf}
 use Rattle.share_page.specs.declared.Shared.{Shared}
 
 -- bidder b has x for a rival
@@ -34,7 +35,7 @@ ordersOf n (suc c) member = joined (λ i. cond (member (suc i)) (headed (suc i) 
 
 -- an order "puts each above every rival of its own": where the one at index j names the one at index k, j is before k
 unfoldable pub putsAbove : (ℕ → ℕ → Bool) → List ℕ → Bool
-putsAbove named l = allBelow (λ j. allBelow (λ k. not (named (getD l j 0) (getD l k 0)) || ltb j k) (length l)) (length l)
+putsAbove rival l = allBelow (λ j. allBelow (λ k. not (rival (getD l j 0) (getD l k 0)) || ltb j k) (length l)) (length l)
 
 -- some list passes a test, and the first that does
 unfoldable pub someOf : (List ℕ → Bool) → List (List ℕ) → Bool
@@ -47,11 +48,11 @@ firstOf test (l ∷ ls) = cond (test l) l (firstOf test ls)
 
 -- all orders of the members
 abbrev pub memberOrders : (n : ℕ) (members : List ℕ) → List (List ℕ)
-memberOrders n members = ordersOf n (membersOf n members) (inSet members)
+memberOrders n members = ordersOf n (memberCount n members) (inSet members)
 
 -- yes or no
 unfoldable pub canShare : (n m : ℕ) (members sets : List ℕ) → Bool
-canShare n m members sets = leb (membersOf n members) m && someOf (putsAbove (names sets)) (memberOrders n members)
+canShare n m members sets = leb (memberCount n members) m && someOf (putsAbove (names sets)) (memberOrders n members)
 
 -- the bytes to be written: the first such order, and none for a no
 unfoldable pub orderWritten : (n m : ℕ) (members sets : List ℕ) → List ℕ
@@ -59,13 +60,6 @@ orderWritten n m members sets = cond (canShare n m members sets) (firstOf (putsA
 
 unfoldable pub orderBuffer : (n m : ℕ) (members sets out : List ℕ) → List ℕ
 orderBuffer n m members sets out = orderWritten n m members sets ++ drop (length (orderWritten n m members sets)) out
-
--- 4. n is 0 or above 64.  5. m is 0 or above 16.
-unfoldable pub sizeRefusal : (n m : ℕ) → ℕ
-sizeRefusal n m =
-    4 when eqb n 0 || ltb 64 n otherwise
-    5 when eqb m 0 || ltb 16 m otherwise
-    0
 
 -- 23. The bytes are not exactly n rival sets, or one of these has a number 0 or above n.  24. A bidder is in its own set.
 unfoldable pub setsRefusal : (n : ℕ) (sets : List ℕ) → ℕ
@@ -90,19 +84,19 @@ pub record PageShared (n m : ℕ) (members sets out : List ℕ) (returned : Shar
 
 -- What makes the answer right: a list is an order of the members that puts each above every rival of its own in the set, by index; and one list comes before
 -- another in dictionary order. (The call is stated with all orders tried; that it is `FirstOrder`, or that there is none, are theorems.)
-pub record OrderOf (named : ℕ → ℕ → Bool) (member : ℕ → Bool) (l : List ℕ) : Type 0 where
+pub record OrderOf (rival : ℕ → ℕ → Bool) (member : ℕ → Bool) (l : List ℕ) : Type 0 where
   pub members : (k : ℕ) → k < length l → member (getD l k 0) ≡ true
   pub all : (b : ℕ) → member b ≡ true → (k : ℕ) × (k < length l) × (getD l k 0 ≡ b)
   pub once : (j k : ℕ) → j < length l → k < length l → getD l j 0 ≡ getD l k 0 → j ≡ k
-  pub above : (j k : ℕ) → j < length l → k < length l → named (getD l j 0) (getD l k 0) ≡ true → j < k
+  pub above : (j k : ℕ) → j < length l → k < length l → rival (getD l j 0) (getD l k 0) ≡ true → j < k
 
-pub record Earlier (l l′ : List ℕ) : Type 0 where
+pub record Precedes (l l′ : List ℕ) : Type 0 where
   pub index : ℕ
   pub inside : index < length l
   pub inside′ : index < length l′
   pub smaller : getD l index 0 < getD l′ index 0
   pub same : (j : ℕ) → j < index → getD l j 0 ≡ getD l′ j 0
 
-pub record FirstOrder (named : ℕ → ℕ → Bool) (member : ℕ → Bool) (l : List ℕ) : Type 0 where
-  pub order : OrderOf named member l
-  pub first : (l′ : List ℕ) → OrderOf named member l′ → (l ≡ l′) ⊎ Earlier l l′
+pub record FirstOrder (rival : ℕ → ℕ → Bool) (member : ℕ → Bool) (l : List ℕ) : Type 0 where
+  pub order : OrderOf rival member l
+  pub first : (l′ : List ℕ) → OrderOf rival member l′ → (l ≡ l′) ⊎ Precedes l l′

@@ -9,8 +9,8 @@ ghost use lib.ListN.{length, getD};
 ghost use lib.Seq.{sets};
 ghost use Rattle.bidder_sets.specs.BidderSets.{inSet, rivalsOf};
 ghost use Rattle.bidder_sets.specs.EngineSets.{inWord, Holds};
-ghost use Rattle.share_page.specs.SharePage.{sizeRefusal, setsRefusal, PageShared};
-ghost use Rattle.share_page.specs.EngineShare.{inTable, namedIn, firstIn, turns, allFound};
+ghost use Rattle.share_page.specs.SharePage.{setsRefusal, PageShared};
+ghost use Rattle.share_page.specs.EngineShare.{inTable, rivalIn, firstIn, turns, allFound};
 use bidder_sets::Bidders;
 use sheet::Bidder;
 
@@ -20,35 +20,16 @@ pub struct Shared {
     pub yes: bool,
 }
 
-// 4 or 5, or 0 for numbers of bidders and slots that a sheet can have.
-fn size_refusal(n: u32, m: u32) -> u32
-    ensures { λ r. ⌜ r ≡ sizeRefusal n m ⌝ }
-{
-    if n == 0 {
-        return 4;
-    }
-    if 64 < n {
-        return 4;
-    }
-    if m == 0 {
-        return 5;
-    }
-    if 16 < m {
-        return 5;
-    }
-    0
-}
-
 // 23 or 24; or 0, with the rival set of each bidder in a word of the table.
-fn read_sets(table: &mut [u64; 64], rivals: &[u8], n: u32) -> u32
+fn read_sets(table: &mut [u64; 64], sets: &[u8], n: u32) -> u32
     requires { ⌜ (n ≤ 64) × (length (now table) ≡ 64) ⌝ }
-    ensures { λ r. ⌜ (r ≡ setsRefusal n (now (rivals .entry))) × (r ≡ 0 → (i : ℕ) → i < n → Holds (getD (now (table .exit)) i 0) (inSet (rivalsOf (now (rivals .entry)) (suc i)))) ⌝ }
+    ensures { λ r. ⌜ (r ≡ setsRefusal n (now (sets .entry))) × (r ≡ 0 → (i : ℕ) → i < n → Holds (getD (now (table .exit)) i 0) (inSet (rivalsOf (now (sets .entry)) (suc i)))) ⌝ }
 {
     let mut own = false;
     let mut at: usize = 0;
     let mut bidder: u32 = 1;
     while bidder <= n {
-        let lent = bidder_sets::read_at(rivals, at, n);
+        let lent = bidder_sets::read_at(sets, at, n);
         let wrong = lent.wrong;
         if wrong {
             return 23;
@@ -60,7 +41,7 @@ fn read_sets(table: &mut [u64; 64], rivals: &[u8], n: u32) -> u32
         at = lent.end;
         bidder += 1;
     }
-    if at != rivals.len() {
+    if at != sets.len() {
         return 23;
     }
     if own {
@@ -70,21 +51,21 @@ fn read_sets(table: &mut [u64; 64], rivals: &[u8], n: u32) -> u32
 }
 
 // Whom those of the members that are left name.
-fn named_by(table: &[u64; 64], members: &[u8], left: Bidders) -> Bidders
+fn rivals_of(table: &[u64; 64], members: &[u8], left: Bidders) -> Bidders
     requires { ⌜ ((k : ℕ) → k < length (now members) → (0 < getD (now members) k 0) × (getD (now members) k 0 ≤ 64)) ⌝ }
-    ensures { λ r. ⌜ ((x : ℕ) → inWord (r .0) x ≡ namedIn (inTable (now (table .entry))) (now (members .entry)) (inWord (left .0)) x) ⌝ }
+    ensures { λ r. ⌜ ((x : ℕ) → inWord (r .0) x ≡ rivalIn (inTable (now (table .entry))) (now (members .entry)) (inWord (left .0)) x) ⌝ }
 {
-    let mut named = Bidders(0);
+    let mut rivals = Bidders(0);
     let mut k: usize = 0;
     while k < members.len() {
         let member = Bidder(members[k] as u16);
         if bidder_sets::has(left, member) {
             let set = Bidders(table[member.0 as usize - 1]);
-            named = bidder_sets::either(named, set);
+            rivals = bidder_sets::either(rivals, set);
         }
         k += 1;
     }
-    named
+    rivals
 }
 
 // The first of the members that is in a set, and 0 where none is.
@@ -114,8 +95,8 @@ fn put_in_order(order: &mut [u8; 64], table: &[u64; 64], members: &[u8], set: Bi
     let mut left = set;
     let mut k: usize = 0;
     while k < members.len() {
-        let named = named_by(table, members, left);
-        let free = bidder_sets::but(left, named);
+        let rivals = rivals_of(table, members, left);
+        let free = bidder_sets::but(left, rivals);
         let next = first_in(members, free);
         if next == 0 {
             return false;
@@ -141,24 +122,24 @@ fn put_bytes(result: &mut [u8], bytes: &[u8])
 
 // The number of the first rule that the call breaks, 4, 5, 23, 24 or 19, or 0 and the answer. A yes has the first order of the members, one byte each, at the
 // front of the buffer, and every later byte as it was; a no and a refusal leave every byte as it was.
-pub fn share(n: u32, m: u32, members: &[u8], rivals: &[u8], result: &mut [u8]) -> Shared
-    ensures { λ r. ⌜ PageShared n m (now (members .entry)) (now (rivals .entry)) (now (result .entry)) r (now (result .exit)) ⌝ }
+pub fn share(n: u32, m: u32, members: &[u8], sets: &[u8], result: &mut [u8]) -> Shared
+    ensures { λ r. ⌜ PageShared n m (now (members .entry)) (now (sets .entry)) (now (result .entry)) r (now (result .exit)) ⌝ }
 {
-    let size = size_refusal(n, m);
+    let size = slot_terms::size_refusal(n, m);
     if size != 0 {
         return refused(size);
     }
-    let named = bidder_sets::read(members, n);
-    let wrong = named.wrong;
+    let group = bidder_sets::read(members, n);
+    let wrong = group.wrong;
     if wrong {
         return refused(23);
     }
     let mut table = [0u64; 64];
-    let unread = read_sets(&mut table, rivals, n);
+    let unread = read_sets(&mut table, sets, n);
     if unread != 0 {
         return refused(unread);
     }
-    let set = named.bidders;
+    let set = group.bidders;
     let mut space = [0u8; 64];
     let count = bidder_sets::list(set, n, &mut space);
     let rising = &space[..count];

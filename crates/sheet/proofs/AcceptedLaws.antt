@@ -13,6 +13,7 @@ use lib.ListN.{length}
 use Rattle.basis.specs.First.{firstOver}
 use Rattle.basis.proofs.FirstLaws.{orElse-none, orElse-right, when-none, first-none, first-all-none}
 use Rattle.basis.proofs.NumberLaws.{same-or-not}
+use Rattle.basis.proofs.RisingLaws.{rising-over}
 use Rattle.basis.proofs.TestLaws.{or-none, or-parts, or-left, or-right, and-holds, and-parts}
 use Rattle.sheet.specs.Sheet.{
   version,
@@ -49,7 +50,7 @@ use Rattle.sheet.specs.Refusal.{
   Accepted,
 }
 use Rattle.sheet.proofs.HeaderLaws.{start-two, start-other}
-use Rattle.sheet.proofs.OrderLaws.{SmallFields, constraint-below, order-free, order-kept, order-above, rising-over}
+use Rattle.sheet.proofs.OrderLaws.{SmallFields, constraint-below, order-free, order-kept, order-above}
 use Rattle.sheet.specs.Accepted.{Form, Counts, EffectAccepted, BidAccepted, ConstraintAccepted, orderNumber, AcceptedSheet}
 
 -- 1 to 3, and 1 again

@@ -1,12 +1,11 @@
 -- The order of the conditions in version 2. Of two conditions the first field in which they differ decides; where every field is below 256, that is the
 -- order of the numbers that the fields make, and so the order can be chained over any distance. Assumes nothing.
-use Prim.Native.Nat.{ℕ, zero, suc, _+_, _*_, _<_, _≤_}
+use Prim.Native.Nat.{ℕ, _+_, _*_, _<_}
 use borrow.Author.Tests.{eq-eqb, ne-eqb, not-false}
 use mathlib.Core.Bool.{Bool, true, not, _&&_, _||_}
 use mathlib.Core.List.{List}
 use mathlib.Core.Logic.{⊎-elim}
 use mathlib.Core.Path.{_≡_, sym, _∙_, ap, ap₂}
-use native.Mathlib.Nat.{eq-or-lt-of-le}
 use native.Mathlib.Omega.{arith}
 use lib.Dec.{eqb, ltb}
 use Rattle.basis.proofs.FirstLaws.{when-none}
@@ -65,14 +64,3 @@ unfolding orderRefusal
 order-above s k v e =
     let none = when-none 27 (eqb (version s) 2 && not (aboveBefore s k)) 0 e .0 in
     not-false (aboveBefore s k) (sym (ap (λ (t : Bool). t && not (aboveBefore s k)) (eq-eqb (version s) 2 v)) ∙ none)
-
--- what rises from each index to the next rises over any distance
-pub rising-over : (f : ℕ → ℕ) (n : ℕ) → ((k : ℕ) → suc k < n → f k < f (suc k)) → (i j : ℕ) → i < j → j < n → f i < f j
-rising-over f n step i zero l m = absurd (omega arith)
-rising-over f n step i (suc j) l m =
-    let last = step j m in
-    let within : i ≤ j = omega arith in
-    ⊎-elim
-    (λ (e : i ≡ j). let same : f i ≡ f j = ap f e in omega arith)
-    (λ (h : i < j). let before = rising-over f n step i j h (omega arith) in omega arith)
-    (eq-or-lt-of-le within)

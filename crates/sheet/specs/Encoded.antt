@@ -1,4 +1,4 @@
--- The encoder of a sheet: the bytes of bids, effects and conditions. What S-6 writes is said by it, in version 2, and so are the worked rounds; what S-1 writes is conditions alone.
+-- The encoder of a sheet: the bytes of bids, effects and conditions. What S-6 writes is said by it, in version 2, and so are the worked rounds; what S-1 and S-2 write is conditions alone.
 use Prim.Native.Nat.{ℕ, _+_, _*_, _%_, _/_}
 use mathlib.Core.List.{List, [], _∷_, _++_}
 use lib.ListN.{length}

@@ -13,49 +13,72 @@ use Rattle.basis.specs.Tests.{anyBelow}
 use Rattle.basis.proofs.FirstLaws.{orElse-none, orElse-right, when-none}
 use Rattle.basis.proofs.NumberLaws.{outside, inside, from-inside}
 use Rattle.basis.proofs.TestLaws.{or-left, or-right, or-none, or-fails, not-holds, any-at, any-none, none-any}
-use Rattle.slot_terms.specs.SlotTerms.{barFor, slotTerms, ownerRefusal, profileRefusal, slotTermsRefusal, OwnerFits, TermsFit}
+use Rattle.slot_terms.specs.SlotTerms.{barFor, slotTerms, sizeRefusal, ownerRefusal, profileRefusal, slotTermsRefusal, OwnerFits, TermsFit}
 
--- 4, 5 and 16: none exactly where n, m and the owner fit
-pub owner-none : (n m owner : ℕ) → OwnerFits n m owner → ownerRefusal n m owner ≡ 0
-unfolding ownerRefusal
-owner-none n m owner fits =
-    simp (
-      inside n 64 (fits .some-bidders) (fits .most-bidders),
-      inside m 16 (fits .some-slots) (fits .most-slots),
-      inside owner n (fits .some-owner) (fits .most-owner),
-    )
+-- 4 and 5
+module _ (n m : ℕ) where
+  pub size-four : (n ≡ 0) ⊎ (64 < n) → sizeRefusal n m ≡ 4
+  unfolding sizeRefusal
+  size-four bad = simp (outside n 64 bad)
 
-pub fits-owner : (n m owner : ℕ) → ownerRefusal n m owner ≡ 0 → OwnerFits n m owner
-unfolding ownerRefusal
-fits-owner n m owner e =
-    let first = when-none 3 (eqb n 0 || ltb 64 n) _ e in
-    let second = when-none 4 (eqb m 0 || ltb 16 m) _ (first .1) in
-    let third = when-none 15 (eqb owner 0 || ltb n owner) _ (second .1) in
-    let bidders = from-inside n 64 (first .0) in
-    let slots = from-inside m 16 (second .0) in
-    let own = from-inside owner n (third .0) in
-    record {
-      some-bidders = bidders .0;
-      most-bidders = bidders .1;
-      some-slots = slots .0;
-      most-slots = slots .1;
-      some-owner = own .0;
-      most-owner = own .1;
-    }
+  pub size-five : 0 < n → n ≤ 64 → (m ≡ 0) ⊎ (16 < m) → sizeRefusal n m ≡ 5
+  unfolding sizeRefusal
+  size-five some most bad = simp (inside n 64 some most, outside m 16 bad)
 
--- and each where it applies
+  pub size-none : 0 < n → n ≤ 64 → 0 < m → m ≤ 16 → sizeRefusal n m ≡ 0
+  unfolding sizeRefusal
+  size-none some most some-m most-m = simp (inside n 64 some most, inside m 16 some-m most-m)
+
+  pub sized : sizeRefusal n m ≡ 0 → (0 < n) × (n ≤ 64) × (0 < m) × (m ≤ 16)
+  unfolding sizeRefusal
+  sized e =
+      let first = when-none 3 (eqb n 0 || ltb 64 n) _ e in
+      let second = when-none 4 (eqb m 0 || ltb 16 m) 0 (first .1) in
+      let bidders = from-inside n 64 (first .0) in
+      let slots = from-inside m 16 (second .0) in
+      (bidders .0, bidders .1, slots .0, slots .1)
+
+-- and then 16: where one of these applies, and where n, m and the owner fit
 module _ (n m owner : ℕ) where
-  pub owner-four : (n ≡ 0) ⊎ (64 < n) → ownerRefusal n m owner ≡ 4
+  abbrev ownerNumber : ℕ
+  ownerNumber = 16 when eqb owner 0 || ltb n owner otherwise 0
+
+  size-before : (k : ℕ) → sizeRefusal n m ≡ suc k → ownerRefusal n m owner ≡ suc k
   unfolding ownerRefusal
-  owner-four bad = simp (outside n 64 bad)
+  size-before k e = ap (λ (a : ℕ). orElse a ownerNumber) e
+
+  pub owner-four : (n ≡ 0) ⊎ (64 < n) → ownerRefusal n m owner ≡ 4
+  owner-four bad = size-before 3 (size-four n m bad)
 
   pub owner-five : 0 < n → n ≤ 64 → (m ≡ 0) ⊎ (16 < m) → ownerRefusal n m owner ≡ 5
+  owner-five some most bad = size-before 4 (size-five n m some most bad)
+
+  size-passed : 0 < n → n ≤ 64 → 0 < m → m ≤ 16 → ownerRefusal n m owner ≡ ownerNumber
   unfolding ownerRefusal
-  owner-five some most bad = simp (inside n 64 some most, outside m 16 bad)
+  size-passed some most some-m most-m = orElse-right (sizeRefusal n m) _ (size-none n m some most some-m most-m)
 
   pub owner-sixteen : 0 < n → n ≤ 64 → 0 < m → m ≤ 16 → (owner ≡ 0) ⊎ (n < owner) → ownerRefusal n m owner ≡ 16
+  owner-sixteen some most some-m most-m bad = size-passed some most some-m most-m ∙ simp (outside owner n bad)
+
+  pub owner-none : OwnerFits n m owner → ownerRefusal n m owner ≡ 0
+  owner-none fits =
+      size-passed (fits .some-bidders) (fits .most-bidders) (fits .some-slots) (fits .most-slots)
+      ∙ simp (inside owner n (fits .some-owner) (fits .most-owner))
+
+  pub fits-owner : ownerRefusal n m owner ≡ 0 → OwnerFits n m owner
   unfolding ownerRefusal
-  owner-sixteen some most some-m most-m bad = simp (inside n 64 some most, inside m 16 some-m most-m, outside owner n bad)
+  fits-owner e =
+      let both = orElse-none (sizeRefusal n m) ownerNumber e in
+      let size = sized n m (both .0) in
+      let own = from-inside owner n (when-none 15 (eqb owner 0 || ltb n owner) 0 (both .1) .0) in
+      record {
+        some-bidders = size .0;
+        most-bidders = size .1;
+        some-slots = size .2;
+        most-slots = size .3;
+        some-owner = own .0;
+        most-owner = own .1;
+      }
 
 -- and 20 to 22: none exactly where the limit and the bars do
 module _ (n m owner limit : ℕ) (bars : List ℕ) where
@@ -79,7 +102,7 @@ module _ (n m owner limit : ℕ) (bars : List ℕ) where
       (ap not (eq-eqb (length bars) n many))
       (none-any (λ i. ltb m (barFor bars (suc i))) n (λ i l. le-ltb m (barFor bars (suc i)) (low (suc i) (omega arith) l)))
 
-  pub profile-none : TermsFit n m owner limit bars → profileRefusal n m owner limit bars ≡ 0
+  profile-none : TermsFit n m owner limit bars → profileRefusal n m owner limit bars ≡ 0
   unfolding profileRefusal
   profile-none fit =
       simp (

@@ -8,16 +8,25 @@ use native.Mathlib.Omega.{arith}
 use lib.ListN.{length, getD}
 use Rattle.basis.specs.Rows.{row}
 use Rattle.basis.specs.Rising.{Rising}
-use Rattle.basis.proofs.RisingLaws.{mem-row, row-mem, mem-joined, joined-mem, rising-lower, rising-higher, rising-append, rising-joined, rising-steps, rising-next}
+use Rattle.basis.proofs.RisingLaws.{mem-row, row-mem, mem-joined, joined-mem, rising-lower, rising-higher, rising-append, rising-joined, rising-steps, rising-at}
 use Rattle.sheet.specs.Refusal.{fieldsRefusal}
 use Rattle.sheet.specs.Accepted.{fieldsNumber, numberOf}
 use Rattle.sheet.specs.Encoded.{Condition, on}
 use Rattle.sheet.proofs.AcceptedLaws.{fields-back}
 use Rattle.sheet.proofs.EncodedLaws.{blankCondition}
-use Rattle.sheet.proofs.OrderLaws.{rising-over}
 use Rattle.slot_terms.specs.SlotTerms.{barFor, barred, beyond, ByLimit, ByBar, slotTerms}
 use Rattle.slot_terms.specs.EngineTerms.{barsTo}
 use Rattle.slot_terms.proofs.WriteLaws.{allBarred, bars-most}
+
+-- the conditions of one own place and one other bidder, at places 1 to `count`, rise
+pub places-rise : (owner own other count : ℕ) → count ≤ 16 →
+    Rising numberOf (fieldsNumber owner own other 0) (fieldsNumber owner own (suc other) 0) (row (λ k. on owner own other (suc k)) count)
+unfolding numberOf
+places-rise owner own other count few =
+    let list = row (λ k. on owner own other (suc k)) count in
+    rising-lower numberOf (fieldsNumber owner own other 1) (fieldsNumber owner own other 0) (fieldsNumber owner own (suc other) 0) list (omega arith)
+    (rising-higher numberOf (fieldsNumber owner own other 1) (fieldsNumber owner own other (suc count)) (fieldsNumber owner own (suc other) 0) list (omega arith)
+    (rising-steps numberOf (λ k. on owner own other (suc k)) (λ k. fieldsNumber owner own other (suc k)) count (λ k b. (omega arith, omega arith))))
 
 module _ (n m owner limit : ℕ) (bars : List ℕ) where
   -- a condition that the terms name
@@ -84,14 +93,8 @@ module _ (n m owner limit : ℕ) (bars : List ℕ) where
   module _ (few : n ≤ 64) (short : m ≤ 16) (low : (j : ℕ) → 0 < j → j ≤ n → barFor bars j ≤ m) where
     barred-rises : (i : ℕ) → i < n →
         Rising numberOf (fieldsNumber owner 0 (suc i) 0) (fieldsNumber owner 0 (suc (suc i)) 0) (barred owner (suc i) (barFor bars (suc i)))
-    unfolding barred numberOf
-    barred-rises i l =
-        let bar = barFor bars (suc i) in
-        let most : bar ≤ m = low (suc i) (omega arith) l in
-        let list = row (λ k. on owner 0 (suc i) (suc k)) bar in
-        rising-lower numberOf (fieldsNumber owner 0 (suc i) 1) (fieldsNumber owner 0 (suc i) 0) (fieldsNumber owner 0 (suc (suc i)) 0) list (omega arith)
-        (rising-higher numberOf (fieldsNumber owner 0 (suc i) 1) (fieldsNumber owner 0 (suc i) (suc bar)) (fieldsNumber owner 0 (suc (suc i)) 0) list (omega arith)
-        (rising-steps numberOf (λ k. on owner 0 (suc i) (suc k)) (λ k. fieldsNumber owner 0 (suc i) (suc k)) bar (λ k b. (omega arith, omega arith))))
+    unfolding barred
+    barred-rises i l = places-rise owner 0 (suc i) (barFor bars (suc i)) (let most = low (suc i) (omega arith) l in omega arith)
 
     terms-rise : Rising numberOf (fieldsNumber owner 0 1 0) (fieldsNumber owner (limit + 1 + (m - limit)) 0 0) (slotTerms n m owner limit bars)
     unfolding slotTerms beyond numberOf
@@ -106,9 +109,8 @@ module _ (n m owner limit : ℕ) (bars : List ℕ) where
     pub terms-rising : (j k : ℕ) → j < k → k < length (slotTerms n m owner limit bars) →
         numberOf (getD (slotTerms n m owner limit bars) j blankCondition) < numberOf (getD (slotTerms n m owner limit bars) k blankCondition)
     terms-rising =
-        let qs = slotTerms n m owner limit bars in
-        rising-over (λ k. numberOf (getD qs k blankCondition)) (length qs)
-        (rising-next numberOf (fieldsNumber owner 0 1 0) (fieldsNumber owner (limit + 1 + (m - limit)) 0 0) qs blankCondition terms-rise)
+        rising-at numberOf (fieldsNumber owner 0 1 0) (fieldsNumber owner (limit + 1 + (m - limit)) 0 0) (slotTerms n m owner limit bars) blankCondition
+        terms-rise
 
     -- where the owner is one of the bidders, and nothing is barred against it
     module _ (some : 0 < owner) (within : owner ≤ n) (none : barFor bars owner ≡ 0) where

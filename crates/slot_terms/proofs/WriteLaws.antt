@@ -4,18 +4,16 @@ use Prim.Native.Nat.{ℕ, zero, suc, _+_, _-_, _*_, _<_, _≤_}
 use mathlib.Core.List.{List, [], _∷_, _++_}
 use mathlib.Core.Logic.{⊎-elim}
 use mathlib.Core.Path.{_≡_, refl, sym, _∙_, ap, ap₂}
-use borrow.Author.Tests.{lt-ltb, le-ltb}
 use native.Mathlib.Nat.{mod-eq-of-lt, eq-or-lt-of-le}
 use native.Mathlib.Numerals.{add-one}
 use native.Mathlib.Omega.{arith}
-use lib.Dec.{ltb}
 use lib.ListN.{length, getD, drop, length-append}
 use lib.Seq.{sets}
 use Rattle.basis.specs.Bytes.{bytes32}
-use Rattle.basis.specs.First.{_when_otherwise_, unlessRefused}
+use Rattle.basis.specs.First.{unlessRefused}
 use Rattle.basis.specs.Rows.{row, joined}
 use Rattle.basis.proofs.BytesLaws.{length-bytes32, word-bytes}
-use Rattle.basis.proofs.FirstLaws.{orElse-left, orElse-right, refused-leaves, answered-gives}
+use Rattle.basis.proofs.FirstLaws.{refused-leaves, answered-gives}
 use Rattle.basis.proofs.RowLaws.{length-row, joined-same, sets-then, joined-stored, sets-front}
 use Rattle.sheet.specs.Encoded.{Condition, on, quads}
 use Rattle.sheet.proofs.EncodedLaws.{quadBytes, quads-row, length-quads}
@@ -29,9 +27,11 @@ use Rattle.slot_terms.specs.SlotTerms.{
   slotTermsRefusal,
   conditionsBuffer,
   SlotTermsWritten,
+  OwnerFits,
+  TermsFit,
 }
 use Rattle.slot_terms.specs.declared.Written.{Written}
-use Rattle.slot_terms.proofs.RefusalLaws.{fits-owner, fits-terms}
+use Rattle.slot_terms.proofs.RefusalLaws.{owner-first, profile-first, nineteen, answered}
 use Rattle.slot_terms.specs.EngineTerms.{wordOf, barsTo}
 
 -- a bar of more bidders adds nothing below
@@ -106,7 +106,7 @@ pub barred-words : (owner other bar : ℕ) → owner ≤ 64 → other ≤ 64 →
 unfolding barred
 barred-words owner other bar ho hj hb = others-words owner 0 other bar ho (omega arith) hj hb
 
-pub beyond-words : (m owner limit : ℕ) → m ≤ 16 → owner ≤ 64 →
+beyond-words : (m owner limit : ℕ) → m ≤ 16 → owner ≤ 64 →
     joined (λ k. bytes32 (wordOf owner (limit + 1) 0 0 + 256 * k)) (m - limit) ≡ quads (beyond m owner limit)
 unfolding beyond
 beyond-words m owner limit hm ho =
@@ -186,59 +186,44 @@ module _ (n m owner limit : ℕ) (bars out : List ℕ) where
 
   pub owner-refused : (returned : Written) (k : ℕ) → returned ≡ record { refusal = k; count = 0 } → k ≡ ownerRefusal n m owner → (k ≡ 0 → ⊥) →
       SlotTermsWritten n m owner limit bars out returned out
-  unfolding slotTermsRefusal
-  owner-refused returned k e same h = left returned k e (same ∙ sym (orElse-left (ownerRefusal n m owner) _ (λ z. h (same ∙ z)))) h
+  owner-refused returned zero e same h = absurd (h refl)
+  owner-refused returned (suc k) e same h = left returned (suc k) e (sym (owner-first n m owner limit bars out k (sym same))) h
 
-  module _ (owned : ownerRefusal n m owner ≡ 0) where
-    pub profile-refused : (returned : Written) (k : ℕ) → returned ≡ record { refusal = k; count = 0 } → k ≡ profileRefusal n m owner limit bars → (k ≡ 0 → ⊥) →
+  pub profile-refused : OwnerFits n m owner → (returned : Written) (k : ℕ) → returned ≡ record { refusal = k; count = 0 } →
+      k ≡ profileRefusal n m owner limit bars → (k ≡ 0 → ⊥) → SlotTermsWritten n m owner limit bars out returned out
+  profile-refused fits returned zero e same h = absurd (h refl)
+  profile-refused fits returned (suc k) e same h = left returned (suc k) e (sym (profile-first n m owner limit bars out k fits (sym same))) h
+
+  module _ (fit : TermsFit n m owner limit bars) where
+    many : barsTo bars (length bars) + (m - limit) ≡ length terms
+    many = ap (λ (k : ℕ). barsTo bars k + (m - limit)) (fit .as-many) ∙ sym (terms-count n m owner limit bars)
+
+    pub buffer-short : (returned : Written) → returned ≡ record { refusal = 19; count = 0 } → length out < 4 * (barsTo bars (length bars) + (m - limit)) →
         SlotTermsWritten n m owner limit bars out returned out
-    unfolding slotTermsRefusal
-    profile-refused returned k e same h =
-        left returned k e
-        (same
-        ∙ sym (orElse-right (ownerRefusal n m owner) _ owned ∙ orElse-left (profileRefusal n m owner limit bars) _ (λ z. h (same ∙ z))))
-        h
+    buffer-short returned e less =
+        let size = many in
+        left returned 19 e (sym (nineteen n m owner limit bars out fit (omega arith))) (λ z. absurd (omega arith))
 
-    module _ (proper : profileRefusal n m owner limit bars ≡ 0) where
-      as-many : length bars ≡ n
-      as-many = fits-terms n m owner limit bars (fits-owner n m owner owned) proper .as-many
-
-      many : barsTo bars (length bars) + (m - limit) ≡ length terms
-      many =
-          ap (λ (k : ℕ). barsTo bars k + (m - limit)) as-many
-          ∙ sym (terms-count n m owner limit bars)
-
-      last-test : number ≡ (19 when ltb (length out) (4 * length terms) otherwise 0)
-      unfolding slotTermsRefusal
-      last-test = orElse-right (ownerRefusal n m owner) _ owned ∙ orElse-right (profileRefusal n m owner limit bars) _ proper
-
-      pub buffer-short : (returned : Written) → returned ≡ record { refusal = 19; count = 0 } → length out < 4 * (barsTo bars (length bars) + (m - limit)) →
-          SlotTermsWritten n m owner limit bars out returned out
-      buffer-short returned e less =
-          let size = many in
-          left returned 19 e
-          (sym (last-test ∙ simp (lt-ltb (length out) (4 * length terms) (omega arith))))
-          (λ z. absurd (omega arith))
-
-      pub terms-written : (front whole : List ℕ) (at count word runs : ℕ) → count ≡ barsTo bars (length bars) + (m - limit) → 4 * count ≤ length out →
-          at ≡ 4 * barsTo bars (length bars) → front ≡ sets out 0 (quads (allBarred owner bars (length bars))) →
-          word ≡ wordOf owner (limit + 1) 0 0 → runs ≡ m - limit → whole ≡ sets front at (joined (λ k. bytes32 (word + 256 * k)) runs) →
-          SlotTermsWritten n m owner limit bars out (record { refusal = 0; count = count }) whole
-      unfolding slotTerms
-      terms-written front whole at count word runs e room place f g h w =
-          let fits = fits-owner n m owner owned in
-          let size = many in
-          let all = as-many in
-          let none : number ≡ 0 = last-test ∙ simp (le-ltb (length out) (4 * length terms) (omega arith)) in
-          record {
-            number = sym none;
-            count = e ∙ size ∙ answered-gives number (length terms) 0 none;
-            buffer =
-                w
-                ∙ ap₂ (λ (x k : ℕ). sets front at (joined (λ i. bytes32 (x + 256 * i)) k)) g h
-                ∙ ap₂ (λ (l run : List ℕ). sets l at run) f (beyond-words m owner limit (fits .most-slots) (let most = fits .most-bidders in let own = fits .most-owner in omega arith))
-                ∙ quads-then (allBarred owner bars (length bars)) (beyond m owner limit) out 0 at
-                (let bars-many = length-all-barred owner bars (length bars) in omega arith)
-                ∙ ap (λ (k : ℕ). sets out 0 (quads (allBarred owner bars k ++ beyond m owner limit))) all
-                ∙ terms-left number terms out none (omega arith);
-          }
+    pub terms-written : (front whole : List ℕ) (at count word runs : ℕ) → count ≡ barsTo bars (length bars) + (m - limit) → 4 * count ≤ length out →
+        at ≡ 4 * barsTo bars (length bars) → front ≡ sets out 0 (quads (allBarred owner bars (length bars))) →
+        word ≡ wordOf owner (limit + 1) 0 0 → runs ≡ m - limit → whole ≡ sets front at (joined (λ k. bytes32 (word + 256 * k)) runs) →
+        SlotTermsWritten n m owner limit bars out (record { refusal = 0; count = count }) whole
+    unfolding slotTerms
+    terms-written front whole at count word runs e room place f g h w =
+        let fits = fit .owner-fits in
+        let size = many in
+        let all = fit .as-many in
+        let none = answered n m owner limit bars out fit (omega arith) in
+        record {
+          number = sym none;
+          count = e ∙ size ∙ answered-gives number (length terms) 0 none;
+          buffer =
+              w
+              ∙ ap₂ (λ (x k : ℕ). sets front at (joined (λ i. bytes32 (x + 256 * i)) k)) g h
+              ∙ ap₂ (λ (l run : List ℕ). sets l at run) f
+              (beyond-words m owner limit (fits .most-slots) (let most = fits .most-bidders in let own = fits .most-owner in omega arith))
+              ∙ quads-then (allBarred owner bars (length bars)) (beyond m owner limit) out 0 at
+              (let bars-many = length-all-barred owner bars (length bars) in omega arith)
+              ∙ ap (λ (k : ℕ). sets out 0 (quads (allBarred owner bars k ++ beyond m owner limit))) all
+              ∙ terms-left number terms out none (omega arith);
+        }

@@ -36,13 +36,16 @@ ByBar n bars q = (q .own ≡ 0) × (0 < q .other) × (q .other ≤ n) × (0 < q 
 unfoldable pub slotTerms : (n m owner limit : ℕ) → List ℕ → List Condition
 slotTerms n m owner limit bars = joined (λ i. barred owner (suc i) (barFor bars (suc i))) n ++ beyond m owner limit
 
--- 4. n is 0 or above 64.  5. m is 0 or above 16.  16. The owner is 0 or above n.
-unfoldable pub ownerRefusal : (n m owner : ℕ) → ℕ
-ownerRefusal n m owner =
+-- 4. n is 0 or above 64.  5. m is 0 or above 16.
+unfoldable pub sizeRefusal : (n m : ℕ) → ℕ
+sizeRefusal n m =
     4 when eqb n 0 || ltb 64 n otherwise
     5 when eqb m 0 || ltb 16 m otherwise
-    16 when eqb owner 0 || ltb n owner otherwise
     0
+
+-- 4 and 5, then 16. The owner is 0 or above n.
+unfoldable pub ownerRefusal : (n m owner : ℕ) → ℕ
+ownerRefusal n m owner = orElse (sizeRefusal n m) (16 when eqb owner 0 || ltb n owner otherwise 0)
 
 -- 20. The limit is 0 or above m.  21. The list of bars is not n long, or a bar is above m, the owner's own included.
 -- 22. The bar against the owner is not 0.

@@ -13,7 +13,7 @@ ghost use Rattle.basis.specs.Bytes.{bytes32};
 ghost use Rattle.basis.specs.Rows.{joined};
 ghost use Rattle.basis.specs.Tests.{anyBelow};
 ghost use Rattle.sheet.specs.Encoded.{quads};
-ghost use Rattle.slot_terms.specs.SlotTerms.{barFor, barred, ownerRefusal, profileRefusal, SlotTermsWritten};
+ghost use Rattle.slot_terms.specs.SlotTerms.{barFor, barred, sizeRefusal, ownerRefusal, profileRefusal, SlotTermsWritten};
 ghost use Rattle.slot_terms.specs.EngineTerms.{wordOf, barsTo};
 use sheet::Bidder;
 use sheet::Slot;
@@ -31,9 +31,9 @@ pub struct Written {
     pub count: u32,
 }
 
-// 4, 5 or 16, or 0 for an owner that a sheet of n bidders and m slots can have.
-pub fn owner_refusal(n: u32, m: u32, owner: u32) -> u32
-    ensures { λ r. ⌜ r ≡ ownerRefusal n m owner ⌝ }
+// 4 or 5, or 0 for numbers of bidders and slots that a sheet can have.
+pub fn size_refusal(n: u32, m: u32) -> u32
+    ensures { λ r. ⌜ r ≡ sizeRefusal n m ⌝ }
 {
     if n == 0 {
         return 4;
@@ -46,6 +46,17 @@ pub fn owner_refusal(n: u32, m: u32, owner: u32) -> u32
     }
     if 16 < m {
         return 5;
+    }
+    0
+}
+
+// 4, 5 or 16, or 0 for an owner that a sheet of n bidders and m slots can have.
+pub fn owner_refusal(n: u32, m: u32, owner: u32) -> u32
+    ensures { λ r. ⌜ r ≡ ownerRefusal n m owner ⌝ }
+{
+    let size = size_refusal(n, m);
+    if size != 0 {
+        return size;
     }
     if owner == 0 {
         return 16;

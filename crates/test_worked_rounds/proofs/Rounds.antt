@@ -45,11 +45,11 @@ use Rattle.best_search.specs.Call.{boundsRefusal, bestRefusal, bestFloorsRefusa
 use Rattle.play.specs.Play.{roomRefusal, playRefusal, playFloorsRefusal, slotEntry, playedBuffer}
 use Rattle.owner_part.specs.OwnerPart.{callRefusal, partRefusal, firstFrom, bytesBefore, constraintBytes, constraintsOf, partLength, boundsFor, boundsOf, beforeFor, beforeOf}
 use Rattle.canonical.specs.Canonical.{hasCondition, conditionsInOrder, canonicalSheet, canonicalRefusal, canonicalBuffer}
-use Rattle.slot_terms.specs.SlotTerms.{barFor, barred, beyond, slotTerms, ownerRefusal, profileRefusal, slotTermsRefusal, conditionsBuffer}
+use Rattle.slot_terms.specs.SlotTerms.{barFor, barred, beyond, slotTerms, sizeRefusal, ownerRefusal, profileRefusal, slotTermsRefusal, conditionsBuffer}
 use Rattle.basis.specs.Counting.{countTo}
-use Rattle.bidder_sets.specs.BidderSets.{inSet, membersOf, numbersWrong, setAt, endAt, setsEnd, rivalsOf}
+use Rattle.bidder_sets.specs.BidderSets.{inSet, memberCount, numbersWrong, setAt, endAt, setsEnd, rivalsOf}
 use Rattle.above_terms.specs.AboveTerms.{pairsAt, aboveTerms, rivalsRefusal, aboveTermsRefusal}
-use Rattle.share_page.specs.SharePage.{headed, ordersOf, putsAbove, someOf, firstOf, canShare, orderWritten, orderBuffer, sizeRefusal, setsRefusal, shareRefusal}
+use Rattle.share_page.specs.SharePage.{headed, ordersOf, putsAbove, someOf, firstOf, canShare, orderWritten, orderBuffer, setsRefusal, shareRefusal}
 use Rattle.test_worked_rounds.specs.Sheets.{A, B, C, D, E, F, F-true, F-version-3, F-eight-bytes, F-in-ticks, F-off-tick, F-tick-0, F-twelve-bytes, F-without-tick, G, H, H-longer, earlier-winner, earlier-winner-and-own, placed-and-own, overbid, overbid-barred, second-not-first, tie-in-ticks, lower-number-in-ticks, tick-above-bids, too-high-and-off-tick, H-in-order, owners-two-and-four, equal-neighbours, repeated-in-version-1, own-place-falls, falls-and-names-itself, falls-before-a-fault, falls-after-a-fault, nine-bidders, two-faults, H-shuffled, owners-four-and-two, repeat-dropped, F-written}
 use Rattle.test_worked_rounds.specs.Worked.{Worked, lent, givenByPlay, givenByBest, givenWithFloors, given, entries, rounds, Candidate, givenByStep, candidates, PartAsked, givenByPart, parts, WriteAsked, givenByWriter, writings, TermsAsked, givenByTerms, terms, AboveAsked, givenByAbove, namedRivals, ShareAsked, givenBySharing, sharings}
 
@@ -74,15 +74,15 @@ writings-hold = refl
 
 -- Top-of-page terms.
 pub terms-hold : map givenByTerms terms ≡ map (λ (t : TermsAsked). t .said) terms
-unfolding unlessRefused row joined anyBelow quads barFor barred beyond slotTerms ownerRefusal profileRefusal slotTermsRefusal conditionsBuffer givenByTerms terms
+unfolding unlessRefused row joined anyBelow quads barFor barred beyond slotTerms sizeRefusal ownerRefusal profileRefusal slotTermsRefusal conditionsBuffer givenByTerms terms
 terms-hold = refl
 
 -- The profile "above named rivals".
 pub named-rivals-hold : map givenByAbove namedRivals ≡ map (λ (a : AboveAsked). a .said) namedRivals
-unfolding unlessRefused row joined anyBelow quads ownerRefusal conditionsBuffer inSet numbersWrong pairsAt aboveTerms rivalsRefusal aboveTermsRefusal givenByAbove namedRivals
+unfolding unlessRefused row joined anyBelow quads sizeRefusal ownerRefusal conditionsBuffer inSet numbersWrong pairsAt aboveTerms rivalsRefusal aboveTermsRefusal givenByAbove namedRivals
 named-rivals-hold = refl
 
 -- Sharing.
 pub sharings-hold : map givenBySharing sharings ≡ map (λ (a : ShareAsked). a .said) sharings
-unfolding unlessRefused joined anyBelow allBelow countTo inSet membersOf numbersWrong setAt endAt setsEnd rivalsOf headed ordersOf putsAbove someOf firstOf canShare orderWritten orderBuffer sizeRefusal setsRefusal shareRefusal givenBySharing sharings
+unfolding unlessRefused joined anyBelow allBelow countTo inSet memberCount numbersWrong setAt endAt setsEnd rivalsOf headed ordersOf putsAbove someOf firstOf canShare orderWritten orderBuffer sizeRefusal setsRefusal shareRefusal givenBySharing sharings
 sharings-hold = refl

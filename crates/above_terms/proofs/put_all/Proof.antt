@@ -9,7 +9,7 @@ use lib.ListN.{length}
 use lib.Seq.{sets}
 use Rattle.basis.specs.Rows.{joined}
 use Rattle.sheet.specs.Encoded.{quads}
-use Rattle.above_terms.specs.EngineAbove.{placePairs, allPairs}
+use Rattle.above_terms.specs.EngineAbove.{slotPairs, allPairs}
 use Rattle.above_terms.proofs.AboveLaws.{all-pairs-more, all-pairs-room, all-pairs-next}
 use Rattle.above_terms.proofs.put_all.Statement.{statement}
 use Rattle.above_terms.proofs.put_all.Tie as tie
@@ -73,7 +73,7 @@ loop-again c =
           omega arith);
       run =
           done .put-slot .ensures .1
-          ∙ ap (λ (l : List ℕ). sets l (turn .at) (quads (placePairs owner (turn .k + 1) others (length others)))) (turn .inv .run)
+          ∙ ap (λ (l : List ℕ). sets l (turn .at) (quads (slotPairs owner (turn .k + 1) others (length others)))) (turn .inv .run)
           ∙ all-pairs-next owner others (a .result .now) (turn .at) (turn .k) (turn .inv .end);
     }
 

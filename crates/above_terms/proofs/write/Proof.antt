@@ -10,15 +10,15 @@ use native.Mathlib.Omega.{arith}
 use lib.ListN.{length, getD, take, replicate}
 use lib.Seq.{sets, length-sets}
 use Rattle.sheet.specs.Encoded.{Condition, quads}
-use Rattle.slot_terms.specs.SlotTerms.{ownerRefusal, OwnerFits}
+use Rattle.slot_terms.specs.SlotTerms.{OwnerFits}
 use Rattle.slot_terms.proofs.RefusalLaws.{fits-owner}
 use Rattle.bidder_sets.specs.BidderSets.{inSet, numbersWrong}
-use Rattle.bidder_sets.specs.EngineSets.{inWord, Holds, listed}
-use Rattle.bidder_sets.proofs.SetLaws.{listed-few, listed-at, list-front}
-use Rattle.above_terms.specs.AboveTerms.{aboveTerms, rivalsRefusal}
+use Rattle.bidder_sets.specs.EngineSets.{inWord, Holds, risingMembers}
+use Rattle.bidder_sets.proofs.SetLaws.{members-few, members-at, list-front}
+use Rattle.above_terms.specs.AboveTerms.{aboveTerms}
 use Rattle.above_terms.specs.EngineAbove.{allPairs}
-use Rattle.above_terms.proofs.AboveLaws.{places-most, all-pairs-many, set-pairs}
-use Rattle.above_terms.proofs.WriteLaws.{rivals-wrong, rivals-own, rivals-right, owner-refused, rivals-refused, too-many, buffer-short, terms-written}
+use Rattle.above_terms.proofs.AboveLaws.{slots-most, all-pairs-many, set-pairs}
+use Rattle.above_terms.proofs.WriteLaws.{owner-refused, numbers-refused, own-refused, too-many, buffer-short, terms-written}
 use Rattle.above_terms.proofs.write.Statement.{statement}
 use Rattle.above_terms.proofs.write.Tie as tie
 
@@ -29,11 +29,8 @@ start c = c .before .before .before
 abbrev first : tie.After-read → tie.Start
 first c = start (c .before .before)
 
-owned : (c : tie.Else1) → ownerRefusal (start (c .before) .args .n) (start (c .before) .args .m) (start (c .before) .args .owner) ≡ 0
-owned c = sym (c .before .owner-refusal .ensures) ∙ c .if1 .left
-
 known : (c : tie.Else1) → OwnerFits (start (c .before) .args .n) (start (c .before) .args .m) (start (c .before) .args .owner)
-known c = fits-owner _ _ _ (owned c)
+known c = fits-owner _ _ _ (sym (c .before .owner-refusal .ensures) ∙ c .if1 .left)
 
 right : (c : tie.Else2) → numbersWrong (first (c .before) .args .n) (first (c .before) .args .rivals .now) ≡ false
 right c = sym (c .before .read .ensures .0) ∙ c .if2 .left
@@ -48,11 +45,8 @@ own c =
     let someone = is .most-owner in
     c .has .ensures ∙ held (c .before .before) _ (is .some-owner) (omega arith)
 
-proper : (c : tie.Else3) →
-    rivalsRefusal (first (c .before .before .before .before) .args .n) (first (c .before .before .before .before) .args .owner)
-    (first (c .before .before .before .before) .args .rivals .now)
-    ≡ 0
-proper c = rivals-right _ _ _ (right (c .before .before .before)) (sym (own (c .before)) ∙ c .if3 .left)
+other : (c : tie.Else3) → inSet (first (c .before .before .before .before) .args .rivals .now) (first (c .before .before .before .before) .args .owner) ≡ false
+other c = sym (own (c .before)) ∙ c .if3 .left
 
 -- what the space holds after its listing: the bidders of the set
 abbrev past : tie.After-list → tie.Else3
@@ -68,7 +62,7 @@ abbrev word : tie.After-list → ℕ
 word c = set-read c .before .read .result .bidders .0
 
 abbrev others : tie.After-list → List ℕ
-others c = listed (inWord (word c)) (begun c .args .n)
+others c = risingMembers (inWord (word c)) (begun c .args .n)
 
 abbrev taken : tie.After-list → List ℕ
 taken c = take (c .list .result) (c .list .last .1 .1 .0)
@@ -77,7 +71,7 @@ fits : (c : tie.After-list) → OwnerFits (begun c .args .n) (begun c .args .m) 
 fits c = known (set-read c .before .before)
 
 few : (c : tie.After-list) → length (others c) ≤ 64
-few c = let most = listed-few (inWord (word c)) (begun c .args .n) in let bidders = fits c .most-bidders in omega arith
+few c = let most = members-few (inWord (word c)) (begun c .args .n) in let bidders = fits c .most-bidders in omega arith
 
 front : (c : tie.After-list) → taken c ≡ others c
 front c =
@@ -95,16 +89,16 @@ pairs c =
     (λ j l. (let few = fits c .most-bidders in held (set-read c) (suc j) (omega arith) (omega arith)))
 
 -- and their number is known before
-counted : (c : tie.After-places-above) →
-    length (taken (c .before .before)) * c .places-above .result
+counted : (c : tie.After-slots-above) →
+    length (taken (c .before .before)) * c .slots-above .result
     ≡ length (allPairs (begun (c .before .before) .args .owner) (taken (c .before .before)) (begun (c .before .before) .args .m))
 counted c =
     let listing = c .before .before in
     let a = begun listing .args in
-    ap (λ (k : ℕ). length (taken listing) * k) (c .places-above .ensures) ∙ sym (all-pairs-many (a .owner) (taken listing) (a .m))
+    ap (λ (k : ℕ). length (taken listing) * k) (c .slots-above .ensures) ∙ sym (all-pairs-many (a .owner) (taken listing) (a .m))
 
-many : (c : tie.After-places-above) →
-    length (taken (c .before .before)) * c .places-above .result
+many : (c : tie.After-slots-above) →
+    length (taken (c .before .before)) * c .slots-above .result
     ≡ length (aboveTerms (begun (c .before .before) .args .n) (begun (c .before .before) .args .m) (begun (c .before .before) .args .owner)
     (begun (c .before .before) .args .rivals .now))
 many c = counted c ∙ ap length (pairs (c .before .before))
@@ -131,9 +125,8 @@ returns-2 : tie.Need-returns-2
 returns-2 c =
     let tested = c .before .before in
     let a = first tested .args in
-    rivals-refused (a .n) (a .m) (a .owner) (a .rivals .now) (a .result .now) (owned (tested .before)) _ 23 (c .refused2 .ensures)
-    (rivals-wrong (a .n) (a .owner) (a .rivals .now) (sym (tested .read .ensures .0) ∙ c .before .if2 .taken))
-    (λ z. absurd (omega arith))
+    numbers-refused (a .n) (a .m) (a .owner) (a .rivals .now) (a .result .now) (known (tested .before)) _ (c .refused2 .ensures)
+    (sym (tested .read .ensures .0) ∙ c .before .if2 .taken)
 
 cast-t18 : tie.Need-cast-t18
 cast-t18 c =
@@ -157,9 +150,8 @@ returns-3 c =
     let tested = c .before .before in
     let past = tested .before .before in
     let a = first (past .before) .args in
-    rivals-refused (a .n) (a .m) (a .owner) (a .rivals .now) (a .result .now) (owned (past .before .before)) _ 24 (c .refused3 .ensures)
-    (rivals-own (a .n) (a .owner) (a .rivals .now) (right past) (sym (own tested) ∙ c .before .if3 .taken))
-    (λ z. absurd (omega arith))
+    own-refused (a .n) (a .m) (a .owner) (a .rivals .now) (a .result .now) (known (past .before .before)) (right past) _ (c .refused3 .ensures)
+    (sym (own tested) ∙ c .before .if3 .taken)
 
 list-requires : tie.Need-list-requires
 list-requires c κs = known (c .before .before .before .before .before .before) .most-bidders
@@ -174,18 +166,18 @@ array-share-prefix-space c =
 slice-aggregate-others : tie.Need-slice-aggregate-others
 slice-aggregate-others c = c .before .list .ensures .0 ∙ sym (ap length (front (c .before)))
 
-places-above-requires : tie.Need-places-above-requires
-places-above-requires c κs = let is = fits (c .before) in (is .some-slots, is .most-slots)
+slots-above-requires : tie.Need-slots-above-requires
+slots-above-requires c κs = let is = fits (c .before) in (is .some-slots, is .most-slots)
 
 mul-pairs : tie.Need-mul-pairs
 mul-pairs c =
     let listing = c .before .before in
     let slots = fits listing .most-slots in
-    let places = places-most (begun listing .args .m) (omega arith) in
-    let each = c .places-above .ensures in
+    let places = slots-most (begun listing .args .m) (omega arith) in
+    let each = c .slots-above .ensures in
     let same = ap length (front listing) in
     let most = few listing in
-    let product = mul-le-mul {n₁ = length (taken listing)} {m₁ = c .places-above .result} {n₂ = 64} {m₂ = 120} (omega arith) (omega arith) in
+    let product = mul-le-mul {n₁ = length (taken listing)} {m₁ = c .slots-above .result} {n₂ = 64} {m₂ = 120} (omega arith) (omega arith) in
     omega arith
 
 refused-requires-4 : tie.Need-refused-requires-4
@@ -196,7 +188,7 @@ returns-4 c =
     let counting = c .before .before in
     let listing = counting .before .before in
     let a = begun listing .args in
-    too-many (a .n) (a .m) (a .owner) (a .rivals .now) (a .result .now) (owned (set-read listing .before .before)) (proper (past listing)) _ (many counting) _
+    too-many (a .n) (a .m) (a .owner) (a .rivals .now) (a .result .now) (fits listing) (right (set-read listing)) (other (past listing)) _ (many counting) _
     (c .refused4 .ensures)
     (c .before .if4 .taken)
 
@@ -211,7 +203,7 @@ returns-5 c =
     let counting = c .before .before .before in
     let listing = counting .before .before in
     let a = begun listing .args in
-    buffer-short (a .n) (a .m) (a .owner) (a .rivals .now) (a .result .now) (owned (set-read listing .before .before)) (proper (past listing)) _ (many counting)
+    buffer-short (a .n) (a .m) (a .owner) (a .rivals .now) (a .result .now) (fits listing) (right (set-read listing)) (other (past listing)) _ (many counting)
     (c .before .before .if4 .left) _
     (c .refused5 .ensures)
     (c .before .if5 .taken)
@@ -226,7 +218,7 @@ put-all-requires c κs =
       omega arith,
       is .most-slots,
       subst (λ (l : List ℕ). (j : ℕ) → j < length l → getD l j 0 ≤ 64) (sym (front listing))
-          (λ j l. let member = listed-at (inWord (word listing)) (begun listing .args .n) j l .1 in omega arith),
+          (λ j l. let member = members-at (inWord (word listing)) (begun listing .args .n) j l .1 in omega arith),
       (let size = counted counting in let room = c .before .if5 .left in omega arith),
     )
 
@@ -243,7 +235,7 @@ returns-6 c =
     let counting = room .before .before in
     let listing = counting .before .before in
     let a = begun listing .args in
-    terms-written (a .n) (a .m) (a .owner) (a .rivals .now) (a .result .now) (owned (set-read listing .before .before)) (proper (past listing)) _ (many counting)
+    terms-written (a .n) (a .m) (a .owner) (a .rivals .now) (a .result .now) (fits listing) (right (set-read listing)) (other (past listing)) _ (many counting)
     (room .before .if4 .left) _
     (room .if5 .left)
     (put .put-all .ensures ∙ ap (λ (t : List Condition). sets (a .result .now) 0 (quads t)) (pairs listing))
@@ -265,7 +257,7 @@ write-spec =
     list-requires
     array-share-prefix-space
     slice-aggregate-others
-    places-above-requires
+    slots-above-requires
     mul-pairs
     refused-requires-4
     returns-4

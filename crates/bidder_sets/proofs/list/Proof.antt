@@ -10,16 +10,16 @@ use native.Mathlib.Omega.{arith}
 use lib.ListN.{length, set, length-append}
 use lib.Seq.{sets}
 use Rattle.basis.specs.Rows.{joined}
-use Rattle.bidder_sets.specs.EngineSets.{inWord, listed}
-use Rattle.bidder_sets.proofs.SetLaws.{listed-member, listed-other, stored-next}
+use Rattle.bidder_sets.specs.EngineSets.{inWord, risingMembers}
+use Rattle.bidder_sets.proofs.SetLaws.{members-next, members-same, stored-next}
 use Rattle.bidder_sets.proofs.list.Statement.{statement}
 use Rattle.bidder_sets.proofs.list.Tie as tie
 
 record Put (word n : ℕ) (space₀ space : List ℕ) (count i : ℕ) : Type 0 where
   some : i ≤ n
   few : count ≤ i
-  size : count ≡ length (listed (inWord word) i)
-  front : space ≡ sets space₀ 0 (listed (inWord word) i)
+  size : count ≡ length (risingMembers (inWord word) i)
+  front : space ≡ sets space₀ 0 (risingMembers (inWord word) i)
 
 abbrev Inv-loop : tie.InvT-loop
 Inv-loop set n space₀ count₀ i₀ space count i = Put (set .0) n space₀ space count i
@@ -32,20 +32,20 @@ module _ (word n : ℕ) (space₀ space : List ℕ) (count i : ℕ) (v : Put wor
   put-next : inWord word (i + 1) ≡ true → Put word n space₀ (set space count (i + 1)) (count + 1) (i + 1)
   put-next e =
       let next = add-one i in
-      let same = listed-member (inWord word) i (ap (inWord word) (sym next) ∙ e) in
+      let same = members-next (inWord word) i (ap (inWord word) (sym next) ∙ e) in
       let few = v .few in
       let size = v .size in
       record {
         some = omega arith;
         few = omega arith;
         size =
-            (let long = ap length same ∙ length-append (listed (inWord word) i) (suc i ∷ []) in
-            let again = ap (λ (k : ℕ). length (listed (inWord word) k)) next in
+            (let long = ap length same ∙ length-append (risingMembers (inWord word) i) (suc i ∷ []) in
+            let again = ap (λ (k : ℕ). length (risingMembers (inWord word) k)) next in
             omega arith);
         front =
             ap₂ (λ (l : List ℕ) (x : ℕ). set l count x) (v .front) next
-            ∙ stored-next space₀ (listed (inWord word) i) count (suc i) size
-            ∙ ap (sets space₀ 0) (sym same ∙ ap (listed (inWord word)) (sym next));
+            ∙ stored-next space₀ (risingMembers (inWord word) i) count (suc i) size
+            ∙ ap (sets space₀ 0) (sym same ∙ ap (risingMembers (inWord word)) (sym next));
       }
 
   -- or is not
@@ -53,12 +53,12 @@ module _ (word n : ℕ) (space₀ space : List ℕ) (count i : ℕ) (v : Put wor
   put-passed e =
       let next = add-one i in
       let few = v .few in
-      let same : listed (inWord word) i ≡ listed (inWord word) (i + 1)
-      = sym (ap (listed (inWord word)) next ∙ listed-other (inWord word) i (ap (inWord word) (sym next) ∙ e)) in
+      let same : risingMembers (inWord word) i ≡ risingMembers (inWord word) (i + 1)
+      = sym (ap (risingMembers (inWord word)) next ∙ members-same (inWord word) i (ap (inWord word) (sym next) ∙ e)) in
       record { some = omega arith; few = omega arith; size = v .size ∙ ap length same; front = v .front ∙ ap (sets space₀ 0) same }
 
 loop-holds : tie.Need-loop-holds Inv-loop μ-loop
-unfolding listed joined
+unfolding risingMembers joined
 loop-holds c = record { some = omega arith; few = omega arith; size = refl; front = refl }
 
 cast-t8 : tie.Need-cast-t8 Inv-loop μ-loop
@@ -99,8 +99,8 @@ returns c =
     let v = c .before .loop .inv in
     let a = c .before .before .args in
     let all = le-antisymm (v .some) (c .loop-test .left) in (
-      v .size ∙ ap (λ (k : ℕ). length (listed (inWord (a .set .0)) k)) all,
-      v .front ∙ ap (λ (k : ℕ). sets (a .space .now) 0 (listed (inWord (a .set .0)) k)) all,
+      v .size ∙ ap (λ (k : ℕ). length (risingMembers (inWord (a .set .0)) k)) all,
+      v .front ∙ ap (λ (k : ℕ). sets (a .space .now) 0 (risingMembers (inWord (a .set .0)) k)) all,
     )
 
 pub list-spec : {M : Type 1} → statement M

@@ -12,22 +12,22 @@ use lib.ListN.{length, getD, take, drop}
 use Rattle.basis.proofs.TestLaws.{or-left}
 use Rattle.bidder_sets.specs.BidderSets.{inSet, numbersWrong, setAt, endAt}
 use Rattle.bidder_sets.specs.EngineSets.{Holds}
-use Rattle.bidder_sets.specs.declared.Lent.{Lent}
+use Rattle.bidder_sets.specs.declared.NextSet.{NextSet}
 use Rattle.bidder_sets.proofs.read_at.Statement.{statement}
 use Rattle.bidder_sets.proofs.read_at.Tie as tie
 
 -- what the call answers
-abbrev Answer : (lent : List ℕ) (at n : ℕ) → Lent → Type 0
+abbrev Answer : (lent : List ℕ) (at n : ℕ) → NextSet → Type 0
 Answer lent at n r =
     (r .wrong ≡ (ltb (length lent) (endAt lent at) || numbersWrong n (setAt lent at)))
     × (r .wrong ≡ false → (r .end ≡ endAt lent at) × Holds (r .bidders .0) (inSet (setAt lent at)))
 
 -- a set that runs past the bytes
-past : (lent : List ℕ) (at n : ℕ) (r : Lent) → r .wrong ≡ true → length lent < endAt lent at → Answer lent at n r
+past : (lent : List ℕ) (at n : ℕ) (r : NextSet) → r .wrong ≡ true → length lent < endAt lent at → Answer lent at n r
 past lent at n r e l = (e ∙ sym (or-left _ (lt-ltb (length lent) (endAt lent at) l)), λ z. absurd (true≢false (sym e ∙ z)))
 
 -- one that does not
-within : (lent part : List ℕ) (at n : ℕ) (r : Lent) → part ≡ setAt lent at → r .end ≡ endAt lent at → r .end ≤ length lent →
+within : (lent part : List ℕ) (at n : ℕ) (r : NextSet) → part ≡ setAt lent at → r .end ≡ endAt lent at → r .end ≤ length lent →
     (r .wrong ≡ numbersWrong n part) × (r .wrong ≡ false → Holds (r .bidders .0) (inSet part)) → Answer lent at n r
 within lent part at n r same ends inside found = (
   found .0

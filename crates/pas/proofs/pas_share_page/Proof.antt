@@ -14,7 +14,7 @@ returns : tie.Need-returns
 returns c =
     let start = c .before .before .before .before .before .before .before .before .args in
     let given = c .before .before .before .share in
-    share-refused (start .n) (start .m) (start .members .now) (start .rivals .now) (start .result .now) (start .answer .now) (given .result) _
+    share-refused (start .n) (start .m) (start .members .now) (start .sets .now) (start .result .now) (start .answer .now) (given .result) _
     (given .ensures)
     (c .if1 .taken)
 
@@ -28,7 +28,7 @@ returns-2 : tie.Need-returns-2
 returns-2 c =
     let start = c .before .before .before .before .before .before .before .before .before .args in
     let given = c .before .before .before .before .share in
-    share-answered (start .n) (start .m) (start .members .now) (start .rivals .now) (start .result .now) (start .answer .now) (given .result) _
+    share-answered (start .n) (start .m) (start .members .now) (start .sets .now) (start .result .now) (start .answer .now) (given .result) _
     (given .ensures)
     (c .before .if1 .left) (c .yes-number .result) (c .yes-number .ensures)
 

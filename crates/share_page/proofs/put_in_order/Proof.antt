@@ -41,11 +41,11 @@ next-is : (c : tie.After-first-in Inv-loop μ-loop) →
     c .first-in .result
     ≡ turnOf (inTable (start turn .args .table .now)) (start turn .args .members .now) (inWord (start turn .args .set .0)) (turn .before .loop .k)
 next-is c =
-    let named = c .before .before in
-    let first = start (named .before) in
+    let rival = c .before .before in
+    let first = start (rival .before) in
     c .first-in .ensures
-    ∙ words-next (inTable (first .args .table .now)) (first .args .members .now) (first .pre .1) _ _ _ _ (named .before .before .loop .inv .rest)
-    (named .named-by .ensures)
+    ∙ words-next (inTable (first .args .table .now)) (first .args .members .now) (first .pre .1) _ _ _ _ (rival .before .before .loop .inv .rest)
+    (rival .rivals-of .ensures)
     (c .before .but .ensures)
 
 -- and a member
@@ -63,8 +63,8 @@ loop-holds : tie.Need-loop-holds Inv-loop μ-loop
 unfolding leftAfter allFound allBelow turns row
 loop-holds c = record { within = omega arith; rest = λ b some most. refl; found = refl; run = refl }
 
-named-by-requires : tie.Need-named-by-requires Inv-loop μ-loop
-named-by-requires c κs = start c .pre .1
+rivals-of-requires : tie.Need-rivals-of-requires Inv-loop μ-loop
+rivals-of-requires c κs = start c .pre .1
 
 but-requires : tie.Need-but-requires Inv-loop μ-loop
 but-requires c κs = search needs
@@ -102,7 +102,7 @@ loop-again c =
     let tested = turned .before .before .before in
     let turn = tested .before .loop in
     let a = start tested .args in
-    let named = inTable (a .table .now) in
+    let rival = inTable (a .table .now) in
     let members = a .members .now in
     let held = inWord (a .set .0) in
     let next = next-is turned in
@@ -110,11 +110,11 @@ loop-again c =
     (record {
       within = tested .loop-test .taken;
       rest =
-          one-left named members held (turn .k) (turn .left .0) _ (turn .inv .rest)
+          one-left rival members held (turn .k) (turn .left .0) _ (turn .inv .rest)
           (subst (λ (x : ℕ). Holds (c .without .result .0) (λ b. inWord (turn .left .0) b && not (eqb b x))) next (c .without .ensures));
-      found = one-found named members held (turn .k) (turn .inv .found) (λ e. c .before .if1 .left (next ∙ e));
+      found = one-found rival members held (turn .k) (turn .inv .found) (λ e. c .before .if1 .left (next ∙ e));
       run =
-          ap₂ (λ (l : List ℕ) (x : ℕ). set l (turn .k) x) (turn .inv .run) next ∙ one-turned named members held (a .order .now) (turn .k);
+          ap₂ (λ (l : List ℕ) (x : ℕ). set l (turn .k) x) (turn .inv .run) next ∙ one-turned rival members held (a .order .now) (turn .k);
     })
 
 returns-2 : tie.Need-returns-2 Inv-loop μ-loop
@@ -122,9 +122,9 @@ returns-2 c =
     let v = c .before .loop .inv in
     let a = c .before .before .before .args in
     let all = le-antisymm (v .within) (c .loop-test .left) in
-    let named = inTable (a .table .now) in (
-      sym (v .found) ∙ ap (allFound named (a .members .now) (inWord (a .set .0))) all,
-      λ e. v .run ∙ ap (λ (n : ℕ). sets (a .order .now) 0 (turns named (a .members .now) (inWord (a .set .0)) n)) all,
+    let rival = inTable (a .table .now) in (
+      sym (v .found) ∙ ap (allFound rival (a .members .now) (inWord (a .set .0))) all,
+      λ e. v .run ∙ ap (λ (n : ℕ). sets (a .order .now) 0 (turns rival (a .members .now) (inWord (a .set .0)) n)) all,
     )
 
 pub put-in-order-spec : {M : Type 1} → statement M
@@ -134,7 +134,7 @@ put-in-order-spec =
     Inv-loop
     μ-loop
     loop-holds
-    named-by-requires
+    rivals-of-requires
     but-requires
     first-in-requires
     returns

@@ -13,10 +13,10 @@ use Rattle.share_page.proofs.read_sets.Statement.{statement}
 use Rattle.share_page.proofs.read_sets.Tie as tie
 
 abbrev Inv-loop : tie.InvT-loop
-Inv-loop table₀ rivals n own₀ at₀ bidder₀ table own at bidder = (0 < bidder) × (bidder ≤ n + 1) × SetsRead n rivals table own at (bidder - 1)
+Inv-loop table₀ sets n own₀ at₀ bidder₀ table own at bidder = (0 < bidder) × (bidder ≤ n + 1) × SetsRead n sets table own at (bidder - 1)
 
 abbrev μ-loop : tie.MeasureT-loop
-μ-loop table₀ rivals n own₀ at₀ bidder₀ table own at bidder = n + 1 - bidder
+μ-loop table₀ sets n own₀ at₀ bidder₀ table own at bidder = n + 1 - bidder
 
 -- where the call started
 abbrev start : tie.At-loop Inv-loop μ-loop → tie.Start Inv-loop μ-loop
@@ -24,7 +24,7 @@ start c = c .before .before
 
 -- past the loop all sets are read
 all-read : (c : tie.After-loop Inv-loop μ-loop) →
-    SetsRead (start (c .before) .args .n) (start (c .before) .args .rivals .now) (c .before .loop .table) (c .before .loop .own) (c .before .loop .at)
+    SetsRead (start (c .before) .args .n) (start (c .before) .args .sets .now) (c .before .loop .table) (c .before .loop .own) (c .before .loop .at)
     (start (c .before) .args .n)
 all-read c =
     let v = c .before .loop .inv in
@@ -32,10 +32,10 @@ all-read c =
     let most = v .1 in
     let past = c .loop-test .left in
     let all : c .before .loop .bidder - 1 ≡ a .n = omega arith in
-    subst (SetsRead (a .n) (a .rivals .now) (c .before .loop .table) (c .before .loop .own) (c .before .loop .at)) all (v .2)
+    subst (SetsRead (a .n) (a .sets .now) (c .before .loop .table) (c .before .loop .own) (c .before .loop .at)) all (v .2)
 
 loop-holds : tie.Need-loop-holds Inv-loop μ-loop
-loop-holds c = (omega arith, omega arith, none-read (c .before .args .n) (c .before .args .rivals .now) (c .before .args .table .now) (c .before .pre .1))
+loop-holds c = (omega arith, omega arith, none-read (c .before .args .n) (c .before .args .sets .now) (c .before .args .table .now) (c .before .pre .1))
 
 read-at-requires : tie.Need-read-at-requires Inv-loop μ-loop
 read-at-requires c κs = start (c .before) .pre .0
@@ -47,7 +47,7 @@ returns c =
     let below = c .before .before .loop-test .taken in
     let some = turn .loop .inv .0 in (
       sym
-          (set-wrong (a .n) (a .rivals .now) (turn .loop .bidder - 1) (turn .loop .at) (omega arith) (turn .loop .inv .2 .end)
+          (set-wrong (a .n) (a .sets .now) (turn .loop .bidder - 1) (turn .loop .at) (omega arith) (turn .loop .inv .2 .end)
           (sym (c .before .read-at .ensures .0) ∙ c .if1 .taken)),
       λ e. absurd (omega arith),
     )
@@ -82,7 +82,7 @@ loop-again c =
     let lent = known .before .read-at in
     let turn = known .before .before .before in
     let a = start turn .args in
-    let rivals = a .rivals .now in
+    let sets = a .sets .now in
     let i = turn .loop .bidder - 1 in
     let below = known .before .before .loop-test .taken in
     let few = start turn .pre .0 in
@@ -91,15 +91,15 @@ loop-again c =
     let this : turn .loop .bidder ≡ suc i = omega arith in
     let told = lent .ensures .1 (known .if1 .left) in
     let parts =
-    or-none (ltb (length rivals) (endAt rivals (turn .loop .at))) (numbersWrong (a .n) (setAt rivals (turn .loop .at)))
+    or-none (ltb (length sets) (endAt sets (turn .loop .at))) (numbersWrong (a .n) (setAt sets (turn .loop .at)))
     (sym (lent .ensures .0) ∙ known .if1 .left) in
     let own = turn .loop .own || c .has .result in
     let table = set (turn .loop .table) i (lent .result .bidders .0) in (
       omega arith,
       omega arith,
-      subst (λ (e : ℕ). SetsRead (a .n) rivals table own e (turn .loop .bidder + 1 - 1)) (sym (told .0))
-          (subst (SetsRead (a .n) rivals table own (endAt rivals (turn .loop .at))) next
-          (one-read (a .n) rivals (turn .loop .table) (turn .loop .own) (turn .loop .at) i (turn .loop .inv .2) (lent .result .bidders .0)
+      subst (λ (e : ℕ). SetsRead (a .n) sets table own e (turn .loop .bidder + 1 - 1)) (sym (told .0))
+          (subst (SetsRead (a .n) sets table own (endAt sets (turn .loop .at))) next
+          (one-read (a .n) sets (turn .loop .table) (turn .loop .own) (turn .loop .at) i (turn .loop .inv .2) (lent .result .bidders .0)
           (c .has .result)
           (omega arith)
           (parts .1)
@@ -111,7 +111,7 @@ returns-2 : tie.Need-returns-2 Inv-loop μ-loop
 returns-2 c =
     let end = c .before in
     let a = start (end .before) .args in (
-      sym (not-all (a .n) (a .rivals .now) (end .before .loop .table) (end .before .loop .own) (end .before .loop .at) (all-read end) (c .if2 .taken)),
+      sym (not-all (a .n) (a .sets .now) (end .before .loop .table) (end .before .loop .own) (end .before .loop .at) (all-read end) (c .if2 .taken)),
       λ e. absurd (omega arith),
     )
 
@@ -120,7 +120,7 @@ returns-3 c =
     let end = c .before .before in
     let a = start (end .before) .args in (
       sym
-          (own-there (a .n) (a .rivals .now) (end .before .loop .table) (end .before .loop .own) (end .before .loop .at) (all-read end) (c .before .if2 .left)
+          (own-there (a .n) (a .sets .now) (end .before .loop .table) (end .before .loop .own) (end .before .loop .at) (all-read end) (c .before .if2 .left)
           (c .if3 .taken)),
       λ e. absurd (omega arith),
     )
@@ -130,7 +130,7 @@ returns-4 c =
     let end = c .before .before in
     let a = start (end .before) .args in (
       sym
-          (all-right (a .n) (a .rivals .now) (end .before .loop .table) (end .before .loop .own) (end .before .loop .at) (all-read end) (c .before .if2 .left)
+          (all-right (a .n) (a .sets .now) (end .before .loop .table) (end .before .loop .own) (end .before .loop .at) (all-read end) (c .before .if2 .left)
           (c .if3 .left)),
       λ e. all-read end .tabled,
     )

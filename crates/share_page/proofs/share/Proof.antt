@@ -9,12 +9,13 @@ use mathlib.Core.Path.{_≡_, refl, sym, _∙_, ap}
 use native.Mathlib.Omega.{arith}
 use lib.ListN.{length, getD, take, replicate}
 use lib.Seq.{sets, length-sets}
+use Rattle.slot_terms.specs.SlotTerms.{sizeRefusal}
+use Rattle.slot_terms.proofs.RefusalLaws.{sized}
 use Rattle.bidder_sets.specs.BidderSets.{numbersWrong}
-use Rattle.bidder_sets.specs.EngineSets.{inWord, listed}
-use Rattle.bidder_sets.proofs.SetLaws.{listed-at, listed-few, list-front}
-use Rattle.share_page.specs.SharePage.{names, putsAbove, firstOf, memberOrders, canShare, sizeRefusal, setsRefusal}
+use Rattle.bidder_sets.specs.EngineSets.{inWord, risingMembers}
+use Rattle.bidder_sets.proofs.SetLaws.{members-at, members-few, list-front}
+use Rattle.share_page.specs.SharePage.{names, putsAbove, firstOf, memberOrders, canShare, setsRefusal}
 use Rattle.share_page.specs.EngineShare.{inTable, turns}
-use Rattle.share_page.proofs.RefusalLaws.{sized}
 use Rattle.share_page.proofs.WriteLaws.{
   Words,
   size-refused,
@@ -51,7 +52,7 @@ right c = sym (c .before .read .ensures .0) ∙ c .if2 .left
 abbrev known : tie.Else3 → tie.Else2
 known c = c .before .before .before
 
-lent : (c : tie.Else3) → setsRefusal (first (known c) .args .n) (first (known c) .args .rivals .now) ≡ 0
+lent : (c : tie.Else3) → setsRefusal (first (known c) .args .n) (first (known c) .args .sets .now) ≡ 0
 lent c = sym (c .before .read-sets .ensures .0) ∙ c .if3 .left
 
 -- the members in rising order, at the front of the space
@@ -70,15 +71,15 @@ table c = past c .before .read-sets .last .0
 abbrev rising : tie.After-list → List ℕ
 rising c = take (c .list .result) (c .list .last .1 .1 .0)
 
-listed-most : (c : tie.After-list) → length (listed (inWord (word c)) (given c .args .n)) ≤ 64
-listed-most c = let most = listed-few (inWord (word c)) (given c .args .n) in let n = few (known (past c) .before .before) in omega arith
+listed-most : (c : tie.After-list) → length (risingMembers (inWord (word c)) (given c .args .n)) ≤ 64
+listed-most c = let most = members-few (inWord (word c)) (given c .args .n) in let n = few (known (past c) .before .before) in omega arith
 
-rising-is : (c : tie.After-list) → rising c ≡ listed (inWord (word c)) (given c .args .n)
+rising-is : (c : tie.After-list) → rising c ≡ risingMembers (inWord (word c)) (given c .args .n)
 rising-is c =
     ap (take (c .list .result)) (c .list .ensures .1)
-    ∙ list-front (replicate 64 0) (listed (inWord (word c)) (given c .args .n)) (c .list .result) (c .list .ensures .0) (listed-most c)
+    ∙ list-front (replicate 64 0) (risingMembers (inWord (word c)) (given c .args .n)) (c .list .result) (c .list .ensures .0) (listed-most c)
 
-words : (c : tie.After-list) → Words (given c .args .n) (given c .args .members .now) (given c .args .rivals .now) (table c) (word c) (rising c)
+words : (c : tie.After-list) → Words (given c .args .n) (given c .args .members .now) (given c .args .sets .now) (table c) (word c) (rising c)
 words c =
     let read = known (past c) in
     record {
@@ -113,24 +114,24 @@ order-front c =
 
 -- the answer
 abbrev Can : tie.After-list → Bool → Type 0
-Can c t = canShare (given c .args .n) (given c .args .m) (given c .args .members .now) (given c .args .rivals .now) ≡ t
+Can c t = canShare (given c .args .n) (given c .args .m) (given c .args .members .now) (given c .args .sets .now) ≡ t
 
 can : (c : tie.Else5) → Can (turned (c .before)) true
 can c =
     let l = turned (c .before) in
     let a = given l .args in
-    one-passes (a .n) (a .m) (a .members .now) (a .rivals .now) (table l) (word l) (rising l) (words l)
+    one-passes (a .n) (a .m) (a .members .now) (a .sets .now) (table l) (word l) (rising l) (words l)
     (let size = rising-many l in let fit = c .before .before .before .before .if4 .left in omega arith)
     (sym (c .before .put-in-order .ensures .0) ∙ all-found c)
 
 order-first : (c : tie.Else5) →
     order (c .before)
-    ≡ firstOf (putsAbove (names (given (turned (c .before)) .args .rivals .now)))
+    ≡ firstOf (putsAbove (names (given (turned (c .before)) .args .sets .now)))
     (memberOrders (given (turned (c .before)) .args .n) (given (turned (c .before)) .args .members .now))
 order-first c =
     let l = turned (c .before) in
     let a = given l .args in
-    turns-first (a .n) (a .m) (a .members .now) (a .rivals .now) (table l) (word l) (rising l) (words l)
+    turns-first (a .n) (a .m) (a .members .now) (a .sets .now) (table l) (word l) (rising l) (words l)
     (sym (c .before .put-in-order .ensures .0) ∙ all-found c)
 
 size-refusal-requires : tie.Need-size-refusal-requires
@@ -143,7 +144,7 @@ returns : tie.Need-returns
 returns c =
     let tested = c .before .before in
     let a = tested .before .before .before .before .args in
-    size-refused (a .n) (a .m) (a .members .now) (a .rivals .now) (a .result .now) _ _ (c .refused .ensures) (tested .size-refusal .ensures) (c .before .if1 .taken)
+    size-refused (a .n) (a .m) (a .members .now) (a .sets .now) (a .result .now) _ _ (c .refused .ensures) (tested .size-refusal .ensures) (c .before .if1 .taken)
 
 read-requires : tie.Need-read-requires
 read-requires c κs = few c
@@ -153,10 +154,10 @@ refused-requires-2 c κs = search needs
 
 returns-2 : tie.Need-returns-2
 returns-2 c =
-    let named = c .before .before in
-    let a = start (named .before) .args in
-    members-refused (a .n) (a .m) (a .members .now) (a .rivals .now) (a .result .now) (fits (named .before)) _ (c .refused2 .ensures)
-    (sym (named .read .ensures .0) ∙ c .before .if2 .taken)
+    let group = c .before .before in
+    let a = start (group .before) .args in
+    members-refused (a .n) (a .m) (a .members .now) (a .sets .now) (a .result .now) (fits (group .before)) _ (c .refused2 .ensures)
+    (sym (group .read .ensures .0) ∙ c .before .if2 .taken)
 
 read-sets-requires : tie.Need-read-sets-requires
 read-sets-requires c κs = (few (c .before .before .before), refl)
@@ -169,7 +170,7 @@ returns-3 c =
     let tested = c .before .before in
     let past = tested .before .before in
     let a = first past .args in
-    sets-refused (a .n) (a .m) (a .members .now) (a .rivals .now) (a .result .now) (fits (past .before .before)) (right past) _ _ (c .refused3 .ensures)
+    sets-refused (a .n) (a .m) (a .members .now) (a .sets .now) (a .result .now) (fits (past .before .before)) (right past) _ _ (c .refused3 .ensures)
     (tested .read-sets .ensures .0)
     (c .before .if3 .taken)
 
@@ -178,7 +179,7 @@ list-requires c κs = few (c .before .before .before .before .before .before .be
 
 array-share-prefix-space : tie.Need-array-share-prefix-space
 array-share-prefix-space c =
-    let size = ap length (c .list .ensures .1) ∙ length-sets (replicate 64 0) 0 (listed (inWord (word c)) (given c .args .n)) in
+    let size = ap length (c .list .ensures .1) ∙ length-sets (replicate 64 0) 0 (risingMembers (inWord (word c)) (given c .args .n)) in
     let count = c .list .ensures .0 in
     let most = listed-most c in
     omega arith
@@ -196,9 +197,9 @@ returns-4 : tie.Need-returns-4
 returns-4 c =
     let l = c .before .before .before in
     let a = given l .args in
-    no-answered (a .n) (a .m) (a .members .now) (a .rivals .now) (a .result .now) (fits (known (past l) .before .before)) (right (known (past l))) (lent (past l)) _
+    no-answered (a .n) (a .m) (a .members .now) (a .sets .now) (a .result .now) (fits (known (past l) .before .before)) (right (known (past l))) (lent (past l)) _
     (c .refused4 .ensures)
-    (too-many (a .n) (a .m) (a .members .now) (a .rivals .now) (table l) (word l) (rising l) (words l)
+    (too-many (a .n) (a .m) (a .members .now) (a .sets .now) (table l) (word l) (rising l) (words l)
     (let size = rising-many l in let more = c .before .if4 .taken in omega arith))
 
 put-in-order-requires : tie.Need-put-in-order-requires
@@ -209,7 +210,7 @@ put-in-order-requires c κs =
     let most = listed-most l in (
       omega arith,
       λ k less.
-          let at = listed-at (inWord (word l)) (given l .args .n) k (omega arith) in
+          let at = members-at (inWord (word l)) (given l .args .n) k (omega arith) in
           let same = ap (λ (x : List ℕ). getD x k 0) (rising-is l) in
           (let some = at .0 in omega arith, let last = at .1 in omega arith),
     )
@@ -222,9 +223,9 @@ returns-5 c =
     let placed = c .before .before in
     let l = turned placed in
     let a = given l .args in
-    no-answered (a .n) (a .m) (a .members .now) (a .rivals .now) (a .result .now) (fits (known (past l) .before .before)) (right (known (past l))) (lent (past l)) _
+    no-answered (a .n) (a .m) (a .members .now) (a .sets .now) (a .result .now) (fits (known (past l) .before .before)) (right (known (past l))) (lent (past l)) _
     (c .refused5 .ensures)
-    (none-passes (a .n) (a .m) (a .members .now) (a .rivals .now) (table l) (word l) (rising l) (words l)
+    (none-passes (a .n) (a .m) (a .members .now) (a .sets .now) (table l) (word l) (rising l) (words l)
     (sym (placed .put-in-order .ensures .0) ∙ not-true (placed .put-in-order .result) (c .before .if5 .taken)))
 
 refused-requires-6 : tie.Need-refused-requires-6
@@ -235,7 +236,7 @@ returns-6 c =
     let tested = c .before .before in
     let l = turned (tested .before) in
     let a = given l .args in
-    buffer-short (a .n) (a .m) (a .members .now) (a .rivals .now) (a .result .now) (fits (known (past l) .before .before)) (right (known (past l))) (lent (past l))
+    buffer-short (a .n) (a .m) (a .members .now) (a .sets .now) (a .result .now) (fits (known (past l) .before .before)) (right (known (past l))) (lent (past l))
     (order (tested .before))
     (can tested)
     (order-first tested)
@@ -274,7 +275,7 @@ returns-7 c =
     let tested = room .before in
     let l = turned (tested .before) in
     let a = given l .args in
-    order-written (a .n) (a .m) (a .members .now) (a .rivals .now) (a .result .now) (fits (known (past l) .before .before)) (right (known (past l))) (lent (past l))
+    order-written (a .n) (a .m) (a .members .now) (a .sets .now) (a .result .now) (fits (known (past l) .before .before)) (right (known (past l))) (lent (past l))
     (order (tested .before))
     (can tested)
     (order-first tested)

@@ -5,7 +5,7 @@ use borrow.Author.Needs.{needs}
 use mathlib.Core.Path.{_≡_, sym, _∙_}
 use native.Mathlib.Omega.{arith}
 use lib.ListN.{length, getD}
-use Rattle.slot_terms.specs.SlotTerms.{barFor, ownerRefusal, profileRefusal, OwnerFits, TermsFit}
+use Rattle.slot_terms.specs.SlotTerms.{barFor, OwnerFits, TermsFit}
 use Rattle.slot_terms.specs.EngineTerms.{barsTo}
 use Rattle.slot_terms.proofs.WriteLaws.{bars-most, owner-refused, profile-refused, buffer-short, terms-written}
 use Rattle.slot_terms.proofs.RefusalLaws.{fits-owner, fits-terms}
@@ -28,17 +28,11 @@ start c = c .before .before .before
 abbrev first : tie.Else2 → tie.Start
 first c = start (c .before .before .before)
 
-owned : (c : tie.Else1) → ownerRefusal (start (c .before) .args .n) (start (c .before) .args .m) (start (c .before) .args .owner) ≡ 0
-owned c = sym (c .before .owner-refusal .ensures) ∙ c .if1 .left
-
 known : (c : tie.Else1) → OwnerFits (start (c .before) .args .n) (start (c .before) .args .m) (start (c .before) .args .owner)
-known c = fits-owner _ _ _ (owned c)
-
-proper : (c : tie.Else2) → profileRefusal (first c .args .n) (first c .args .m) (first c .args .owner) (first c .args .limit) (first c .args .bars .now) ≡ 0
-proper c = sym (c .before .profile-refusal .ensures) ∙ c .if2 .left
+known c = fits-owner _ _ _ (sym (c .before .owner-refusal .ensures) ∙ c .if1 .left)
 
 given : (c : tie.Else2) → TermsFit (first c .args .n) (first c .args .m) (first c .args .owner) (first c .args .limit) (first c .args .bars .now)
-given c = fits-terms _ _ (first c .args .owner) _ _ (known (c .before .before)) (proper c)
+given c = fits-terms _ _ (first c .args .owner) _ _ (known (c .before .before)) (sym (c .before .profile-refusal .ensures) ∙ c .if2 .left)
 
 low : (c : tie.Else2) (i : ℕ) → i < length (first c .args .bars .now) → getD (first c .args .bars .now) i 0 ≤ 16
 unfolding barFor
@@ -78,7 +72,7 @@ returns-2 : tie.Need-returns-2
 returns-2 c =
     let tested = c .before .before in
     let a = start (tested .before .before) .args in
-    profile-refused (a .n) (a .m) (a .owner) (a .limit) (a .bars .now) (a .result .now) (owned (tested .before)) _ _ (c .refused2 .ensures)
+    profile-refused (a .n) (a .m) (a .owner) (a .limit) (a .bars .now) (a .result .now) (known (tested .before)) _ _ (c .refused2 .ensures)
     (tested .profile-refusal .ensures)
     (c .before .if2 .taken)
 
@@ -121,7 +115,7 @@ returns-3 c =
     let summed = c .before .before in
     let past = summed .before in
     let a = first past .args in
-    buffer-short (a .n) (a .m) (a .owner) (a .limit) (a .bars .now) (a .result .now) (owned (past .before .before)) (proper past) _ (c .refused3 .ensures)
+    buffer-short (a .n) (a .m) (a .owner) (a .limit) (a .bars .now) (a .result .now) (given past) _ (c .refused3 .ensures)
     (let sum = summed .sum-bars .ensures in let less = c .before .if3 .taken in omega arith)
 
 cast-t21 : tie.Need-cast-t21
@@ -205,7 +199,7 @@ returns-4 c =
     let sum = room .before .sum-bars .ensures in
     let as-many : a .m + 1 - (a .limit + 1) ≡ a .m - a .limit = omega arith in
     let at = 4 * room .before .sum-bars .result in
-    terms-written (a .n) (a .m) (a .owner) (a .limit) (a .bars .now) (a .result .now) (owned (past .before .before)) (proper past) _ _ at _ _ _
+    terms-written (a .n) (a .m) (a .owner) (a .limit) (a .bars .now) (a .result .now) (given past) _ _ at _ _ _
     (omega arith)
     (let enough = room .if3 .left in omega arith)
     (omega arith)

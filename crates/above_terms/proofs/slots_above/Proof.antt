@@ -1,10 +1,10 @@
--- `above_terms::places_above` meets its contract: each m is tried. Assumes nothing.
+-- `above_terms::slots_above` meets its contract: the product is twice the number of pairs. Assumes nothing.
 use borrow.Author.Needs.{needs}
 use native.Mathlib.Nat.{div-le-self, lt-of-le-of-lt, mul-le-mul}
 use native.Mathlib.Omega.{arith}
-use Rattle.above_terms.proofs.AboveLaws.{places-half}
-use Rattle.above_terms.proofs.places_above.Statement.{statement}
-use Rattle.above_terms.proofs.places_above.Tie as tie
+use Rattle.above_terms.proofs.AboveLaws.{slots-half}
+use Rattle.above_terms.proofs.slots_above.Statement.{statement}
+use Rattle.above_terms.proofs.slots_above.Tie as tie
 
 sub-result : tie.Need-sub-result
 sub-result c = search needs
@@ -23,7 +23,7 @@ cast-result : tie.Need-cast-result
 cast-result c = record { fits = lt-of-le-of-lt (div-le-self _ 2) (lt-of-le-of-lt (mul-le-mul {n₂ = 17} {m₂ = 17} (omega arith) (omega arith)) (omega arith)) }
 
 returns : tie.Need-returns
-returns c = places-half (c .args .m) (omega arith)
+returns c = slots-half (c .args .m)
 
-pub places-above-spec : {M : Type 1} → statement M
-places-above-spec = tie.close (tie.spec sub-result add-result sub-result-2 mul-result cast-result returns)
+pub slots-above-spec : {M : Type 1} → statement M
+slots-above-spec = tie.close (tie.spec sub-result add-result sub-result-2 mul-result cast-result returns)

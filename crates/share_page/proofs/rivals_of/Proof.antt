@@ -1,4 +1,4 @@
--- `share_page::named_by` meets its contract: after k turns the word has whom the first k members name, of those that are left. Assumes nothing.
+-- `share_page::rivals_of` meets its contract: after k turns the word has whom the first k members name, of those that are left. Assumes nothing.
 use Prim.Native.Nat.{ℕ, _+_, _-_, _<_, _≤_}
 use mathlib.Core.Bool.{Bool, false, _&&_, _||_, or-false}
 use mathlib.Core.List.{List}
@@ -13,26 +13,26 @@ use Rattle.basis.specs.Tests.{anyBelow}
 use Rattle.basis.proofs.BitLaws.{bit-zero}
 use Rattle.bidder_sets.specs.EngineSets.{inWord}
 use Rattle.bidder_sets.specs.declared.Bidders.{Bidders}
-use Rattle.share_page.specs.EngineShare.{inTable, namedIn}
-use Rattle.share_page.proofs.named_by.Statement.{statement}
-use Rattle.share_page.proofs.named_by.Tie as tie
+use Rattle.share_page.specs.EngineShare.{inTable, rivalIn}
+use Rattle.share_page.proofs.rivals_of.Statement.{statement}
+use Rattle.share_page.proofs.rivals_of.Tie as tie
 
 -- the member at an index is left and names x, and one of the first k members does
 abbrev naming : (table members : List ℕ) (left x j : ℕ) → Bool
 naming table members left x j = inWord left (getD members j 0) && inTable table (getD members j 0) x
 
-abbrev namedTo : (table members : List ℕ) (left k x : ℕ) → Bool
-namedTo table members left k x = anyBelow (naming table members left x) k
+abbrev rivalsTo : (table members : List ℕ) (left k x : ℕ) → Bool
+rivalsTo table members left k x = anyBelow (naming table members left x) k
 
 one-more : (test : ℕ → Bool) (k : ℕ) (a b : Bool) → a ≡ anyBelow test k → b ≡ test k → (a || b) ≡ anyBelow test (k + 1)
 unfolding anyBelow
 one-more test k a b p q = ap₂ _||_ p q ∙ ap (anyBelow test) (sym (add-one k))
 
 abbrev Inv-loop : tie.InvT-loop
-Inv-loop table members left named₀ k₀ named k = (k ≤ length members) × ((x : ℕ) → inWord (named .0) x ≡ namedTo table members (left .0) k x)
+Inv-loop table members left rivals₀ k₀ rivals k = (k ≤ length members) × ((x : ℕ) → inWord (rivals .0) x ≡ rivalsTo table members (left .0) k x)
 
 abbrev μ-loop : tie.MeasureT-loop
-μ-loop table members left named₀ k₀ named k = length members - k
+μ-loop table members left rivals₀ k₀ rivals k = length members - k
 
 -- the member of a turn
 abbrev member : tie.In-loop Inv-loop μ-loop → ℕ
@@ -91,21 +91,21 @@ loop-again c =
           (sym (ap (λ (t : Bool). t && inTable table (getD members (turn .k) 0) x) (sym (c .before .has .ensures) ∙ w .0 .taken))))
           (λ w.
           ap (λ (r : Bidders). inWord (r .0) x) (w .1)
-          ∙ sym (or-false (inWord (turn .named .0) x))
+          ∙ sym (or-false (inWord (turn .rivals .0) x))
           ∙ one-more (naming table members (a .left .0) x) (turn .k) _ false (turn .inv .1 x)
           (sym (ap (λ (t : Bool). t && inTable table (getD members (turn .k) 0) x) (sym (c .before .has .ensures) ∙ w .0 .left))))
           (c .if1 .came),
     )
 
 returns : tie.Need-returns Inv-loop μ-loop
-unfolding namedIn
+unfolding rivalIn
 returns c =
     let v = c .before .loop .inv in
     let a = c .before .before .before .args in
-    λ x. v .1 x ∙ ap (λ (n : ℕ). namedTo (a .table .now) (a .members .now) (a .left .0) n x) (le-antisymm (v .0) (c .loop-test .left))
+    λ x. v .1 x ∙ ap (λ (n : ℕ). rivalsTo (a .table .now) (a .members .now) (a .left .0) n x) (le-antisymm (v .0) (c .loop-test .left))
 
-pub named-by-spec : {M : Type 1} → statement M
-named-by-spec =
+pub rivals-of-spec : {M : Type 1} → statement M
+rivals-of-spec =
     tie.close
     (tie.spec
     Inv-loop

@@ -1,9 +1,9 @@
--- `share_page::size_refusal` meets its contract: each way out rewrites the definition with the tests that led there. Assumes nothing.
+-- `slot_terms::size_refusal` meets its contract: each way out rewrites the definition with the tests that led there. Assumes nothing.
 use borrow.Author.Tests.{eq-eqb, ne-eqb, lt-ltb, le-ltb}
 use native.Mathlib.Omega.{arith}
-use Rattle.share_page.specs.SharePage.{sizeRefusal}
-use Rattle.share_page.proofs.size_refusal.Statement.{statement}
-use Rattle.share_page.proofs.size_refusal.Tie as tie
+use Rattle.slot_terms.specs.SlotTerms.{sizeRefusal}
+use Rattle.slot_terms.proofs.size_refusal.Statement.{statement}
+use Rattle.slot_terms.proofs.size_refusal.Tie as tie
 
 returns : tie.Need-returns
 unfolding sizeRefusal
