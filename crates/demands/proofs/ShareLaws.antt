@@ -37,7 +37,6 @@ use Rattle.above_terms.specs.AboveTerms.{RivalAbove}
 use Rattle.share_page.specs.SharePage.{
   names,
   without,
-  ordersOf,
   putsAbove,
   someOf,
   firstOf,
@@ -57,6 +56,13 @@ use Rattle.pas.specs.Calls.{yesNumber, AboveTermsGiven, SharePageGiven}
 use Rattle.demands.specs.Demands.{Exactly, Numbered, Lent, SharedRight, AllFromProfile, HasAll, HasJust, ListSent}
 use Rattle.demands.proofs.AboveTermsLaws.{above-written}
 
+yes-parts : (n m : ℕ) (members sets : List ℕ) → canShare n m members sets ≡ true →
+    (memberCount n members ≤ m) × (someOf (putsAbove (names sets)) (memberOrders n members) ≡ true)
+unfolding canShare
+yes-parts n m members sets t =
+    let both = and-parts (leb (memberCount n members) m) (someOf (putsAbove (names sets)) (memberOrders n members)) t in
+    (leb-true (memberCount n members) m (both .0), both .1)
+
 -- What a yes says and writes, where every member is a bidder.
 module _ (n m : ℕ) (members sets : List ℕ) (within : (b : ℕ) → inSet members b ≡ true → (0 < b) × (b ≤ n)) where
   -- an order has each member once
@@ -64,17 +70,11 @@ module _ (n m : ℕ) (members sets : List ℕ) (within : (b : ℕ) → inSet mem
   unfolding memberCount
   order-many l o = good-many (names sets) n (inSet members) within (inSet members) (λ b h. h) l (order-good (names sets) (inSet members) l o)
 
-  yes-parts : canShare n m members sets ≡ true → (memberCount n members ≤ m) × (someOf (putsAbove (names sets)) (memberOrders n members) ≡ true)
-  unfolding canShare
-  yes-parts t =
-      let both = and-parts (leb (memberCount n members) m) (someOf (putsAbove (names sets)) (memberOrders n members)) t in
-      (leb-true (memberCount n members) m (both .0), both .1)
-
   written-first : canShare n m members sets ≡ true → FirstOrder (names sets) (inSet members) (orderWritten n m members sets)
   unfolding orderWritten memberCount
   written-first t =
       subst (FirstOrder (names sets) (inSet members)) (sym (ap (λ (s : Bool). cond s (firstOf (putsAbove (names sets)) (memberOrders n members)) []) t))
-      (first-order (names sets) n (inSet members) within (yes-parts t .1))
+      (first-order (names sets) n (inSet members) within (yes-parts n m members sets t .1))
 
   written-many : canShare n m members sets ≡ true → length (orderWritten n m members sets) ≡ memberCount n members
   written-many t = order-many (orderWritten n m members sets) (written-first t .order)
@@ -82,7 +82,7 @@ module _ (n m : ℕ) (members sets : List ℕ) (within : (b : ℕ) → inSet mem
   yes-exactly : Exactly (canShare n m members sets ≡ true) ((memberCount n members ≤ m) × (l : List ℕ) × OrderOf (names sets) (inSet members) l)
   unfolding canShare memberCount
   yes-exactly = (
-    (λ t. (yes-parts t .0, orderWritten n m members sets, written-first t .order)),
+    (λ t. (yes-parts n m members sets t .0, orderWritten n m members sets, written-first t .order)),
     λ (few, l, o). and-holds (le-leb (memberCount n members) m few) (order-some (names sets) n (inSet members) within l o),
   )
 
@@ -541,14 +541,9 @@ module _ (n m : ℕ) (members sets out : List ℕ) where
             (holds-or-fails (canShare n m members sets)))
 
         pub share-enough : m ≤ length out → shareRefusal n m members sets out ≡ 0
-        unfolding canShare
         share-enough room =
             share-answered
             (⊎-elim
-            (λ (t : canShare n m members sets ≡ true).
-            let few =
-            leb-true (memberCount n members) m
-            (and-parts (leb (memberCount n members) m) (someOf (putsAbove (names sets)) (ordersOf n (memberCount n members) (inSet members))) t .0) in
-            inr (omega arith))
+            (λ (t : canShare n m members sets ≡ true). let few = yes-parts n m members sets t .0 in inr (omega arith))
             (λ (f : canShare n m members sets ≡ false). inl f)
             (holds-or-fails (canShare n m members sets)))

@@ -99,6 +99,7 @@ ordered-all f (x ∷ l) o b t =
     (λ (d : b ≡ x → ⊥). let w = ordered-all (without f x) l (o .1) b (without-holds f x b t d) in (suc (w .0), (let h = w .1 in omega arith), w .2))
     (same-or-not b x)
 
+-- the head stands nowhere else
 away : (f : ℕ → Bool) (x : ℕ) (l : List ℕ) → Ordered f (x ∷ l) → (k : ℕ) → k < length l → x ≡ getD l k 0 → ⊥
 away f x l o k h e = without-parts f x (getD l k 0) (ordered-members (without f x) l (o .1) k h) .1 (sym e)
 
