@@ -3,6 +3,8 @@
 //
 // No sheet is read. The rivals are put into rising order, each once; how many constraints there are is then known before any is written. They go in runs whose
 // numbers differ by one step.
+#![tactic(auto)]
+
 ghost use Rattle.std.specs.Prelude.{◌≡◌, ℕ, ◌+◌, ◌*◌, ◌<◌, ◌≤◌, length, get_or};
 ghost use Rattle.std.proofs.lemmas.List.Edits.{sets};
 ghost use Rattle.sheet.specs.Encoded.{quads};

@@ -1,4 +1,6 @@
 // Numbers in slices of bytes, low byte first.
+#![tactic(auto)]
+
 ghost use Rattle.std.specs.Prelude.{◌≡◌, ◌+◌, ◌<◌, ◌≤◌, length};
 ghost use Rattle.basis.specs.Bytes.{word16_at, word32_at, bytes32};
 ghost use Rattle.std.proofs.lemmas.List.Edits.{sets};

@@ -1,4 +1,6 @@
 // What each seat adds to a page's total, and what the slots left can add at most, for the best-page search.
+#![tactic(auto)]
+
 ghost use Rattle.std.specs.Prelude.{◌≡◌, ℕ, ◌-◌, ◌<◌, ◌≤◌, length, get_or};
 ghost use Rattle.best_seats.specs.EngineSeats.{somewhere};
 ghost use Rattle.best_bound.specs.EngineBound.{add_after, nth, bid_at_rank, GainsOf, gain_in};

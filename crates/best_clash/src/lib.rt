@@ -1,4 +1,6 @@
 // What each choice of the best-page search shuts, by seat: a table made of the constraints of a round of up to 8 bidders and 8 slots.
+#![tactic(auto)]
+
 ghost use Rattle.std.specs.Prelude.{◌&&◌, ◌||◌, ◌≡◌, ℕ, ◌+◌, ◌-◌, ◌*◌, ◌%◌, ◌^◌, ◌<◌, ◌≤◌, eqb, ltb, length, get_or};
 ghost use Rattle.basis.specs.Bits.{bit_of};
 ghost use Rattle.sheet.specs.Refusal.{Accepted};
@@ -10,7 +12,7 @@ use best_seats::{Rank, Seat, Seats};
 use sheet::{Bidder, Constraint, Kind, Slot};
 
 // A line of the table: what is shut once a seat is taken, 0 to 63; from the start, 64; and once a rank stands at any slot, 65 to 72.
-#[derive(Drop)]
+#[derive(Clone, Copy)]
 struct Line(u8);
 
 // A bidder's rank.

@@ -1,4 +1,6 @@
 // A node of the best-page search, and what a choice for its next slot leads to.
+#![tactic(auto)]
+
 ghost use Rattle.std.specs.Prelude.{◌≡◌, ℕ, suc, ◌-◌, ◌*◌, ◌<◌, ◌≤◌, get_or};
 ghost use Rattle.best_node.specs.EngineNode.{Leads, Passes};
 
@@ -6,7 +8,7 @@ use best_seats::{Rank, Seats};
 use sheet::Slot;
 
 // What a choice for a slot leads to: what is free then, what is had then, and the most that can be had.
-#[derive(Drop)]
+#[derive(Clone, Copy)]
 pub struct Ahead {
     pub free: Seats,
     pub had: u64,

@@ -1,5 +1,7 @@
 // The best page of a round of up to 8 bidders and 8 slots, in two searches: the first finds the largest total, the second the first page in dictionary
 // order that has it. Both go over what is free, by rank and slot, in words.
+#![tactic(auto)]
+
 ghost use Rattle.std.specs.Prelude.{◌≡◌, ℕ, suc, ◌+◌, ◌-◌, ◌*◌, ◌^◌, ◌<◌, ◌≤◌, length, get_or, drop, ◌++◌};
 ghost use Rattle.basis.specs.Rows.{row};
 ghost use Rattle.sheet.specs.Refusal.{Accepted};
@@ -19,21 +21,21 @@ use best_seats::{Rank, Seats};
 use sheet::{Bidder, Page, Slot};
 
 // What the second search gives: whether there is a page with the total, and the first of them.
-#[derive(Drop)]
+#[derive(Clone, Copy)]
 pub struct FirstPage {
     pub found: bool,
     pub page: Page,
 }
 
 // The best page and its total.
-#[derive(Drop)]
+#[derive(Clone, Copy)]
 pub struct BestFound {
     pub page: Page,
     pub total: u64,
 }
 
 // The call's answer: a refusal's number, or 0 and the best page's total.
-#[derive(Drop)]
+#[derive(Clone, Copy)]
 pub struct Chosen {
     pub refusal: u32,
     pub total: u64,

@@ -1,5 +1,7 @@
 // Sets in one word, for the best-page search: of ranks, and of seats, a rank at a slot. A rank is a bidder's index in the order in which bidders
 // win, and neither a bidder nor a slot. Rank, seat and the two sets are a type each. A round has at most 8 bidders and 8 slots here.
+#![tactic(auto)]
+
 ghost use Rattle.std.specs.Prelude.{not, ◌&&◌, ◌≡◌, ℕ, suc, ◌+◌, ◌-◌, ◌*◌, ◌/◌, ◌%◌, ◌^◌, ◌<◌, ◌≤◌, eqb};
 ghost use Rattle.std.specs.Int.Bits.{bit_or};
 ghost use Rattle.basis.specs.Bits.{bit_of};
@@ -8,19 +10,19 @@ ghost use Rattle.best_seats.specs.EngineSeats.{somewhere, First};
 use sheet::Slot;
 
 // A bidder's index in the order in which bidders win, from 0.
-#[derive(Drop)]
+#[derive(Clone, Copy)]
 pub struct Rank(pub u8);
 
 // A rank at a slot in one number, 8 a slot.
-#[derive(Drop)]
+#[derive(Clone, Copy)]
 pub struct Seat(pub u8);
 
 // A set of ranks, a bit each.
-#[derive(Drop)]
+#[derive(Clone, Copy)]
 pub struct Ranks(pub u64);
 
 // A set of seats, a bit each. Where it tells which are free, the lowest byte is that of the next slot.
-#[derive(Drop)]
+#[derive(Clone, Copy)]
 pub struct Seats(pub u64);
 
 // The seat of a rank at a slot. Slots up to 16 have a number, so that a table by seat can have rows of 0 after the last slot.

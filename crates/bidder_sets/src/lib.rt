@@ -1,4 +1,6 @@
 // Sets of bidders: lists of numbers that callers lend, each read into one word, a bit for each of 64 bidders. A repeat sets a bit that is set.
+#![tactic(auto)]
+
 ghost use Rattle.std.specs.Prelude.{true, false, not, ◌&&◌, ◌||◌, ◌≡◌, ℕ, ◌<◌, ◌≤◌, eqb, ltb, length};
 ghost use Rattle.std.proofs.lemmas.List.Edits.{sets};
 ghost use Rattle.bidder_sets.specs.BidderSets.{in_set, numbers_wrong, set_at, end_at};
@@ -7,18 +9,18 @@ ghost use Rattle.bidder_sets.specs.EngineSets.{in_word, Holds, rising_members};
 use sheet::Bidder;
 
 // A set of bidders, a bit each, bidder 1's the lowest.
-#[derive(Drop)]
+#[derive(Clone, Copy)]
 pub struct Bidders(pub u64);
 
 // What a lent list names: whether one of its numbers is 0 or above n, and else the set.
-#[derive(Drop)]
+#[derive(Clone, Copy)]
 pub struct SetRead {
     pub wrong: bool,
     pub bidders: Bidders,
 }
 
 // One of several sets lent one after another: whether it runs past the bytes or a number is wrong, and else the set and where it ends.
-#[derive(Drop)]
+#[derive(Clone, Copy)]
 pub struct NextSet {
     pub wrong: bool,
     pub bidders: Bidders,

@@ -3,6 +3,8 @@
 // An accepted sheet of version 2 has that form and is copied. Of one of version 1 the constraints are read as numbers of their four bytes, the owner
 // the highest, so that the order of the constraints is that of the numbers; these are sorted and repeats dropped. Only then is it known how long the
 // written sheet is, so nothing is written before.
+#![tactic(auto)]
+
 ghost use Rattle.std.specs.Prelude.{◌≡◌, ℕ, ◌+◌, ◌*◌, ◌<◌, ◌≤◌, length, get_or, take, drop};
 ghost use Rattle.std.proofs.lemmas.List.Edits.{sets};
 ghost use Rattle.sheet.specs.Sheet.{version, constraints_start};
@@ -15,7 +17,7 @@ use basis::{word16, word32};
 use check_constraints::order_number;
 
 // What the call answers: a refusal's number, or 0 and the length of the sheet that is written.
-#[derive(Drop)]
+#[derive(Clone, Copy)]
 pub struct Rewritten {
     pub refusal: u32,
     pub length: usize,

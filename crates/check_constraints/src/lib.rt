@@ -1,4 +1,6 @@
 // The refusals of the constraints: 10 to 13 and, in version 2, 28.
+#![tactic(auto)]
+
 ghost use Rattle.std.specs.Prelude.{◌≡◌, false, ◌+◌, ◌*◌, ◌/◌, ◌%◌, ◌<◌, ◌≤◌, eqb, length};
 ghost use Rattle.basis.specs.First.{first_over};
 ghost use Rattle.sheet.specs.Sheet.{version, bidder_count, slot_count, constraints_start};

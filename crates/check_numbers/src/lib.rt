@@ -1,4 +1,6 @@
 // The refusals of the numbers before the constraints, 1 to 9, 26 and 27: each part over the fields that it reads.
+#![tactic(auto)]
+
 ghost use Rattle.std.specs.Prelude.{◌≡◌, not, ◌||◌, suc, ◌+◌, ◌*◌, ◌/◌, ◌%◌, ◌<◌, ◌≤◌, eqb, ltb, length};
 ghost use Rattle.basis.specs.First.{first_over};
 ghost use Rattle.basis.specs.Tests.{any_below};

@@ -3,6 +3,8 @@
 // The bidder's constraints are taken by their other part: for each other part the own slots that are listed with it are a set of bits. A
 // constraint is then entered by one store, and whether a slot is listed whose next one is not is told set by set. So the test costs one pass
 // over the sheet's constraints and one over the other parts, whoever owns the constraints.
+#![tactic(auto)]
+
 ghost use Rattle.std.specs.Prelude.{◌&&◌, ◌||◌, ◌≡◌, ℕ, suc, ◌+◌, ◌*◌, ◌<◌, ◌≤◌, eqb, length, get_or};
 ghost use Rattle.basis.specs.Bits.{bit_of};
 ghost use Rattle.sheet.specs.Refusal.{Accepted};
@@ -14,7 +16,7 @@ ghost use Rattle.downward.specs.Call.{tested_of};
 use sheet::{Bidder, Kind, Slot};
 
 // The answer: a refusal's number, or 0 and whether the list is downward monotonic.
-#[derive(Drop)]
+#[derive(Clone, Copy)]
 pub struct Tested {
     pub refusal: u32,
     pub yes: bool,
@@ -22,11 +24,11 @@ pub struct Tested {
 
 // An other part of a constraint in one number: 16 × the other bidder and its slot, and 0 for no other. A slot of another is never 0, so slot 16
 // of one bidder and slot 0 of the next do not meet.
-#[derive(Drop)]
+#[derive(Clone, Copy)]
 struct OtherPart(u16);
 
 // A set of own slots, slot 1 in the lowest bit. Own slot 0, any slot, is in no set: it asks for nothing.
-#[derive(Drop)]
+#[derive(Clone, Copy)]
 struct OwnSlots(u16);
 
 // The own slot of a kind, 0 for any.

@@ -1,4 +1,6 @@
 // The floors of a call: what a lent list of them must be, for a page of so many slots (document 02, S-7).
+#![tactic(auto)]
+
 ghost use Rattle.std.specs.Prelude.{◌≡◌, ◌<◌, ◌≤◌};
 ghost use Rattle.basis.specs.First.{◌when◌otherwise◌};
 ghost use Rattle.sheet.specs.Proper.{ProperFloors};

@@ -1,4 +1,6 @@
 // The gain of a bidder from a played sheet, by its true constraints.
+#![tactic(auto)]
+
 ghost use Rattle.std.specs.Prelude.{true, ◌&&◌, eqb, List, ◌≡◌, ℕ, ◌*◌, ◌≤◌, ◌<◌, pos, neg_ℤ};
 ghost use Rattle.auction.specs.Page.{placed};
 ghost use Rattle.auction.specs.Broken.{broken, breaks_own};
@@ -16,7 +18,7 @@ use sheet::{Bidder, Constraint, Page, Slot};
 const MAX_WORTH: u32 = 1000000000;
 
 // The answer: a refusal's number, or 0 and the gain.
-#[derive(Drop)]
+#[derive(Clone, Copy)]
 pub struct Gained {
     pub refusal: u32,
     pub gain: i64,

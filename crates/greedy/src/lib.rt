@@ -7,6 +7,8 @@
 //
 // What depends on the constraints (`greedy_links::link_all`) stands apart from what depends on the bids (`fill`). A sheet is lent on for its
 // constraints, which start at `start`; its own bids and tick are not read there: those handed on count, and so do the floors, slot by slot.
+#![tactic(auto)]
+
 ghost use Rattle.std.specs.Prelude.{List, ◌≡◌, ℕ, ◌+◌, ◌-◌, ◌<◌, ◌≤◌, eqb, ltb, length, get_or};
 ghost use Rattle.basis.specs.First.{◌when◌otherwise◌};
 ghost use Rattle.sheet.specs.Refusal.{Accepted};
@@ -25,7 +27,7 @@ use choice::Placing;
 use sheet::{Bidder, Page, Round, Slot};
 
 // A played round: its page and the price of each slot, 0 for an empty one.
-#[derive(Drop)]
+#[derive(Clone, Copy)]
 pub struct Outcome {
     pub page: Page,
     pub prices: [u32; 16],

@@ -8,6 +8,8 @@
 // it with the same key (`links`), and so on; links are counted from 1 there, and 0 ends a chain. The owner's key of a link is worked out
 // where the link is met, from the sheet: most links are met by nobody. Lists of links and marks are lent as numbers; what is a bidder, a
 // slot or a key becomes a type where it is read.
+#![tactic(auto)]
+
 ghost use Rattle.std.specs.Prelude.{◌||◌, ◌≡◌, ℕ, suc, ◌<◌, ◌≤◌, eqb, length};
 ghost use Rattle.sheet.specs.Sheet.{constraint_count, constraints_start};
 ghost use Rattle.sheet.specs.Refusal.{Accepted};
@@ -24,16 +26,16 @@ pub const KEYS: usize = 1089;
 pub const LINKS: usize = 1024;
 
 // Whose chain a link is in: a bidder at a slot.
-#[derive(Drop)]
+#[derive(Clone, Copy)]
 pub struct ChainKey(pub u16);
 
 // Where a constraint's owner must stand: a bidder at a slot, at any slot where that is 0; always so where the bidder is nobody.
-#[derive(Drop)]
+#[derive(Clone, Copy)]
 pub struct OwnerKey(pub u16);
 
 // By whose constraints a candidate is named where it would stand: by an earlier winner's; or, told only where that is not so, by itself, with an
 // own-slot constraint. (Its other constraints name others, and bar it by their marks.)
-#[derive(Drop)]
+#[derive(Clone, Copy)]
 pub struct Named {
     pub earlier: bool,
     pub itself: bool,

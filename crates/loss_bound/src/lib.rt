@@ -5,6 +5,8 @@
 // above the other, then for each bidder and each rival that it names the sheet can have p different constraints, and no others: so it has all of them where its
 // different constraints are no fewer than p times the rivals named. In version 2 all constraints are different, and so they are in version 1 where they rise;
 // others of version 1 are put in order for it.
+#![tactic(auto)]
+
 ghost use Rattle.std.specs.Prelude.{Bool, true, ◌≡◌, ℕ, suc, ◌<◌, ◌≤◌, length, get_or};
 ghost use Rattle.basis.specs.Counting.{sum_to, most_to};
 ghost use Rattle.basis.specs.Tests.{all_below};
@@ -21,14 +23,14 @@ use check_constraints::order_number;
 use sheet::{Bidder, Slot};
 
 // What the call answers: a refusal's number, or 0 and the factor.
-#[derive(Drop)]
+#[derive(Clone, Copy)]
 pub struct Loss {
     pub refusal: u32,
     pub factor: u32,
 }
 
 // How often bidders are named in all, each by a bidder once, and how often the one that is named most.
-#[derive(Drop)]
+#[derive(Clone, Copy)]
 struct Naming {
     all: u32,
     most: u32,

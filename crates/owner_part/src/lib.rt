@@ -2,6 +2,8 @@
 //
 // Two searches by halves find where they start and where they end, so the part costs, besides the check, a number of steps that grows with the
 // logarithm of the conditions.
+#![tactic(auto)]
+
 ghost use Rattle.std.specs.Prelude.{◌≡◌, ◌+◌, ◌*◌, ◌-◌, ◌≤◌};
 ghost use Rattle.basis.specs.First.{◌when◌otherwise◌};
 ghost use Rattle.sheet.specs.Sheet.{version, constraint_count, constraints_start};
@@ -11,7 +13,7 @@ ghost use Rattle.owner_part.specs.OwnerPart.{part_refusal, first_from, before_of
 use basis::{wide, word16};
 
 // Where a part is: a refusal's number, or 0 with the bytes of the sheet before the part and its own bytes.
-#[derive(Drop)]
+#[derive(Clone, Copy)]
 pub struct Bounds {
     pub refusal: u32,
     pub start: usize,
@@ -19,7 +21,7 @@ pub struct Bounds {
 }
 
 // What the call that only checks answers: a refusal's number, or 0 and the bytes of the sheet before the part.
-#[derive(Drop)]
+#[derive(Clone, Copy)]
 pub struct Before {
     pub refusal: u32,
     pub bytes: usize,

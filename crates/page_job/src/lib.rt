@@ -2,6 +2,8 @@
 //
 // A program has no exit status here: where standard input cannot be read, or the text cannot be written, a sentence on standard
 // error says so.
+#![tactic(auto)]
+
 ghost use Rattle.std.specs.Prelude.{◌≤◌, length};
 ghost use Rattle.page_lines.specs.Put.{Written};
 ghost use Rattle.page_job.specs.PageText.{page_text};
@@ -19,7 +21,7 @@ const RESULT_ROOM: usize = 5 * MAX_SLOTS;
 const TEXT_ROOM: usize = page_lines::LONGEST_LINE * MAX_SLOTS;
 
 // What reading standard input gives: how many bytes stand at the front of the room, or that a read failed.
-#[derive(Drop)]
+#[derive(Clone, Copy)]
 enum Input {
     Bytes(usize),
     Failed,

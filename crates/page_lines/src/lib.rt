@@ -1,6 +1,8 @@
 // The text of a played result in a lent buffer, byte for byte as the page program prints it.
 //
 // No function here reads or writes a file: the program lends the buffer, and prints as many bytes as it is told.
+#![tactic(auto)]
+
 ghost use Rattle.std.specs.Prelude.{◌+◌, ◌*◌, ◌≤◌, length};
 ghost use Rattle.page_lines.specs.Decimal.{decimal};
 ghost use Rattle.page_lines.specs.Lines.{field, line, refused_line, result_lines};

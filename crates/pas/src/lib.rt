@@ -2,6 +2,8 @@
 //
 // Each returns 0 or the number of the first rule that the call breaks. On a refusal nothing lent changes, the answer's own memory
 // included.
+#![tactic(auto)]
+
 ghost use Rattle.std.specs.Prelude.{◌≡◌};
 ghost use Rattle.sheet.specs.Refusal.{refusal_of};
 ghost use Rattle.play.specs.Play.{Played, PlayedFloors};

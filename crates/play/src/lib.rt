@@ -1,4 +1,6 @@
 // Play a round: a lent sheet in, the page with its prices in a lent buffer out.
+#![tactic(auto)]
+
 ghost use Rattle.std.specs.Prelude.{List, ◌++◌, ◌≡◌, ℕ, ◌*◌, ◌<◌, ◌≤◌, length, drop};
 ghost use Rattle.basis.specs.Rows.{joined};
 ghost use Rattle.auction.specs.Page.{at};

@@ -2,6 +2,8 @@
 //
 // No order is tried. The first slot goes to the lowest member that no member names, the next one to the lowest of those left that nobody left names, and so on;
 // where there is none, there is no such order. Each rival set is read once, into one word.
+#![tactic(auto)]
+
 ghost use Rattle.std.specs.Prelude.{true, false, ◌≡◌, ℕ, suc, ◌<◌, ◌≤◌, length, get_or};
 ghost use Rattle.std.proofs.lemmas.List.Edits.{sets};
 ghost use Rattle.bidder_sets.specs.BidderSets.{in_set, rivals_of};
@@ -13,7 +15,7 @@ use bidder_sets::Bidders;
 use sheet::Bidder;
 
 // What the call answers: a refusal's number, or 0 and whether the set could share a page.
-#[derive(Drop)]
+#[derive(Clone, Copy)]
 pub struct Shared {
     pub refusal: u32,
     pub yes: bool,

@@ -1,5 +1,7 @@
 // The bid sheet of document 01, and its version 2 of document 02: the types of a round, and what of a sheet its version decides. What its bytes say,
 // which sheets are accepted and what that means are in specs/.
+#![tactic(auto)]
+
 ghost use Rattle.std.specs.Prelude.{◌≡◌, ◌≤◌, length};
 ghost use Rattle.sheet.specs.Sheet.{effects_start, tick_field};
 
@@ -14,15 +16,15 @@ pub const MAX_CONSTRAINTS: usize = 1024;
 
 // A bidder's number, counted from 1; 0 is nobody. It has 16 bits, so that a constraint is 8 bytes in memory and each of its parts stands at the
 // same bytes in every kind: the reader stores two at once.
-#[derive(Drop)]
+#[derive(Clone, Copy)]
 pub struct Bidder(pub u16);
 
 // A slot of the page ("place" in document 01), counted from 1.
-#[derive(Drop)]
+#[derive(Clone, Copy)]
 pub struct Slot(pub u8);
 
 // What a constraint forbids its owner: a slot of its own, another bidder at a slot, or the two together.
-#[derive(Drop)]
+#[derive(Clone, Copy)]
 pub enum Kind {
     // "own place only"
     OwnSlot(Slot),
@@ -33,7 +35,7 @@ pub enum Kind {
 }
 
 // A constraint ("condition" in document 01) with its owner.
-#[derive(Drop)]
+#[derive(Clone, Copy)]
 pub struct Constraint {
     pub owner: Bidder,
     pub kind: Kind,
@@ -41,7 +43,7 @@ pub struct Constraint {
 
 // A round in memory: the sheet's numbers, and its constraints in sheet order. `used` counts them; the rest are blank. Every bid is a multiple of
 // the tick; in version 2 the constraints rise. The floors are 0 where a call has none (document 02, S-7).
-#[derive(Drop)]
+#[derive(Clone, Copy)]
 pub struct Round {
     pub bidders: usize,
     pub slots: usize,
@@ -55,7 +57,7 @@ pub struct Round {
 }
 
 // The page: for each slot its bidder, or nobody.
-#[derive(Drop)]
+#[derive(Clone, Copy)]
 pub struct Page {
     pub bidders: [Bidder; 16],
 }

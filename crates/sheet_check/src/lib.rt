@@ -1,4 +1,6 @@
 // The check that gives a refused sheet its number.
+#![tactic(auto)]
+
 ghost use Rattle.std.specs.Prelude.{◌≡◌};
 ghost use Rattle.sheet.specs.Refusal.{refusal_of};
 

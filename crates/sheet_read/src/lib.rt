@@ -1,4 +1,6 @@
 // The reader: the round that an accepted sheet's bytes say.
+#![tactic(auto)]
+
 ghost use Rattle.std.specs.Prelude.{◌≡◌, suc, ◌+◌, ◌*◌, ◌<◌, ◌≤◌, length};
 ghost use Rattle.basis.specs.Rows.{padded};
 ghost use Rattle.sheet.specs.Sheet.{slot_count, constraint_count, effects_start, bids_start, constraints_start, effect_field, bid_field};

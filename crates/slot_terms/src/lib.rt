@@ -3,6 +3,8 @@
 //
 // No sheet is read. How many constraints there are is known before any is written: one for each slot of a bar, and one for each slot below the limit. They go in
 // runs whose numbers differ by one step.
+#![tactic(auto)]
+
 ghost use Rattle.std.specs.Prelude.{not, ◌||◌, ◌≡◌, ℕ, suc, ◌+◌, ◌*◌, ◌<◌, ◌≤◌, eqb, ltb, length, get_or};
 ghost use Rattle.std.proofs.lemmas.List.Edits.{sets};
 ghost use Rattle.basis.specs.Bytes.{bytes32};
@@ -22,7 +24,7 @@ const OTHER_STEP: u32 = 65536;
 pub const OTHERS_STEP: u32 = 16777216;
 
 // What the call answers: a refusal's number, or 0 and how many constraints are written.
-#[derive(Drop)]
+#[derive(Clone, Copy)]
 pub struct Written {
     pub refusal: u32,
     pub count: u32,

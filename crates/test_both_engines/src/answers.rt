@@ -9,7 +9,7 @@ const RESULT: usize = 128;
 
 // A form of a call: the second one, with floors, or the first, which is lent none; and the number that is due to a fault of the sheet or of
 // the floors, 0 for none.
-#[derive(Drop)]
+#[derive(Clone, Copy)]
 pub struct Form {
     pub floored: bool,
     pub rule: u32,
@@ -86,7 +86,7 @@ fn note_page(tally: &mut [u64], sheet: &[u8], floors: &[u32], form: Form, res: &
 }
 
 // Where a result is lent, of how many bytes, and how many the call writes.
-#[derive(Drop)]
+#[derive(Clone, Copy)]
 struct Lent {
     start: u32,
     size: u32,
@@ -239,7 +239,7 @@ fn note_gain(tally: &mut [u64], form: Form, number: u32, gain: i64, preset: i64)
 }
 
 // Whose gain is asked for, at which worth, and what its memory holds before.
-#[derive(Drop)]
+#[derive(Clone, Copy)]
 struct Asked {
     bidder: u32,
     worth: u32,
@@ -247,7 +247,7 @@ struct Asked {
 }
 
 // What a call for a gain gave.
-#[derive(Drop)]
+#[derive(Clone, Copy)]
 struct Gained {
     number: u32,
     gain: i64,
@@ -387,7 +387,7 @@ fn note_best(
 }
 
 // What a search for the best page gave beside the page, and what the total's memory held before.
-#[derive(Drop)]
+#[derive(Clone, Copy)]
 struct Found {
     number: u32,
     total: u64,

@@ -6,7 +6,7 @@ use test_chance::{floor_lists, parts};
 const RESULT: usize = 80;
 
 // What a floor does at a slot or, of a page, at some slot.
-#[derive(Drop)]
+#[derive(Clone, Copy)]
 struct Seen {
     emptied: bool,
     priced: bool,

@@ -12,7 +12,7 @@ const AROUND: usize = 40;
 const PRESET: usize = 6148914691236517205;
 
 // Where the result is lent, of how many bytes, and how many the call writes where it is not refused.
-#[derive(Drop)]
+#[derive(Clone, Copy)]
 struct Lent {
     start: u32,
     size: u32,
@@ -20,7 +20,7 @@ struct Lent {
 }
 
 // What a call gave beside the sheet.
-#[derive(Drop)]
+#[derive(Clone, Copy)]
 struct Given {
     number: u32,
     length: usize,

@@ -3,7 +3,7 @@ use crate::{bytes, counts};
 use test_chance::parts;
 
 // The second engine's answer: its number, or 0 with where the part starts and how long it is. Both are 0 with any other number.
-#[derive(Drop)]
+#[derive(Clone, Copy)]
 struct Found {
     number: u32,
     start: usize,

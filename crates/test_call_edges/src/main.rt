@@ -4,6 +4,8 @@
 // The file `stdin` is the script. A line whose first word is one of `sheets` writes on the sheet in hand, "floors" writes the list of floors in
 // hand, a line that begins with words of `calls` or with "terms", "rivals" or "share" makes a call, and any other is there for the reader. Of the rest of
 // a line only its numbers count, so that a line can be a sentence in the documents' words. The file `stdout` has the answers that the documents ask for.
+#![tactic(auto)]
+
 use test_edge_sheets::{build, line};
 
 mod answers;
@@ -19,7 +21,7 @@ mod terms;
 const SCRIPT_ROOM: usize = 131072;
 
 // How much of each buffer is lent: bytes of the sheet in hand and of the truth sheet, and floors.
-#[derive(Drop)]
+#[derive(Clone, Copy)]
 struct Lengths {
     sheet: usize,
     truth: usize,

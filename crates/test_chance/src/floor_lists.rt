@@ -272,7 +272,7 @@ pub fn shape_among_bids(state: &mut u64) -> u32 {
 }
 
 // What can be asked of a floor.
-#[derive(Drop)]
+#[derive(Clone, Copy)]
 pub enum Test {
     AboveZero,
     AboveBefore,

@@ -78,7 +78,7 @@ fn aim(state: &mut u64, shape: u32) -> u32 {
 }
 
 // A version, and a tick that a sheet of it may have.
-#[derive(Drop)]
+#[derive(Clone, Copy)]
 pub struct Steps {
     pub version: u32,
     pub tick: u32,
@@ -134,7 +134,7 @@ pub fn any_steps(state: &mut u64) -> Steps
 }
 
 // The largest effect, and the most by which the next one is lower.
-#[derive(Drop)]
+#[derive(Clone, Copy)]
 struct Effects {
     first: u32,
     fall: u32,

@@ -1,4 +1,6 @@
 // Sheets of either version with a fault, and at times with faults that are checked later too.
+#![tactic(auto)]
+
 ghost use Rattle.std.specs.Prelude.{◌<◌};
 
 pub mod faults;

@@ -48,14 +48,14 @@ fn verdict(honest: i64, other: i64) -> Count {
 }
 
 // Whose gain, at which worth.
-#[derive(Drop)]
+#[derive(Clone, Copy)]
 struct Asked {
     bidder: u32,
     worth: u32,
 }
 
 // What a call gave: its number, and the gain where that is 0.
-#[derive(Drop)]
+#[derive(Clone, Copy)]
 struct Gained {
     number: u32,
     gain: i64,

@@ -13,7 +13,7 @@ const COUNTS: u32 = 9;
 pub const ROOM: usize = 96;
 
 // Without floors, and with floors that fall from place to place, that rise, that do both, and that are all the same.
-#[derive(Drop)]
+#[derive(Clone, Copy)]
 pub enum Floors {
     Without,
     Falling,
@@ -23,7 +23,7 @@ pub enum Floors {
 }
 
 // A kind of comparison: by its floors, and by whether the other list is downward monotonic.
-#[derive(Drop)]
+#[derive(Clone, Copy)]
 pub struct Kind {
     pub floors: Floors,
     pub downward: bool,
@@ -31,7 +31,7 @@ pub struct Kind {
 
 // The counts of a kind: how many, with a place for the bidder on one of the two pages, with another honest gain than without floors, with
 // sheets of two versions, with a tick above 1, how often the honest list pays more, the same and less, and less at such a tick.
-#[derive(Drop)]
+#[derive(Clone, Copy)]
 pub enum Count {
     All,
     Placed,

@@ -1,5 +1,7 @@
 // Demand 3 of document 01 with the library's own calls: whoever sends a downward monotonic list in place of the true one never gains by
 // it, on random rounds from a fixed seed. With other lists it can, and the count of that shows that the comparison could fail.
+#![tactic(auto)]
+
 mod compare;
 mod counts;
 mod other;

@@ -2,6 +2,8 @@
 // beside it. The lists of most of the sheets come from the profile "above named rivals", or all but one condition of them.
 //
 // Wherever there is a factor, what it promises of the page that is played is held against the largest total of all pages and against that of the best page.
+#![tactic(auto)]
+
 mod bound;
 mod compare;
 mod counts;

@@ -1,4 +1,6 @@
 // The page program on round H of document 01, a chain of bidders who each want to stand above the next.
+#![tactic(auto)]
+
 fn main() {
     page_job::run();
 }

@@ -1,4 +1,6 @@
 // The page program on the largest sheet (`test_page_largest`) with one byte more, a newline: no page, but refusal 7.
+#![tactic(auto)]
+
 fn main() {
     page_job::run();
 }

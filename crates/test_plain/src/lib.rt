@@ -4,6 +4,8 @@
 //
 // Each call returns 0 or the number of the first rule that the call breaks, and then nothing lent is written. A sheet's rules are 1 to
 // 13 and 26 to 28, and with a list of floors then 30 and 31.
+#![tactic(auto)]
+
 mod amounts;
 mod fields;
 mod list;

@@ -8,7 +8,7 @@ use crate::{amounts, fields, page};
 const MANY_PAGES: u64 = 1000000000;
 
 // The best page so far and its total.
-#[derive(Drop)]
+#[derive(Clone, Copy)]
 pub struct Choice {
     pub page: [u8; 16],
     pub total: u64,

@@ -1,5 +1,7 @@
 // Random sheets whose lists come from the profile "above named rivals", and sheets that are nearly such, from a fixed seed. The library writes the lists; which of
 // the two a sheet is, `plain` says.
+#![tactic(auto)]
+
 pub mod plain;
 
 use test_chance::{lists, number, parts, rounds};

@@ -17,7 +17,7 @@ pub const SETS_ROOM: usize = 640;
 const MOST_MEMBERS: u32 = 6;
 
 // A call of the profile, which names an owner, or of sharing, which has rival sets: its numbers, how many rivals or members are lent, and how many bytes of sets.
-#[derive(Drop)]
+#[derive(Clone, Copy)]
 pub struct Call {
     pub sharing: bool,
     pub n: u32,

@@ -20,7 +20,7 @@ const PRESET: u32 = 173;
 const OUT_OF_ROOM: u32 = 1000;
 
 // What is due: a rule's number but for 19, the bytes that are written, the count or the answer, and where it is counted.
-#[derive(Drop)]
+#[derive(Clone, Copy)]
 struct Due {
     rule: u32,
     bytes: u32,
@@ -29,7 +29,7 @@ struct Due {
 }
 
 // Where the result is lent, and of how many bytes.
-#[derive(Drop)]
+#[derive(Clone, Copy)]
 struct Lent {
     start: u32,
     size: u32,

@@ -2,6 +2,8 @@
 // answer, and every byte of the buffer that was lent or stands beside what was lent.
 //
 // Then sheets whose lists all come from the profile: each is accepted, its lists are downward monotonic, and what sharing answers is held against its pages.
+#![tactic(auto)]
+
 mod call;
 mod compare;
 mod counts;

@@ -1,4 +1,6 @@
 // Counts that a test program keeps, each at an index of its own, and the lines that it prints of them.
+#![tactic(auto)]
+
 ghost use Rattle.std.specs.Prelude.{◌≡◌, if◌then◌else◌, slice_index};
 ghost use Rattle.test_tally.specs.Tally.{counted};
 

@@ -12,7 +12,7 @@ pub const MAX_SLOTS: u32 = 16;
 pub const BARS_ROOM: usize = 80;
 
 // The call's numbers, and how many bars are lent.
-#[derive(Drop)]
+#[derive(Clone, Copy)]
 pub struct Call {
     pub n: u32,
     pub m: u32,

@@ -17,7 +17,7 @@ const PRESET: u32 = 2863311530;
 const OUT_OF_ROOM: u32 = 1000;
 
 // Where the result is lent, of how many bytes, and how many conditions are due.
-#[derive(Drop)]
+#[derive(Clone, Copy)]
 struct Lent {
     start: u32,
     size: u32,

@@ -3,6 +3,8 @@
 //
 // Then "every list written is downward monotonic for that m, so on a sheet with that n and m demand 3 holds for it as the list sent instead":
 // each list of a call that has n and m from a random sheet is put on that sheet in place of the owner's own.
+#![tactic(auto)]
+
 mod call;
 mod compare;
 mod counts;

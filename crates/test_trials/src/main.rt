@@ -2,6 +2,8 @@
 // the number that each returns, its answer, and every byte of every buffer that was lent to it or stands beside what was lent.
 //
 // It prints how many calls gave each number, what the rounds were like, and how many differences there were.
+#![tactic(auto)]
+
 mod lent_floors;
 mod report;
 mod round;

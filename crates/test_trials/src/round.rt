@@ -6,7 +6,7 @@ use test_chance::{floor_lists, lists, number, parts, rounds};
 use test_damage::faults;
 
 // A sheet's shape, and its fault or 0.
-#[derive(Drop)]
+#[derive(Clone, Copy)]
 struct Kind {
     shape: u32,
     fault: u32,
