@@ -571,7 +571,8 @@ pub record RequestTwo : Type 0 where
   pub shared : (n m : ℕ) (members sets out out' : List ℕ) (before answer : ℕ) → SharePageGiven n m members sets out before 0 out' answer →
       SharedRight n m members sets out out' answer
   -- lists written by the one call, with the rival sets lent to the other, are such lists
-  pub all_written : (n m : ℕ) (s sets : List ℕ) → Accepted s → bidder_count s ≡ n → slot_count s ≡ m → ((i : ℕ) → 0 < i → i ≤ n → WrittenFor n m s i (rivals_of sets i)) →
+  pub all_written : (n m : ℕ) (s sets : List ℕ) → Accepted s → bidder_count s ≡ n → slot_count s ≡ m →
+      ((i : ℕ) → 0 < i → i ≤ n → (out out' : List ℕ) × (before count : ℕ) × AboveTermsGiven n m i (rivals_of sets i) out before 0 out' count × ListSent s i out' count) →
       AllFromProfile s sets
   -- on a round with such lists, the members of a yes stand on the first places in the order written, nobody else stands anywhere, and no condition is broken
   pub on_first_places : (n m : ℕ) (members sets out out' : List ℕ) (before : ℕ) → SharePageGiven n m members sets out before 0 out' 1 →

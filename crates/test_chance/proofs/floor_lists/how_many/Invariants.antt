@@ -1,0 +1,9 @@
+-- `test_chance::floor_lists::how_many` is safe and ends: the floors are counted down. Assumes nothing.
+use Rattle.std.proofs.Common.{◌≤◌}
+use Rattle.test_chance.proofs.floor_lists.how_many.Given as goal
+
+abbrev pub invariant-loop-left : goal.invariant-loop-left
+invariant-loop-left l = l.left ≤ l.initial.left
+
+abbrev pub decreases-loop-left : goal.decreases-loop-left
+decreases-loop-left l = l.left
