@@ -1,0 +1,24 @@
+-- `best_clash::reached_seats` meets its contract: each turn adds the seats of one slot, those of the ranks that reach its floor. Assumes nothing.
+use Prim.Native.Nat.{ℕ, suc, ◌-◌, ◌<◌, ◌≤◌}
+use mathlib.Core.Bool.{Bool}
+use mathlib.Core.List.{List}
+use lib.ListN.{get_or}
+use Rattle.best_clash.specs.EngineMarks.{reaches}
+use Rattle.best_clash.proofs.RowLaws.{SeatsTo}
+use Rattle.best_clash.proofs.reached_seats.Given as goal
+
+-- who reaches the floor of the slot with index l
+abbrev pub open' : (ranked bids floors : List ℕ) → ℕ → ℕ → ℕ → Bool
+open' ranked bids floors n l i = reaches bids ranked n (get_or floors l 0) i
+
+-- the seats of the slots before this one
+pub record Going (test : ℕ → ℕ → Bool) (slots all slot : ℕ) : Type 0 where
+  pub some : 0 < slot
+  pub most : slot ≤ suc slots
+  pub had : SeatsTo test all (slot - 1)
+
+abbrev pub invariant-loop-slot : goal.invariant-loop-slot
+invariant-loop-slot l = Going (open' l.ranked l.bids l.floors l.bidders) l.slots l.all.0 l.slot.0
+
+abbrev pub decreases-loop-slot : goal.decreases-loop-slot
+decreases-loop-slot l = suc l.slots - l.slot.0

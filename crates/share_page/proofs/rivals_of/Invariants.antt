@@ -1,0 +1,23 @@
+-- `share_page::rivals_of` meets its contract: after k turns the word has whom the first k members name, of those that are left. Assumes nothing.
+use Prim.Native.Nat.{ℕ, ◌-◌, ◌≤◌}
+use mathlib.Core.Bool.{Bool, ◌&&◌}
+use mathlib.Core.List.{List}
+use mathlib.Core.Path.{◌≡◌}
+use lib.ListN.{length, get_or}
+use Rattle.basis.specs.Tests.{any_below}
+use Rattle.bidder_sets.specs.EngineSets.{in_word}
+use Rattle.share_page.specs.EngineShare.{in_table}
+use Rattle.share_page.proofs.rivals_of.Given as goal
+
+-- the member at an index is left and names x, and one of the first k members does
+abbrev pub naming : (table members : List ℕ) (left x j : ℕ) → Bool
+naming table members left x j = in_word left (get_or members j 0) && in_table table (get_or members j 0) x
+
+abbrev pub rivalsTo : (table members : List ℕ) (left k x : ℕ) → Bool
+rivalsTo table members left k x = any_below (naming table members left x) k
+
+abbrev pub invariant-loop-k : goal.invariant-loop-k
+invariant-loop-k l = (l.k ≤ length l.members) × ((x : ℕ) → in_word l.rivals.0 x ≡ rivalsTo l.table l.members l.left.0 l.k x)
+
+abbrev pub decreases-loop-k : goal.decreases-loop-k
+decreases-loop-k l = length l.members - l.k
