@@ -32,11 +32,12 @@ show_help() {
     exit
 }
 
-# Whether FILE is missing or something that it is made from is newer. A folder is newer when a file of it was added or removed.
+# Whether FILE is missing or something that it is made from is newer. A folder is newer when a file of it was added or removed; the toolchain
+# makes a folder `out` in a crate's folder, so of these it is the folders src/, specs/ and proofs/ that count.
 is_stale() { # FILE
     [ -f "$1" ] || return 0
-    [ -n "$(find "$root/crates.txt" "$root/crates" \( -type d -o -name '*.rt' -o -name '*.antt' -o -name crates.txt \) \
-        -newer "$1" -print -quit)" ]
+    [ -n "$(find "$root/crates.txt" "$root/crates" -mindepth 0 \( -path "$root/crates/*/out" -prune \) -o \
+        \( -name '*.rt' -o -name '*.antt' -o -name crates.txt -o -type d -path "$root/crates/*/*" \) -newer "$1" -print -quit)" ]
 }
 
 require_toolchain() { command -v rt >/dev/null || fail "the toolchain's command 'rt' is not on PATH"; }
@@ -49,17 +50,20 @@ require_writable() { # WHAT
     rm -f "$made"
 }
 
-# Has `rt WORDS` prove and write FILE, where it is stale; each line of rt's own is passed on as it comes.
-build() { # WHAT FILE WORDS...
-    local what=$1 file=$2 began
-    shift 2
+# Has `rt WORDS`, in the folder of CRATE, prove and make MADE, and FILE of it, where FILE is stale; each line of rt's own is passed on as it
+# comes, and all that it says is kept in target/log/.
+build() { # WHAT FILE CRATE MADE WORDS...
+    local what=$1 file=$2 crate=$3 made=$4 began
+    shift 4
     is_stale "$file" || return 0
     require_toolchain
     require_writable "$what"
     say "proving and building $what; from nothing this takes a few minutes"
     began=$(date +%s.%N)
-    (cd "$root" && rt "$@" </dev/null 2>&1 | sed -u -n '/^rt:/p' >&2) || fail "$what is not built; target/log/ has what the prover said"
-    [ -f "$file" ] || fail "there is no $file, though it is proved: remove target/ and try again"
+    mkdir -p "$root/target/log" "$(dirname "$file")"
+    (cd "$root/crates/$crate" && rt "$@" </dev/null 2>&1 | tee "$root/target/log/$crate.out" | sed -u -n '/^rt:/p' >&2) ||
+        fail "$what is not built; target/log/ has what the prover said"
+    cp "$root/crates/$crate/out/$made" "$file" || fail "there is no crates/$crate/out/$made, though it is proved: remove crates/$crate/out and try again"
     # rt goes by what the sources say and leaves a file that is unchanged, so the date is set here. It is the one of the start: a source
     # that was changed since then is newer.
     touch -d "@$began" "$file"
