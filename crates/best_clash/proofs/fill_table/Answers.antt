@@ -22,14 +22,10 @@ round-used : (s : List ℕ) (used : ℕ) → used ≡ constraint_count s → use
 unfolding round_of
 round-used s used e = e
 
--- where the call started
-abbrev start : tie.At-loop invariant-loop decreases-loop → tie.Start invariant-loop decreases-loop
-start c = c.before.before.before.before
-
 -- the constraint that a turn reads is the round's
 read : (c : After-constraint_at) →
-    c.constraint_at.result ≡ constraint_at (round_of (start (c⟪At-loop-i⟫)).args.sheet.now) c.loop-i.i
-read c = c.constraint_at.ensures ∙ sym (round_constraint _ (start (c⟪At-loop-i⟫)).pre.1.0 _ (omega arith))
+    c.constraint_at.result ≡ constraint_at (round_of c.args.sheet.now) c.loop-i.i
+read c = c.constraint_at.ensures ∙ sym (round_constraint _ c.requires.accepted.0 _ (omega arith))
 
 pub loop-i-init : goal.loop-i-init
 loop-i-init c =
@@ -41,21 +37,19 @@ loop-i-init c =
 
 pub constraint_at-requires : goal.constraint_at-requires
 constraint_at-requires c =
-    (c.constraints_start-start.ensures, omega (arith, (accepted-sheet _ (start (goal.at.constraint_at-requires c).At-loop-i).pre.1.0).counts))
+    (c.constraints_start-start.ensures, omega (arith, (accepted-sheet _ c.requires.accepted.0).counts))
 
 pub mark_constraint-requires : goal.mark_constraint-requires
 mark_constraint-requires c =
-    let s = start (goal.at.mark_constraint-requires c).At-loop-i in
-    let small = within-small _ _ _ s.pre.1.1 s.pre.1.2 (within-at _ s.pre.1.0 c.loop-i.i (omega arith)) in
-    (c.loop-i.invariant.size, subst Small (sym (read (goal.at.mark_constraint-requires c).After-constraint_at)) small, s.pre.0.2)
+    let small = within-small _ _ _ c.requires.accepted.1 c.requires.accepted.2 (within-at _ c.requires.accepted.0 c.loop-i.i (omega arith)) in
+    (c.loop-i.invariant.size, subst Small (sym (read (goal.at.mark_constraint-requires c).After-constraint_at)) small, c.requires.table_len.2)
 
 pub loop-i-preserved : goal.loop-i-preserved
 loop-i-preserved c =
-    let s = start (goal.at.loop-i-preserved c).At-loop-i in
     let v = c.loop-i.invariant in
-    let r = round_of s.args.sheet.now in
+    let r = round_of c.args.sheet.now in
     let n = c.loop-i.i in
-    let ranks = s.args.ranks.now in
+    let ranks = c.args.ranks.now in
     record {
       some = subst (λ (m : ℕ). n + 1 ≤ m) (round-used _ _ c.constraint_count-used.ensures) (omega arith);
       size = c.mark_constraint.ensures.0;
@@ -70,6 +64,6 @@ loop-i-preserved c =
 pub returns : goal.returns
 returns c =
     let v = c.loop-i.invariant in
-    let r = round_of (start (goal.at.returns c).At-loop-i).args.sheet.now in
+    let r = round_of c.args.sheet.now in
     let past : r.used ≤ c.loop-i.i = subst (λ (m : ℕ). m ≤ c.loop-i.i) (round-used _ _ c.constraint_count-used.ensures) c.loop-i-test.false in
-    record { told = λ x y inside. v.told x y inside ∙ ap (λ (m : ℕ). some_shuts (start (goal.at.returns c).At-loop-i).args.ranks.now r m x y) (le_antisymm v.some past) }
+    record { told = λ x y inside. v.told x y inside ∙ ap (λ (m : ℕ). some_shuts c.args.ranks.now r m x y) (le_antisymm v.some past) }

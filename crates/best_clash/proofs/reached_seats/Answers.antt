@@ -6,37 +6,28 @@ use Rattle.best_clash.proofs.RowLaws.{SeatsTo, no_seats, seats_more}
 use Rattle.best_clash.proofs.reached_seats.Invariants.{open'}
 use Rattle.best_clash.proofs.reached_seats.Goals as goal
 
--- where the call started, and the turn that a seat is worked out in
-abbrev start : tie.At-loop invariant-loop decreases-loop → tie.Start invariant-loop decreases-loop
-start c = c.before.before.before.before
-
-abbrev turn : tie.After-reaching invariant-loop decreases-loop → tie.Then1 invariant-loop decreases-loop
-turn c = c.before.before.before
-
 pub loop-slot-init : goal.loop-slot-init
 loop-slot-init c = record { some = omega arith; most = omega arith; had = no_seats _ }
 
 pub loop-slot-preserved : goal.loop-slot-preserved
 loop-slot-preserved c =
-    let inside = (turn (goal.at.loop-slot-preserved c).After-reaching).if1.true in
-    let at = (turn (goal.at.loop-slot-preserved c).After-reaching).before.before in
-    let s = start at in
-    let few = s.pre.0 in
-    let short = s.pre.1 in
-    let v = at.loop.inv in
+    let inside = c.loop-slot-test.true in
+    let few = c.requires.0 in
+    let short = c.requires.1 in
+    let v = c.loop-slot.invariant in
     let some = v.some in
-    let slot = at.loop.slot.0 in
-    let test = open' s.args.ranked.now s.args.bids.now s.args.floors.now s.args.bidders in
+    let slot = c.loop-slot.slot.0 in
+    let test = open' c.args.ranked.now c.args.bids.now c.args.floors.now c.args.bidders in
     let low = c.reaching.ensures.0 in
     let after = c.next_slot-slot.ensures in
     let next : suc (slot - 1) ≡ c.next_slot-slot.result.0 - 1 = omega arith in
     let more = c.either-all.ensures
-    ∙ ap (bit_or at.loop.all.0) (c.at_slot.ensures ∙ ap (λ (n : ℕ). n * 2 ^ (8 * (slot - 1)) % 2 ^ 64) c.first_ranks-ranks.ensures) in
+    ∙ ap (bit_or c.loop-slot.all.0) (c.at_slot.ensures ∙ ap (λ (n : ℕ). n * 2 ^ (8 * (slot - 1)) % 2 ^ 64) c.first_ranks-ranks.ensures) in
     record {
       some = omega arith;
       most = omega arith;
       had =
           subst (SeatsTo test _) next
           (subst (λ (n : ℕ). SeatsTo test n (suc (slot - 1))) (sym more)
-          (seats_more test at.loop.all.0 (slot - 1) c.reaching.result (omega arith) (omega arith) c.reaching.ensures.1 v.had));
+          (seats_more test c.loop-slot.all.0 (slot - 1) c.reaching.result (omega arith) (omega arith) c.reaching.ensures.1 v.had));
     }

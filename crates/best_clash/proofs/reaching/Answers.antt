@@ -10,37 +10,33 @@ use Rattle.best_clash.proofs.RowLaws.{reach_first}
 use Rattle.best_clash.proofs.reaching.Goals.{After-ranked_at-bidder}
 use Rattle.best_clash.proofs.reaching.Goals as goal
 
--- where the call started
-abbrev start : tie.At-loop invariant-loop decreases-loop → tie.Start invariant-loop decreases-loop
-start c = c.before.before.before.before
-
 -- the bidder that a turn reads has a bid, which is that of its rank
 read : (c : After-ranked_at-bidder) →
-    (0 < c.ranked_at-bidder.result.0) × (c.ranked_at-bidder.result.0 ≤ length (start (c⟪At-loop-count⟫)).args.bids.now)
+    (0 < c.ranked_at-bidder.result.0) × (c.ranked_at-bidder.result.0 ≤ length c.args.bids.now)
 read c =
     let within = c.loop-count.invariant.within in
-    let named = (start (c⟪At-loop-count⟫)).requires.1.named (c.loop-count.count - 1) (omega arith) in
+    let named = c.requires.1.named (c.loop-count.count - 1) (omega arith) in
     let e = c.ranked_at-bidder.ensures in
     (omega arith, omega arith)
 
 bid-read : (c : After-ranked_at-bidder) →
-    get_or (start (c⟪At-loop-count⟫)).args.bids.now (c.ranked_at-bidder.result.0 - 1) 0
-    ≡ bid_in (start (c⟪At-loop-count⟫)).args.bids.now (get_or (start (c⟪At-loop-count⟫)).args.ranked.now (c.loop-count.count - 1) 0)
+    get_or c.args.bids.now (c.ranked_at-bidder.result.0 - 1) 0
+    ≡ bid_in c.args.bids.now (get_or c.args.ranked.now (c.loop-count.count - 1) 0)
 bid-read c = sym (bid_index _ _ (read c).0) ∙ ap (bid_in _) c.ranked_at-bidder.ensures
 
 pub returns-then-floor-bids : goal.returns-then-floor-bids
 returns-then-floor-bids c =
-    let a = (start (goal.at.returns-then-floor-bids c).At-loop-count).args in
+    let a = c.args in
     let v = c.loop-count.invariant in
     let within = v.within in
     let bid = bid-read (goal.at.returns-then-floor-bids c).After-ranked_at-bidder in (
       within,
-      reach_first a.bids.now a.ranked.now a.bidders a.floor c.loop-count.count within (λ i l. (let more = (start (goal.at.returns-then-floor-bids c).At-loop-count).requires.1.falls i (c.loop-count.count - 1) (omega arith) (omega arith) in let high = c.if-floor-bids.true in omega arith)) v.later,
+      reach_first a.bids.now a.ranked.now a.bidders a.floor c.loop-count.count within (λ i l. (let more = c.requires.1.falls i (c.loop-count.count - 1) (omega arith) (omega arith) in let high = c.if-floor-bids.true in omega arith)) v.later,
     )
 
 pub loop-count-preserved : goal.loop-count-preserved
 loop-count-preserved c =
-    let a = (start (goal.at.loop-count-preserved c).At-loop-count).args in
+    let a = c.args in
     let v = c.loop-count.invariant in
     let within = v.within in
     let bid = bid-read (goal.at.loop-count-preserved c).After-ranked_at-bidder in
