@@ -1,0 +1,27 @@
+-- `gain::gain` meets its contract, by the cases of the call; an accepted sheet is played with floors of 0. Assumes nothing.
+use mathlib.Core.Path.{sym, ◌∙◌}
+use Rattle.basis.proofs.RowLaws.{zeros}
+use Rattle.sheet.specs.Refusal.{Accepted}
+use Rattle.sheet.proofs.AcceptedLaws.{accepted-sheet}
+use Rattle.sheet.proofs.FloorLaws.{without-floors}
+use Rattle.floors.proofs.FloorLaws.{none-asked}
+use Rattle.gain.proofs.CallLaws.{played-refused, accepted-gains}
+use Rattle.gain.proofs.gain.Goals.{Else-refusal-ne0}
+use Rattle.gain.proofs.gain.Goals as goal
+
+-- past the check the played sheet is accepted
+accepted : (c : Else-refusal-ne0) → Accepted c.args.played.now
+accepted c = sym c.check-refusal.ensures ∙ c.if-refusal-ne0.false
+
+pub returns-then-refusal-ne0 : goal.returns-then-refusal-ne0
+returns-then-refusal-ne0 c = c.refused.ensures ∙ played-refused _ _ _ _ _ c.check-refusal.ensures c.if-refusal-ne0.true
+
+pub gain_accepted-requires : goal.gain_accepted-requires
+gain_accepted-requires c =
+    let ok = accepted (goal.at.gain_accepted-requires c).Else-refusal-ne0 in
+    (ok, (_, none-asked _ ok))
+
+pub returns : goal.returns
+returns c =
+    let ok = accepted (goal.at.returns c).Else-refusal-ne0 in
+    c.gain_accepted.ensures _ (none-asked _ ok) ∙ accepted-gains _ _ _ _ _ ok (without-floors _ _ (accepted-sheet _ ok).counts.most_slots (λ k l. zeros 16 k))
