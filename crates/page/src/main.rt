@@ -1,6 +1,8 @@
 // The page program: a sheet on standard input, its page and prices on standard output.
 #![tactic(auto)]
 
-fn main() {
-    page_job::run();
+use std::io;
+
+fn main(rt: HostRuntime) -> io::Result<()> {
+    page_job::run(&rt)
 }

@@ -4,13 +4,15 @@
 // error says so.
 #![tactic(auto)]
 
+ghost use Rattle.std.specs.Io.{ReadsAtMost};
 ghost use Rattle.std.specs.Prelude.{◌≤◌, length};
 ghost use Rattle.page_lines.specs.Put.{Written};
 ghost use Rattle.page_job.specs.PageText.{page_text};
 ghost use Rattle.page_job.specs.Input.{Within, TextOfInput};
 
-use libc::{STDERR_FILENO, STDIN_FILENO, STDOUT_FILENO};
 use sheet::{MAX_BIDDERS, MAX_CONSTRAINTS, MAX_SLOTS};
+use std::io;
+use std::io::{ErrorKind, Read};
 
 // One byte more than the longest sheet, one of version 2: 13 + 4 × (16 + 64 + 1,024). A longer input is refused by its first bytes as it
 // is by all of them, so what follows them is left unread.
@@ -50,38 +52,46 @@ fn input_text(room: &[u8; SHEET_ROOM], count: usize, text: &mut [u8; TEXT_ROOM])
     page_text(&bytes[..count], text)
 }
 
-// Standard input to its end, or until the room is full.
-fn read_sheet(room: &mut [u8; SHEET_ROOM]) -> Input
+// One read, tried again where a signal interrupts it.
+fn read_some<R: Read>(input: &mut R, rest: &mut [u8]) -> io::Result<usize>
+    ensures { ReadsAtMost result rest.new }
+{
+    for _ in 0..u64::MAX {
+        match input.read(rest) {
+            Err(error) if error.kind() == ErrorKind::Interrupted => {}
+            other => return other,
+        }
+    }
+    input.read(rest)
+}
+
+// The input to its end, or until the room is full.
+fn read_sheet<R: Read>(input: &mut R, room: &mut [u8; SHEET_ROOM]) -> Input
     ensures { Within room.new result }
 {
     let space: &mut [u8] = room;
     let mut at: usize = 0;
     while at < space.len() {
-        let rest = &mut space[at..];
-        let got = libc::read(STDIN_FILENO, rest);
-        if got < 0 {
-            return Input::Failed;
+        match read_some(input, &mut space[at..]) {
+            Ok(0) => return Input::Bytes(at),
+            Ok(more) => at += more,
+            Err(_) => return Input::Failed,
         }
-        let more = io::count(got, rest);
-        if more == 0 {
-            return Input::Bytes(at);
-        }
-        at += more;
     }
     Input::Bytes(at)
 }
 
 // The sheet on standard input, and its text on standard output.
-pub fn run() {
+pub fn run(rt: &(impl io::Input + Print + Eprint)) -> io::Result<()> {
     let mut room = [0u8; SHEET_ROOM];
-    let input = read_sheet(&mut room);
+    let input = read_sheet(&mut rt.reader(), &mut room);
     let Input::Bytes(count) = input else {
-        io::write_all(STDERR_FILENO, b"page: cannot read the sheet\n");
-        return;
+        return rt.eprint("page: cannot read the sheet\n");
     };
     let mut text = [0u8; TEXT_ROOM];
     let length = input_text(&room, count, &mut text);
-    if !io::write_all(STDOUT_FILENO, &text[..length]) {
-        io::write_all(STDERR_FILENO, b"page: cannot write the page\n");
+    if rt.write_all(&text[..length]).is_err() {
+        return rt.eprint("page: cannot write the page\n");
     }
+    Ok(())
 }

@@ -1,6 +1,7 @@
 // A sheet and the one that is written of it give the same answers; sheets of the same round give the same bytes, and sheets of rounds that
 // differ in one number or condition give others.
 use crate::{bytes, calls, counts, one_sheet};
+use std::io;
 use test_chance::{lists, number, parts};
 
 // Room for a page.
@@ -12,13 +13,14 @@ const MAX_EFFECT: u32 = 1000000;
 
 // A page, with floors or without them.
 fn same_pages(
+    rt: &impl Print,
     tally: &mut [u64],
     sheet: &[u8],
     written: &[u8],
     floors: &[u32],
     floored: bool,
     count: u32,
-) {
+) -> io::Result<()> {
     let mut first = [0u8; PAGE];
     let mut second = [0u8; PAGE];
     let one: &mut [u8] = &mut first;
@@ -27,12 +29,13 @@ fn same_pages(
     let number = calls::play_by_library(sheet, floors, floored, one, 0, room);
     let other = calls::play_by_library(written, floors, floored, two, 0, room);
     let same = bytes::same(one, two, PAGE);
-    counts::hold(tally, number == other, b"one sheet, number of its page");
-    counts::hold(tally, same, b"one sheet, its page and prices");
+    counts::hold(rt, tally, number == other, b"one sheet, number of its page")?;
+    counts::hold(rt, tally, same, b"one sheet, its page and prices")?;
     test_tally::add_if(tally, number == 0 && same, count);
+    Ok(())
 }
 
-fn same_best(tally: &mut [u64], sheet: &[u8], written: &[u8]) {
+fn same_best(rt: &impl Print, tally: &mut [u64], sheet: &[u8], written: &[u8]) -> io::Result<()> {
     let mut first = [0u8; PAGE];
     let mut second = [0u8; PAGE];
     let one: &mut [u8] = &mut first;
@@ -43,70 +46,109 @@ fn same_best(tally: &mut [u64], sheet: &[u8], written: &[u8]) {
     let other = pas::pas_best(written, two, &mut other_total);
     let same = bytes::same(one, two, PAGE) && total == other_total;
     counts::hold(
+        rt,
         tally,
         number == other,
         b"one sheet, number of its best page",
-    );
-    counts::hold(tally, same, b"one sheet, its best page");
+    )?;
+    counts::hold(rt, tally, same, b"one sheet, its best page")?;
     test_tally::add_if(tally, number == 0 && same, counts::SAME_BEST);
+    Ok(())
 }
 
-fn same_downward(tally: &mut [u64], sheet: &[u8], written: &[u8], bidder: u32) {
+fn same_downward(
+    rt: &impl Print,
+    tally: &mut [u64],
+    sheet: &[u8],
+    written: &[u8],
+    bidder: u32,
+) -> io::Result<()> {
     let mut one: u8 = 2;
     let mut two: u8 = 2;
     let number = pas::pas_downward(sheet, bidder, &mut one);
     let other = pas::pas_downward(written, bidder, &mut two);
     let same = number == other && one == two;
-    counts::hold(tally, same, b"one sheet, a downward list");
+    counts::hold(rt, tally, same, b"one sheet, a downward list")?;
     test_tally::add_if(tally, number == 0 && same, counts::SAME_DOWNWARD);
+    Ok(())
 }
 
 // As the sheet played and as the truth sheet.
-fn same_gain(tally: &mut [u64], sheet: &[u8], written: &[u8], bidder: u32, worth: u32) {
+fn same_gain(
+    rt: &impl Print,
+    tally: &mut [u64],
+    sheet: &[u8],
+    written: &[u8],
+    bidder: u32,
+    worth: u32,
+) -> io::Result<()> {
     let mut one: i64 = 1;
     let mut two: i64 = 1;
     let number = pas::pas_gain(sheet, written, bidder, worth, &mut one);
     let other = pas::pas_gain(written, sheet, bidder, worth, &mut two);
     let same = number == other && one == two;
-    counts::hold(tally, same, b"one sheet, a gain");
+    counts::hold(rt, tally, same, b"one sheet, a gain")?;
     test_tally::add_if(tally, number == 0 && same, counts::SAME_GAINS);
+    Ok(())
 }
 
-fn same_answers(state: &mut u64, tally: &mut [u64], sheet: &[u8], written: &[u8], floors: &[u32]) {
+fn same_answers(
+    rt: &impl Print,
+    state: &mut u64,
+    tally: &mut [u64],
+    sheet: &[u8],
+    written: &[u8],
+    floors: &[u32],
+) -> io::Result<()> {
     let bidder = calls::bidder(state, sheet);
     let worth = calls::worth(state);
-    same_pages(tally, sheet, written, &[], false, counts::SAME_PAGES);
+    same_pages(rt, tally, sheet, written, &[], false, counts::SAME_PAGES)?;
     same_pages(
+        rt,
         tally,
         sheet,
         written,
         floors,
         true,
         counts::SAME_FLOORED_PAGES,
-    );
-    same_best(tally, sheet, written);
-    same_downward(tally, sheet, written, bidder);
-    same_gain(tally, sheet, written, bidder, worth);
+    )?;
+    same_best(rt, tally, sheet, written)?;
+    same_downward(rt, tally, sheet, written, bidder)?;
+    same_gain(rt, tally, sheet, written, bidder, worth)
 }
 
 // A sheet of the same round, which is written as the first one was.
-fn hold_same(tally: &mut [u64], other: &[u8], whole: &[u8], bytes: u32, count: u32) {
+fn hold_same(
+    rt: &impl Print,
+    tally: &mut [u64],
+    other: &[u8],
+    whole: &[u8],
+    bytes: u32,
+    count: u32,
+) -> io::Result<()> {
     let sheet = parts::part(other, 0, parts::size(parts::length(other)));
-    let same = one_sheet::is_written_as(tally, sheet, whole, bytes);
-    counts::hold(tally, same, b"one sheet, of the same round");
+    let same = one_sheet::is_written_as(rt, tally, sheet, whole, bytes)?;
+    counts::hold(rt, tally, same, b"one sheet, of the same round")?;
     test_tally::add_if(tally, same, count);
+    Ok(())
 }
 
 // The sheet with its conditions in version 2's order, by insertion.
-fn hold_in_order(tally: &mut [u64], from: &[u8], whole: &[u8], bytes: u32) {
+fn hold_in_order(
+    rt: &impl Print,
+    tally: &mut [u64],
+    from: &[u8],
+    whole: &[u8],
+    bytes: u32,
+) -> io::Result<()> {
     let mut space = [0u8; parts::ROOM];
     let other: &mut [u8] = &mut space;
     parts::rewrite(from, other, parts::TICK_VERSION, 1);
     lists::copy_all(from, other);
     let length = parts::size(parts::length(other));
     let same = length == bytes && bytes::same(other, whole, bytes as usize);
-    counts::hold(tally, same, b"one sheet, as by insertion");
-    hold_same(tally, other, whole, bytes, counts::OTHER_VERSION);
+    counts::hold(rt, tally, same, b"one sheet, as by insertion")?;
+    hold_same(rt, tally, other, whole, bytes, counts::OTHER_VERSION)
 }
 
 // Inserting is slow where there are many.
@@ -139,22 +181,30 @@ fn is_largest(sheet: &[u8]) -> bool {
 }
 
 // Other sheets of the same round. With a tick above 1 there is none: version 2 leaves no choice.
-fn same_rounds(state: &mut u64, tally: &mut [u64], sheet: &[u8], whole: &[u8], bytes: u32) {
+fn same_rounds(
+    rt: &impl Print,
+    state: &mut u64,
+    tally: &mut [u64],
+    sheet: &[u8],
+    whole: &[u8],
+    bytes: u32,
+) -> io::Result<()> {
     if parts::tick(sheet) != 1 {
-        return;
+        return Ok(());
     }
     let mut space = [0u8; parts::ROOM];
     let other: &mut [u8] = &mut space;
     parts::rewrite(sheet, other, 1, 1);
     lists::shuffle(state, other);
-    hold_same(tally, other, whole, bytes, counts::SHUFFLED);
+    hold_same(rt, tally, other, whole, bytes, counts::SHUFFLED)?;
     test_tally::add_if(tally, is_largest(whole), counts::LONGEST_WRITTEN);
     repeat_some(state, sheet, other);
     lists::shuffle(state, other);
-    hold_same(tally, other, whole, bytes, counts::REPEATED);
+    hold_same(rt, tally, other, whole, bytes, counts::REPEATED)?;
     if is_few(state, other) {
-        hold_in_order(tally, other, whole, bytes);
+        hold_in_order(rt, tally, other, whole, bytes)?;
     }
+    Ok(())
 }
 
 // One tick more, or less where that is too much.
@@ -245,34 +295,49 @@ fn count_of(kind: u32) -> u32 {
 }
 
 // A sheet that is not the written one, which is written otherwise if it is accepted at all.
-fn hold_other(tally: &mut [u64], other: &[u8], whole: &[u8], bytes: u32, count: u32) {
+fn hold_other(
+    rt: &impl Print,
+    tally: &mut [u64],
+    other: &[u8],
+    whole: &[u8],
+    bytes: u32,
+    count: u32,
+) -> io::Result<()> {
     let sheet = parts::part(other, 0, parts::size(parts::length(other)));
     if test_plain::check(sheet) != 0 {
-        return;
+        return Ok(());
     }
-    let same = one_sheet::is_written_as(tally, sheet, whole, bytes);
-    counts::hold(tally, !same, b"one sheet, of another round");
+    let same = one_sheet::is_written_as(rt, tally, sheet, whole, bytes)?;
+    counts::hold(rt, tally, !same, b"one sheet, of another round")?;
     test_tally::add_if(tally, !same, count);
+    Ok(())
 }
 
 // With its conditions in any order.
 fn hold_other_shuffled(
+    rt: &impl Print,
     state: &mut u64,
     tally: &mut [u64],
     from: &[u8],
     whole: &[u8],
     bytes: u32,
     count: u32,
-) {
+) -> io::Result<()> {
     let mut space = [0u8; parts::ROOM];
     let other: &mut [u8] = &mut space;
     parts::rewrite(from, other, 1, 1);
     lists::shuffle(state, other);
-    hold_other(tally, other, whole, bytes, count);
+    hold_other(rt, tally, other, whole, bytes, count)
 }
 
 // A round that is nearly the same, made of the written sheet, in version 2 or where it can be in version 1.
-fn nearly_same(state: &mut u64, tally: &mut [u64], whole: &[u8], bytes: u32) {
+fn nearly_same(
+    rt: &impl Print,
+    state: &mut u64,
+    tally: &mut [u64],
+    whole: &[u8],
+    bytes: u32,
+) -> io::Result<()> {
     let mut space = [0u8; parts::ROOM];
     let other: &mut [u8] = &mut space;
     parts::copy(whole, other, bytes as usize);
@@ -280,25 +345,34 @@ fn nearly_same(state: &mut u64, tally: &mut [u64], whole: &[u8], bytes: u32) {
     let first = number::once_in(state, 2);
     change(state, other, kind);
     if bytes::same(other, whole, bytes as usize) {
-        return;
+        return Ok(());
     }
     if first && parts::tick(other) == 1 {
-        hold_other_shuffled(state, tally, other, whole, bytes, count_of(kind));
+        hold_other_shuffled(rt, state, tally, other, whole, bytes, count_of(kind))?;
     } else {
-        hold_other(tally, other, whole, bytes, count_of(kind));
+        hold_other(rt, tally, other, whole, bytes, count_of(kind))?;
     }
+    Ok(())
 }
 
 // What must hold of other sheets and of the one that is written of this one.
 pub fn compare(
+    rt: &impl Print,
     state: &mut u64,
     tally: &mut [u64],
     sheet: &[u8],
     whole: &[u8],
     bytes: u32,
     floors: &[u32],
-) {
-    same_answers(state, tally, sheet, parts::part(whole, 0, bytes), floors);
-    same_rounds(state, tally, sheet, whole, bytes);
-    nearly_same(state, tally, whole, bytes);
+) -> io::Result<()> {
+    same_answers(
+        rt,
+        state,
+        tally,
+        sheet,
+        parts::part(whole, 0, bytes),
+        floors,
+    )?;
+    same_rounds(rt, state, tally, sheet, whole, bytes)?;
+    nearly_same(rt, state, tally, whole, bytes)
 }

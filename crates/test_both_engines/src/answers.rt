@@ -2,6 +2,7 @@
 ghost use Rattle.std.specs.Prelude.{◌≤◌};
 
 use crate::{bytes, calls, counts, floored, pages};
+use std::io;
 use test_chance::{floor_lists, number, parts};
 
 // Room for 5 bytes for each of 16 slots, with random bytes before and after.
@@ -21,11 +22,11 @@ pub fn by_form(form: Form, first: u32, second: u32) -> u32 {
 }
 
 // A difference names the form too.
-fn hold(tally: &mut [u64], form: Form, same: bool, name: &[u8]) {
+fn hold(rt: &impl Print, tally: &mut [u64], form: Form, same: bool, name: &[u8]) -> io::Result<()> {
     if form.floored && !same {
-        test_tally::text(b"with floors, ");
+        test_tally::text(rt, b"with floors, ")?;
     }
-    counts::hold(tally, same, name);
+    counts::hold(rt, tally, same, name)
 }
 
 // The number that is due to a fault; where there is none, 0 or one of the call's own, 14 to 19.
@@ -37,17 +38,29 @@ fn is_due(form: Form, number: u32) -> bool {
 }
 
 // Counts the number that a call returned, and holds it to the one due.
-fn note_number(tally: &mut [u64], form: Form, call: u32, number: u32, name: &[u8]) {
+fn note_number(
+    rt: &impl Print,
+    tally: &mut [u64],
+    form: Form,
+    call: u32,
+    number: u32,
+    name: &[u8],
+) -> io::Result<()> {
     counts::add_call(tally, call, number);
-    hold(tally, form, is_due(form, number), name);
+    hold(rt, tally, form, is_due(form, number), name)
 }
 
-pub fn check(tally: &mut [u64], sheet: &[u8], rule: u32) {
+pub fn check(rt: &impl Print, tally: &mut [u64], sheet: &[u8], rule: u32) -> io::Result<()> {
     let library = pas::pas_check(sheet);
     let other = test_plain::check(sheet);
     counts::add_call(tally, counts::CHECK, library);
-    counts::hold(tally, library == other, b"check, number");
-    counts::hold(tally, library == rule, b"check, the fault that was put in");
+    counts::hold(rt, tally, library == other, b"check, number")?;
+    counts::hold(
+        rt,
+        tally,
+        library == rule,
+        b"check, the fault that was put in",
+    )
 }
 
 // What may have been written.
@@ -74,15 +87,24 @@ fn note_free_page(tally: &mut [u64], sheet: &[u8], res: &[u8], start: u32) {
     test_tally::add_if(tally, raised && stepped, counts::STEPPED_PRICES);
 }
 
-fn note_page(tally: &mut [u64], sheet: &[u8], floors: &[u32], form: Form, res: &[u8], start: u32) {
+fn note_page(
+    rt: &impl Print,
+    tally: &mut [u64],
+    sheet: &[u8],
+    floors: &[u32],
+    form: Form,
+    res: &[u8],
+    start: u32,
+) -> io::Result<()> {
     let empty = pages::has_empty_slot(res, start, floor_lists::count(sheet));
     let count = by_form(form, counts::EMPTY_SLOTS, counts::FLOORED_EMPTY);
     test_tally::add_if(tally, empty, count);
     if form.floored {
-        floored::note_page(tally, sheet, floors, res, start);
+        floored::note_page(rt, tally, sheet, floors, res, start)?;
     } else {
         note_free_page(tally, sheet, res, start);
     }
+    Ok(())
 }
 
 // Where a result is lent, of how many bytes, and how many the call writes.
@@ -102,6 +124,7 @@ fn lend(state: &mut u64, bytes: u32) -> Lent {
 }
 
 fn play_by_library(
+    rt: &impl Print,
     tally: &mut [u64],
     sheet: &[u8],
     floors: &[u32],
@@ -109,27 +132,29 @@ fn play_by_library(
     one: &mut [u8],
     kept: &[u8],
     lent: Lent,
-) -> u32 {
+) -> io::Result<u32> {
     let start = lent.start;
     let bytes = lent.bytes;
     let number = calls::play_by_library(sheet, floors, form.floored, one, start, lent.size);
     let call = by_form(form, counts::PLAY, counts::PLAY_FLOORS);
-    note_number(tally, form, call, number, b"play, the number due");
+    note_number(rt, tally, form, call, number, b"play, the number due")?;
     let kept_rest = bytes::untouched(one, kept, start, written(number, bytes));
     hold(
+        rt,
         tally,
         form,
         kept_rest,
         b"play, bytes that are not the result's",
-    );
+    )?;
     if number == 0 {
-        note_page(tally, sheet, floors, form, one, start);
+        note_page(rt, tally, sheet, floors, form, one, start)?;
     }
-    number
+    Ok(number)
 }
 
 // The first form gives what the second gives with floors of 0.
 fn play_with_zeros(
+    rt: &impl Print,
     tally: &mut [u64],
     sheet: &[u8],
     form: Form,
@@ -137,9 +162,9 @@ fn play_with_zeros(
     kept: &[u8],
     lent: Lent,
     number: u32,
-) {
+) -> io::Result<()> {
     if form.floored {
-        return;
+        return Ok(());
     }
     let mut space = [0u8; RESULT];
     let two: &mut [u8] = &mut space;
@@ -147,14 +172,22 @@ fn play_with_zeros(
     parts::copy(kept, two, RESULT);
     let list = floor_lists::part(&zeros, 0, floor_lists::count(sheet));
     let other = calls::play_by_library(sheet, list, true, two, lent.start, lent.size);
-    counts::hold(tally, number == other, b"play with floors of 0, number");
+    counts::hold(rt, tally, number == other, b"play with floors of 0, number")?;
     let same = bytes::same(one, two, RESULT);
-    counts::hold(tally, same, b"play with floors of 0, page");
+    counts::hold(rt, tally, same, b"play with floors of 0, page")?;
     test_tally::add_if(tally, number == 0 && other == 0, counts::ZERO_PAGES);
+    Ok(())
 }
 
 // Whether both engines gave a page.
-pub fn play(state: &mut u64, tally: &mut [u64], sheet: &[u8], floors: &[u32], form: Form) -> bool {
+pub fn play(
+    rt: &impl Print,
+    state: &mut u64,
+    tally: &mut [u64],
+    sheet: &[u8],
+    floors: &[u32],
+    form: Form,
+) -> io::Result<bool> {
     let mut first = [0u8; RESULT];
     let mut second = [0u8; RESULT];
     let mut third = [0u8; RESULT];
@@ -163,13 +196,13 @@ pub fn play(state: &mut u64, tally: &mut [u64], sheet: &[u8], floors: &[u32], fo
     let kept: &mut [u8] = &mut third;
     prepare(state, one, two, kept);
     let lent = lend(state, 5 * floor_lists::count(sheet));
-    let number = play_by_library(tally, sheet, floors, form, one, kept, lent);
+    let number = play_by_library(rt, tally, sheet, floors, form, one, kept, lent)?;
     let other = calls::play_by_other(sheet, floors, form.floored, two, lent.start, lent.size);
-    hold(tally, form, number == other, b"play, number");
+    hold(rt, tally, form, number == other, b"play, number")?;
     let same = bytes::same(one, two, RESULT);
-    hold(tally, form, same, b"play, page");
-    play_with_zeros(tally, sheet, form, one, kept, lent, number);
-    number == 0
+    hold(rt, tally, form, same, b"play, page")?;
+    play_with_zeros(rt, tally, sheet, form, one, kept, lent, number)?;
+    Ok(number == 0)
 }
 
 // An answer that the engines may write over.
@@ -177,24 +210,35 @@ fn preset_byte(state: &mut u64) -> u8 {
     (number::up_to(state, 255) % 256) as u8
 }
 
-fn note_downward(tally: &mut [u64], number: u32, answer: u8, preset: u8) {
+fn note_downward(
+    rt: &impl Print,
+    tally: &mut [u64],
+    number: u32,
+    answer: u8,
+    preset: u8,
+) -> io::Result<()> {
     if number != 0 {
-        counts::hold(
+        return counts::hold(
+            rt,
             tally,
             answer == preset,
             b"downward, answer of a refused call",
         );
-        return;
     }
     if answer == 1 {
         test_tally::add(tally, counts::YES);
-        return;
+        return Ok(());
     }
     test_tally::add(tally, counts::NO);
-    counts::hold(tally, answer == 0, b"downward, neither yes nor no");
+    counts::hold(rt, tally, answer == 0, b"downward, neither yes nor no")
 }
 
-pub fn downward(state: &mut u64, tally: &mut [u64], sheet: &[u8]) {
+pub fn downward(
+    rt: &impl Print,
+    state: &mut u64,
+    tally: &mut [u64],
+    sheet: &[u8],
+) -> io::Result<()> {
     let bidder = calls::bidder(state, sheet);
     let preset = preset_byte(state);
     let mut one = preset;
@@ -202,9 +246,9 @@ pub fn downward(state: &mut u64, tally: &mut [u64], sheet: &[u8]) {
     let number = pas::pas_downward(sheet, bidder, &mut one);
     let other = test_plain::downward(sheet, bidder, &mut two);
     counts::add_call(tally, counts::DOWNWARD, number);
-    counts::hold(tally, number == other, b"downward, number");
-    counts::hold(tally, one == two, b"downward, answer");
-    note_downward(tally, number, one, preset);
+    counts::hold(rt, tally, number == other, b"downward, number")?;
+    counts::hold(rt, tally, one == two, b"downward, answer")?;
+    note_downward(rt, tally, number, one, preset)
 }
 
 fn preset_gain(state: &mut u64) -> i64 {
@@ -227,15 +271,23 @@ fn note_sign(tally: &mut [u64], form: Form, gain: i64) {
     test_tally::add_if(tally, gain < 0, below);
 }
 
-fn note_gain(tally: &mut [u64], form: Form, number: u32, gain: i64, preset: i64) {
+fn note_gain(
+    rt: &impl Print,
+    tally: &mut [u64],
+    form: Form,
+    number: u32,
+    gain: i64,
+    preset: i64,
+) -> io::Result<()> {
     let call = by_form(form, counts::GAIN, counts::GAIN_FLOORS);
-    note_number(tally, form, call, number, b"gain, the number due");
+    note_number(rt, tally, form, call, number, b"gain, the number due")?;
     if number == 0 {
         note_sign(tally, form, gain);
     } else {
         let kept = gain == preset;
-        hold(tally, form, kept, b"gain, answer of a refused call");
+        hold(rt, tally, form, kept, b"gain, answer of a refused call")?;
     }
+    Ok(())
 }
 
 // Whose gain is asked for, at which worth, and what its memory holds before.
@@ -303,25 +355,27 @@ fn gain_by_other(
 
 // The first form gives what the second gives with floors of 0.
 fn gain_with_zeros(
+    rt: &impl Print,
     tally: &mut [u64],
     played: &[u8],
     form: Form,
     truth: &[u8],
     asked: Asked,
     given: Gained,
-) {
+) -> io::Result<()> {
     if form.floored {
-        return;
+        return Ok(());
     }
     let zeros = [0u32; floor_lists::ROOM];
     let list = floor_lists::part(&zeros, 0, floor_lists::count(played));
     let other = gain_by_library(played, list, true, truth, asked);
     let same = given.number == other.number;
-    counts::hold(tally, same, b"gain with floors of 0, number");
+    counts::hold(rt, tally, same, b"gain with floors of 0, number")?;
     let equal = given.gain == other.gain;
-    counts::hold(tally, equal, b"gain with floors of 0, answer");
+    counts::hold(rt, tally, equal, b"gain with floors of 0, answer")?;
     let answered = given.number == 0 && other.number == 0;
     test_tally::add_if(tally, answered, counts::ZERO_GAINS);
+    Ok(())
 }
 
 fn ask_gain(state: &mut u64, sheet: &[u8]) -> Asked {
@@ -332,27 +386,34 @@ fn ask_gain(state: &mut u64, sheet: &[u8]) -> Asked {
     }
 }
 
-fn compare_gains(tally: &mut [u64], form: Form, one: Gained, two: Gained) {
-    hold(tally, form, one.number == two.number, b"gain, number");
-    hold(tally, form, one.gain == two.gain, b"gain, answer");
+fn compare_gains(
+    rt: &impl Print,
+    tally: &mut [u64],
+    form: Form,
+    one: Gained,
+    two: Gained,
+) -> io::Result<()> {
+    hold(rt, tally, form, one.number == two.number, b"gain, number")?;
+    hold(rt, tally, form, one.gain == two.gain, b"gain, answer")
 }
 
 // Whether both engines gave a gain.
 pub fn gain(
+    rt: &impl Print,
     state: &mut u64,
     tally: &mut [u64],
     sheet: &[u8],
     floors: &[u32],
     form: Form,
     truth: &[u8],
-) -> bool {
+) -> io::Result<bool> {
     let asked = ask_gain(state, sheet);
     let one = gain_by_library(sheet, floors, form.floored, truth, asked);
     let two = gain_by_other(sheet, floors, form.floored, truth, asked);
-    note_gain(tally, form, one.number, one.gain, asked.preset);
-    compare_gains(tally, form, one, two);
-    gain_with_zeros(tally, sheet, form, truth, asked, one);
-    one.number == 0
+    note_gain(rt, tally, form, one.number, one.gain, asked.preset)?;
+    compare_gains(rt, tally, form, one, two)?;
+    gain_with_zeros(rt, tally, sheet, form, truth, asked, one)?;
+    Ok(one.number == 0)
 }
 
 // The total of the page that playing gives.
@@ -367,6 +428,7 @@ fn greedy_total(sheet: &[u8], floors: &[u32], floored: bool) -> u64 {
 
 // A best page is worth what the call says, and never less than the played page.
 fn note_best(
+    rt: &impl Print,
     tally: &mut [u64],
     sheet: &[u8],
     floors: &[u32],
@@ -374,16 +436,23 @@ fn note_best(
     res: &[u8],
     start: u32,
     total: u64,
-) {
+) -> io::Result<()> {
     let own = pages::total(sheet, res, start, false);
     let greedy = greedy_total(sheet, floors, form.floored);
-    hold(tally, form, total == own, b"best, total of the page");
-    hold(tally, form, greedy <= total, b"best, below the played page");
+    hold(rt, tally, form, total == own, b"best, total of the page")?;
+    hold(
+        rt,
+        tally,
+        form,
+        greedy <= total,
+        b"best, below the played page",
+    )?;
     let count = by_form(form, counts::ABOVE_GREEDY, counts::FLOORED_ABOVE_GREEDY);
     test_tally::add_if(tally, greedy < total, count);
     if form.floored {
-        floored::note_best(tally, sheet, floors, res, start, total);
+        floored::note_best(rt, tally, sheet, floors, res, start, total)?;
     }
+    Ok(())
 }
 
 // What a search for the best page gave beside the page, and what the total's memory held before.
@@ -395,6 +464,7 @@ struct Found {
 }
 
 fn best_by_library(
+    rt: &impl Print,
     tally: &mut [u64],
     sheet: &[u8],
     floors: &[u32],
@@ -403,7 +473,7 @@ fn best_by_library(
     kept: &[u8],
     lent: Lent,
     preset: u64,
-) -> Found {
+) -> io::Result<Found> {
     let start = lent.start;
     let bytes = lent.bytes;
     let mut total = preset;
@@ -417,28 +487,30 @@ fn best_by_library(
         &mut total,
     );
     let call = by_form(form, counts::BEST, counts::BEST_FLOORS);
-    note_number(tally, form, call, number, b"best, the number due");
+    note_number(rt, tally, form, call, number, b"best, the number due")?;
     let kept_rest = bytes::untouched(one, kept, start, written(number, bytes));
     hold(
+        rt,
         tally,
         form,
         kept_rest,
         b"best, bytes that are not the result's",
-    );
+    )?;
     if number == 0 {
-        note_best(tally, sheet, floors, form, one, start, total);
+        note_best(rt, tally, sheet, floors, form, one, start, total)?;
     } else {
         let same = total == preset;
-        hold(tally, form, same, b"best, answer of a refused call");
+        hold(rt, tally, form, same, b"best, answer of a refused call")?;
     }
-    Found {
+    Ok(Found {
         number: number,
         total: total,
         preset: preset,
-    }
+    })
 }
 
 fn compare_best(
+    rt: &impl Print,
     tally: &mut [u64],
     sheet: &[u8],
     floors: &[u32],
@@ -447,7 +519,7 @@ fn compare_best(
     two: &mut [u8],
     lent: Lent,
     found: Found,
-) {
+) -> io::Result<()> {
     let start = lent.start;
     let mut total = found.preset;
     let other = calls::best_by_other(
@@ -459,14 +531,15 @@ fn compare_best(
         lent.size,
         &mut total,
     );
-    hold(tally, form, found.number == other, b"best, number");
-    hold(tally, form, found.total == total, b"best, total");
+    hold(rt, tally, form, found.number == other, b"best, number")?;
+    hold(rt, tally, form, found.total == total, b"best, total")?;
     let same = bytes::same(one, two, RESULT);
-    hold(tally, form, same, b"best, page");
+    hold(rt, tally, form, same, b"best, page")
 }
 
 // The first form gives what the second gives with floors of 0.
 fn best_with_zeros(
+    rt: &impl Print,
     tally: &mut [u64],
     sheet: &[u8],
     form: Form,
@@ -474,9 +547,9 @@ fn best_with_zeros(
     kept: &[u8],
     lent: Lent,
     found: Found,
-) {
+) -> io::Result<()> {
     if form.floored {
-        return;
+        return Ok(());
     }
     let mut space = [0u8; RESULT];
     let two: &mut [u8] = &mut space;
@@ -486,16 +559,24 @@ fn best_with_zeros(
     let list = floor_lists::part(&zeros, 0, floor_lists::count(sheet));
     let other = calls::best_by_library(sheet, list, true, two, lent.start, lent.size, &mut total);
     let number = found.number;
-    counts::hold(tally, number == other, b"best with floors of 0, number");
+    counts::hold(rt, tally, number == other, b"best with floors of 0, number")?;
     let equal = found.total == total;
-    counts::hold(tally, equal, b"best with floors of 0, total");
+    counts::hold(rt, tally, equal, b"best with floors of 0, total")?;
     let same = bytes::same(one, two, RESULT);
-    counts::hold(tally, same, b"best with floors of 0, page");
+    counts::hold(rt, tally, same, b"best with floors of 0, page")?;
     test_tally::add_if(tally, number == 0 && other == 0, counts::ZERO_BEST);
+    Ok(())
 }
 
 // Whether both engines gave a page.
-pub fn best(state: &mut u64, tally: &mut [u64], sheet: &[u8], floors: &[u32], form: Form) -> bool {
+pub fn best(
+    rt: &impl Print,
+    state: &mut u64,
+    tally: &mut [u64],
+    sheet: &[u8],
+    floors: &[u32],
+    form: Form,
+) -> io::Result<bool> {
     let mut first = [0u8; RESULT];
     let mut second = [0u8; RESULT];
     let mut third = [0u8; RESULT];
@@ -505,8 +586,8 @@ pub fn best(state: &mut u64, tally: &mut [u64], sheet: &[u8], floors: &[u32], fo
     prepare(state, one, two, kept);
     let preset = *state;
     let lent = lend(state, floor_lists::count(sheet));
-    let found = best_by_library(tally, sheet, floors, form, one, kept, lent, preset);
-    compare_best(tally, sheet, floors, form, one, two, lent, found);
-    best_with_zeros(tally, sheet, form, one, kept, lent, found);
-    found.number == 0
+    let found = best_by_library(rt, tally, sheet, floors, form, one, kept, lent, preset)?;
+    compare_best(rt, tally, sheet, floors, form, one, two, lent, found)?;
+    best_with_zeros(rt, tally, sheet, form, one, kept, lent, found)?;
+    Ok(found.number == 0)
 }

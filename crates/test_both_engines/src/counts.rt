@@ -3,6 +3,8 @@ ghost use Rattle.std.specs.Prelude.{◌≡◌};
 ghost use Rattle.test_both_engines.specs.Counts.{place_of, held};
 ghost use Rattle.test_tally.specs.Tally.{counted};
 
+use std::io;
+
 // The calls, by their order in document 01 and then document 02, with a place for each number from 0 to 31.
 pub const CHECK: u32 = 0;
 
@@ -283,14 +285,14 @@ pub fn add_call(tally: &mut [u64], call: u32, number: u32)
 }
 
 // A difference is counted, and a line names the call and the round, so that it can be found.
-pub fn hold(tally: &mut [u64], same: bool, name: &[u8])
+pub fn hold(rt: &impl Print, tally: &mut [u64], same: bool, name: &[u8]) -> io::Result<()>
     ensures { tally.new ≡ held tally.old same }
 {
     if same {
-        return;
+        return Ok(());
     }
     test_tally::add(tally, DIFFERENCES);
-    test_tally::text(b"difference: ");
-    test_tally::text(name);
-    test_tally::count_line(tally, b", round", ROUNDS);
+    test_tally::text(rt, b"difference: ")?;
+    test_tally::text(rt, name)?;
+    test_tally::count_line(rt, tally, b", round", ROUNDS)
 }

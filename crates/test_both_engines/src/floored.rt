@@ -1,5 +1,6 @@
 // What floors do to a page, by the documents' words and by playing the round without the floor of one slot ("place").
 use crate::{counts, pages};
+use std::io;
 use test_chance::{floor_lists, parts};
 
 // Room for 5 bytes for each of 16 slots.
@@ -99,18 +100,27 @@ fn look(sheet: &[u8], list: &[u32], res: &[u8], start: u32) -> Seen {
 }
 
 // Counts what the floors do to a played page, and holds its prices to the floors.
-pub fn note_page(tally: &mut [u64], sheet: &[u8], list: &[u32], res: &[u8], start: u32) {
+pub fn note_page(
+    rt: &impl Print,
+    tally: &mut [u64],
+    sheet: &[u8],
+    list: &[u32],
+    res: &[u8],
+    start: u32,
+) -> io::Result<()> {
     let seen = look(sheet, list, res, start);
     counts::hold(
+        rt,
         tally,
         !seen.wrong,
         b"play with floors, a price that is none",
-    );
+    )?;
     test_tally::add_if(tally, seen.emptied, counts::EMPTIED);
     test_tally::add_if(tally, seen.priced, counts::PRICED);
     test_tally::add_if(tally, seen.between, counts::BETWEEN);
     test_tally::add_if(tally, seen.reached, counts::REACHED);
     test_tally::add_if(tally, seen.dearer, counts::DEARER);
+    Ok(())
 }
 
 // "The best page obeys floors as well.": each bidder of the page has a bid at or above its floor.
@@ -139,16 +149,23 @@ fn free_total(sheet: &[u8]) -> u64 {
 
 // Counts what the floors do to a best page, and holds it to the floors.
 pub fn note_best(
+    rt: &impl Print,
     tally: &mut [u64],
     sheet: &[u8],
     list: &[u32],
     res: &[u8],
     start: u32,
     total: u64,
-) {
+) -> io::Result<()> {
     let free = free_total(sheet);
     let right = obeys(sheet, list, res, start);
-    counts::hold(tally, right, b"best with floors, a bid below the floor");
-    counts::hold(tally, total <= free, b"best with floors, above the best");
+    counts::hold(rt, tally, right, b"best with floors, a bid below the floor")?;
+    counts::hold(
+        rt,
+        tally,
+        total <= free,
+        b"best with floors, above the best",
+    )?;
     test_tally::add_if(tally, total < free, counts::FLOORED_SMALLER);
+    Ok(())
 }

@@ -1,5 +1,6 @@
 // One bidder's part of the sheet, by both engines: the call by the C convention, the one that only checks, and the one that hands the part back.
 use crate::{bytes, counts};
+use std::io;
 use test_chance::parts;
 
 // The second engine's answer: its number, or 0 with where the part starts and how long it is. Both are 0 with any other number.
@@ -16,24 +17,29 @@ const PRESET_START: usize = 12297829382473034410;
 const PRESET_LENGTH: usize = 6148914691236517205;
 
 // What the second engine found, which leaves the answer's memory on a refusal.
-fn found_by_other(tally: &mut [u64], sheet: &[u8], bidder: u32) -> Found {
+fn found_by_other(
+    rt: &impl Print,
+    tally: &mut [u64],
+    sheet: &[u8],
+    bidder: u32,
+) -> io::Result<Found> {
     let mut start = PRESET_START;
     let mut length = PRESET_LENGTH;
     let number = test_plain::owner_part(sheet, bidder, &mut start, &mut length);
     if number == 0 {
-        return Found {
+        return Ok(Found {
             number,
             start,
             length,
-        };
+        });
     }
     let kept = start == PRESET_START && length == PRESET_LENGTH;
-    counts::hold(tally, kept, b"owner part, second engine's refused call");
-    Found {
+    counts::hold(rt, tally, kept, b"owner part, second engine's refused call")?;
+    Ok(Found {
         number,
         start: 0,
         length: 0,
-    }
+    })
 }
 
 // The number that the call must give a sheet that the check gives this one.
@@ -58,26 +64,44 @@ fn is_answer(found: Found, start: usize, length: usize) -> bool {
     start == found.start && length == found.length
 }
 
-fn compare_bounds(tally: &mut [u64], sheet: &[u8], bidder: u32, found: Found) {
+fn compare_bounds(
+    rt: &impl Print,
+    tally: &mut [u64],
+    sheet: &[u8],
+    bidder: u32,
+    found: Found,
+) -> io::Result<()> {
     let mut start = PRESET_START;
     let mut length = PRESET_LENGTH;
     let number = pas::pas_owner_part(sheet, bidder, &mut start, &mut length);
     counts::add_call(tally, counts::OWNER_PART, number);
-    counts::hold(tally, number == found.number, b"owner part, number");
+    counts::hold(rt, tally, number == found.number, b"owner part, number")?;
     let same = is_answer(found, start, length);
-    counts::hold(tally, same, b"owner part, start and length");
+    counts::hold(rt, tally, same, b"owner part, start and length")
 }
 
-fn compare_check(tally: &mut [u64], sheet: &[u8], bidder: u32, found: Found) {
+fn compare_check(
+    rt: &impl Print,
+    tally: &mut [u64],
+    sheet: &[u8],
+    bidder: u32,
+    found: Found,
+) -> io::Result<()> {
     let checked = owner_part::check_part(sheet, bidder);
     let number = checked.refusal;
     counts::add_call(tally, counts::CHECK_PART, number);
-    counts::hold(tally, number == found.number, b"check of a part, number");
     counts::hold(
+        rt,
+        tally,
+        number == found.number,
+        b"check of a part, number",
+    )?;
+    counts::hold(
+        rt,
         tally,
         checked.bytes == found.start,
         b"check of a part, bytes before it",
-    );
+    )
 }
 
 // The sheet from a start on, and all of it where it has not so many bytes.
@@ -89,12 +113,18 @@ fn rest(sheet: &[u8], start: usize) -> &[u8] {
 }
 
 // "A refused call hands back the empty part at the sheet's start".
-fn compare_part(tally: &mut [u64], sheet: &[u8], bidder: u32, found: Found) {
+fn compare_part(
+    rt: &impl Print,
+    tally: &mut [u64],
+    sheet: &[u8],
+    bidder: u32,
+    found: Found,
+) -> io::Result<()> {
     let part = owner_part::part(sheet, bidder);
     let length = found.length;
-    counts::hold(tally, part.len() == length, b"part, length");
+    counts::hold(rt, tally, part.len() == length, b"part, length")?;
     let same = bytes::same(rest(sheet, found.start), part, length);
-    counts::hold(tally, same, b"part, bytes");
+    counts::hold(rt, tally, same, b"part, bytes")
 }
 
 fn ends_sheet(sheet: &[u8], start: usize, length: usize) -> bool {
@@ -131,35 +161,38 @@ fn note_part(tally: &mut [u64], sheet: &[u8], found: Found) {
 }
 
 // The calls for one bidder on a sheet that the check gives this number.
-fn ask(tally: &mut [u64], sheet: &[u8], rule: u32, bidder: u32) {
-    let found = found_by_other(tally, sheet, bidder);
+fn ask(rt: &impl Print, tally: &mut [u64], sheet: &[u8], rule: u32, bidder: u32) -> io::Result<()> {
+    let found = found_by_other(rt, tally, sheet, bidder)?;
     let number = number_of(sheet, rule, bidder);
     counts::hold(
+        rt,
         tally,
         found.number == number,
         b"owner part, the number that was to come",
-    );
-    compare_bounds(tally, sheet, bidder, found);
-    compare_check(tally, sheet, bidder, found);
-    compare_part(tally, sheet, bidder, found);
+    )?;
+    compare_bounds(rt, tally, sheet, bidder, found)?;
+    compare_check(rt, tally, sheet, bidder, found)?;
+    compare_part(rt, tally, sheet, bidder, found)?;
     note_part(tally, sheet, found);
+    Ok(())
 }
 
 // Every bidder of the sheet.
-fn ask_all(tally: &mut [u64], sheet: &[u8], rule: u32) {
+fn ask_all(rt: &impl Print, tally: &mut [u64], sheet: &[u8], rule: u32) -> io::Result<()> {
     let mut left = parts::bidders(sheet);
     while 0 < left {
-        ask(tally, sheet, rule, left);
+        ask(rt, tally, sheet, rule, left)?;
         left -= 1;
     }
+    Ok(())
 }
 
 // Every bidder of the sheet, 0, just above n, and larger numbers whose low byte may be a bidder's.
-pub fn parts_of(tally: &mut [u64], sheet: &[u8], rule: u32) {
-    ask_all(tally, sheet, rule);
-    ask(tally, sheet, rule, 0);
-    ask(tally, sheet, rule, parts::bidders(sheet) + 1);
-    ask(tally, sheet, rule, 300);
-    ask(tally, sheet, rule, 65537);
-    ask(tally, sheet, rule, 4294967295);
+pub fn parts_of(rt: &impl Print, tally: &mut [u64], sheet: &[u8], rule: u32) -> io::Result<()> {
+    ask_all(rt, tally, sheet, rule)?;
+    ask(rt, tally, sheet, rule, 0)?;
+    ask(rt, tally, sheet, rule, parts::bidders(sheet) + 1)?;
+    ask(rt, tally, sheet, rule, 300)?;
+    ask(rt, tally, sheet, rule, 65537)?;
+    ask(rt, tally, sheet, rule, 4294967295)
 }

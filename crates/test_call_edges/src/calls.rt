@@ -4,6 +4,7 @@
 ghost use Rattle.std.specs.Prelude.{◌<◌};
 
 use crate::{answers, script};
+use std::io;
 use test_edge_sheets::{build, line};
 
 // Room for a result, more than 5 x 16 bytes.
@@ -13,49 +14,49 @@ const RESULT_ROOM: usize = 128;
 pub const OUT_OF_ROOM: u32 = 1000;
 
 // The call that the line's first word names. A line of any other word makes none.
-pub fn answer(words: &[u8], sheet: &[u8], truth: &[u8]) {
+pub fn answer(rt: &impl Print, words: &[u8], sheet: &[u8], truth: &[u8]) -> io::Result<()> {
     if script::begins(words, b"check") {
-        answers::number(pas::pas_check(sheet));
-        return;
+        return answers::number(rt, pas::pas_check(sheet));
     }
     if script::begins(words, b"play") {
-        play(words, sheet, &[], false);
-        return;
+        return play(rt, words, sheet, &[], false);
     }
     if script::begins(words, b"downward") {
-        downward(words, sheet);
-        return;
+        return downward(rt, words, sheet);
     }
     if script::begins(words, b"gain") {
-        gain(words, sheet, &[], false, truth);
-        return;
+        return gain(rt, words, sheet, &[], false, truth);
     }
     if script::begins(words, b"best") {
-        best(words, sheet, &[], false);
-        return;
+        return best(rt, words, sheet, &[], false);
     }
     if script::begins(words, b"part") {
-        part(words, sheet);
-        return;
+        return part(rt, words, sheet);
     }
     if script::begins(words, b"before") {
-        before(words, sheet);
+        before(rt, words, sheet)?;
     }
+    Ok(())
 }
 
 // The same of the calls with floors.
-pub fn answer_with_floors(words: &[u8], sheet: &[u8], floors: &[u32], truth: &[u8]) {
+pub fn answer_with_floors(
+    rt: &impl Print,
+    words: &[u8],
+    sheet: &[u8],
+    floors: &[u32],
+    truth: &[u8],
+) -> io::Result<()> {
     if script::begins(words, b"with floors, play") {
-        play(words, sheet, floors, true);
-        return;
+        return play(rt, words, sheet, floors, true);
     }
     if script::begins(words, b"with floors, gain") {
-        gain(words, sheet, floors, true, truth);
-        return;
+        return gain(rt, words, sheet, floors, true, truth);
     }
     if script::begins(words, b"with floors, best") {
-        best(words, sheet, floors, true);
+        best(rt, words, sheet, floors, true)?;
     }
+    Ok(())
 }
 
 // The slots of an accepted sheet, m by its header.
@@ -80,36 +81,47 @@ fn play_into(sheet: &[u8], floors: &[u32], floored: bool, buffer: &mut [u8], len
 }
 
 // "play LENGTH"
-fn play(words: &[u8], sheet: &[u8], floors: &[u32], floored: bool) {
+fn play(
+    rt: &impl Print,
+    words: &[u8],
+    sheet: &[u8],
+    floors: &[u32],
+    floored: bool,
+) -> io::Result<()> {
     let mut space = [answers::UNTOUCHED; RESULT_ROOM];
     let buffer: &mut [u8] = &mut space;
     let length = script::number(words, 1) as usize;
     let refusal = play_into(sheet, floors, floored, buffer, length);
-    answers::number(refusal);
+    answers::number(rt, refusal)?;
     if refusal != 0 {
-        answers::untouched(b"; every byte", buffer, 0);
-        return;
+        return answers::untouched(rt, b"; every byte", buffer, 0);
     }
     let slots = slot_count(sheet);
-    answers::page(buffer, slots, 5);
-    answers::prices(buffer, slots);
-    answers::untouched(b"; later bytes", buffer, 5 * slots);
+    answers::page(rt, buffer, slots, 5)?;
+    answers::prices(rt, buffer, slots)?;
+    answers::untouched(rt, b"; later bytes", buffer, 5 * slots)
 }
 
 // "downward BIDDER"
-fn downward(words: &[u8], sheet: &[u8]) {
+fn downward(rt: &impl Print, words: &[u8], sheet: &[u8]) -> io::Result<()> {
     let mut yes = answers::UNTOUCHED;
     let refusal = pas::pas_downward(sheet, script::number(words, 1), &mut yes);
-    answers::number(refusal);
+    answers::number(rt, refusal)?;
     if refusal != 0 {
-        answers::kept(b"; answer", yes == answers::UNTOUCHED);
-        return;
+        return answers::kept(rt, b"; answer", yes == answers::UNTOUCHED);
     }
-    answers::yes_or_no(yes);
+    answers::yes_or_no(rt, yes)
 }
 
 // "gain BIDDER WORTH"
-fn gain(words: &[u8], sheet: &[u8], floors: &[u32], floored: bool, truth: &[u8]) {
+fn gain(
+    rt: &impl Print,
+    words: &[u8],
+    sheet: &[u8],
+    floors: &[u32],
+    floored: bool,
+    truth: &[u8],
+) -> io::Result<()> {
     let mut gained = answers::UNTOUCHED_GAIN;
     let bidder = script::number(words, 1);
     let worth = script::number(words, 2);
@@ -118,13 +130,12 @@ fn gain(words: &[u8], sheet: &[u8], floors: &[u32], floored: bool, truth: &[u8])
     } else {
         pas::pas_gain(sheet, truth, bidder, worth, &mut gained)
     };
-    answers::number(refusal);
+    answers::number(rt, refusal)?;
     if refusal != 0 {
-        answers::kept(b"; gain", gained == answers::UNTOUCHED_GAIN);
-        return;
+        return answers::kept(rt, b"; gain", gained == answers::UNTOUCHED_GAIN);
     }
-    line::text(b"; gain ");
-    answers::signed(gained);
+    line::text(rt, b"; gain ")?;
+    answers::signed(rt, gained)
 }
 
 // The call with the first `length` bytes of a buffer lent.
@@ -146,46 +157,51 @@ fn best_into(
 }
 
 // "best LENGTH"
-fn best(words: &[u8], sheet: &[u8], floors: &[u32], floored: bool) {
+fn best(
+    rt: &impl Print,
+    words: &[u8],
+    sheet: &[u8],
+    floors: &[u32],
+    floored: bool,
+) -> io::Result<()> {
     let mut space = [answers::UNTOUCHED; RESULT_ROOM];
     let buffer: &mut [u8] = &mut space;
     let mut total = answers::UNTOUCHED_TOTAL;
     let length = script::number(words, 1) as usize;
     let refusal = best_into(sheet, floors, floored, buffer, length, &mut total);
-    answers::number(refusal);
+    answers::number(rt, refusal)?;
     if refusal != 0 {
-        answers::untouched(b"; every byte", buffer, 0);
-        answers::kept(b", total", total == answers::UNTOUCHED_TOTAL);
-        return;
+        answers::untouched(rt, b"; every byte", buffer, 0)?;
+        return answers::kept(rt, b", total", total == answers::UNTOUCHED_TOTAL);
     }
     let slots = slot_count(sheet);
-    answers::page(buffer, slots, 1);
-    line::number(b"; total ", total);
-    answers::untouched(b"; later bytes", buffer, slots);
+    answers::page(rt, buffer, slots, 1)?;
+    line::number(rt, b"; total ", total)?;
+    answers::untouched(rt, b"; later bytes", buffer, slots)
 }
 
 // "part BIDDER": where the part is, and what is handed back.
-fn part(words: &[u8], sheet: &[u8]) {
+fn part(rt: &impl Print, words: &[u8], sheet: &[u8]) -> io::Result<()> {
     let mut start = answers::UNTOUCHED_PLACE;
     let mut length = answers::UNTOUCHED_PLACE;
     let bidder = script::number(words, 1);
     let refusal = pas::pas_owner_part(sheet, bidder, &mut start, &mut length);
-    answers::number(refusal);
+    answers::number(rt, refusal)?;
     if refusal != 0 {
-        answers::kept(b"; start", start == answers::UNTOUCHED_PLACE);
-        answers::kept(b", length", length == answers::UNTOUCHED_PLACE);
+        answers::kept(rt, b"; start", start == answers::UNTOUCHED_PLACE)?;
+        answers::kept(rt, b", length", length == answers::UNTOUCHED_PLACE)?;
     } else {
-        line::number(b"; start ", start as u64);
-        line::number(b", length ", length as u64);
+        line::number(rt, b"; start ", start as u64)?;
+        line::number(rt, b", length ", length as u64)?;
     }
-    answers::conditions(owner_part::part(sheet, bidder));
+    answers::conditions(rt, owner_part::part(sheet, bidder))
 }
 
 // "before the part of BIDDER": the call that only checks.
-fn before(words: &[u8], sheet: &[u8]) {
+fn before(rt: &impl Print, words: &[u8], sheet: &[u8]) -> io::Result<()> {
     let checked = owner_part::check_part(sheet, script::number(words, 1));
-    answers::number(checked.refusal);
-    line::number(b"; bytes ", checked.bytes as u64);
+    answers::number(rt, checked.refusal)?;
+    line::number(rt, b"; bytes ", checked.bytes as u64)
 }
 
 // The call with the first `length` bytes of a buffer lent.
@@ -197,31 +213,29 @@ fn write_into(sheet: &[u8], buffer: &mut [u8], length: usize, written: &mut usiz
 }
 
 // "one sheet into LENGTH"
-pub fn one_sheet(words: &[u8], sheet: &[u8]) {
+pub fn one_sheet(rt: &impl Print, words: &[u8], sheet: &[u8]) -> io::Result<()> {
     let mut space = [answers::UNTOUCHED; build::ROOM];
     let buffer: &mut [u8] = &mut space;
     let mut written = answers::UNTOUCHED_PLACE;
     let length = script::number(words, 1) as usize;
     let refusal = write_into(sheet, buffer, length, &mut written);
-    answers::number(refusal);
+    answers::number(rt, refusal)?;
     if refusal != 0 {
-        answers::untouched(b"; every byte", buffer, 0);
-        answers::kept(b", length", written == answers::UNTOUCHED_PLACE);
-        return;
+        answers::untouched(rt, b"; every byte", buffer, 0)?;
+        return answers::kept(rt, b", length", written == answers::UNTOUCHED_PLACE);
     }
-    line::number(b"; length ", written as u64);
-    answers::sheet(line::front(buffer, written));
-    answers::untouched(b"; later bytes", buffer, written);
+    line::number(rt, b"; length ", written as u64)?;
+    answers::sheet(rt, line::front(buffer, written))?;
+    answers::untouched(rt, b"; later bytes", buffer, written)
 }
 
 // "loss": what the greedy page can lose.
-pub fn loss(sheet: &[u8]) {
+pub fn loss(rt: &impl Print, sheet: &[u8]) -> io::Result<()> {
     let mut factor = answers::UNTOUCHED_COUNT;
     let refusal = pas::pas_loss_bound(sheet, &mut factor);
-    answers::number(refusal);
+    answers::number(rt, refusal)?;
     if refusal != 0 {
-        answers::kept(b"; factor", factor == answers::UNTOUCHED_COUNT);
-        return;
+        return answers::kept(rt, b"; factor", factor == answers::UNTOUCHED_COUNT);
     }
-    line::number(b"; factor ", factor as u64);
+    line::number(rt, b"; factor ", factor as u64)
 }

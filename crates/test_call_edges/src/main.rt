@@ -6,6 +6,10 @@
 // a line only its numbers count, so that a line can be a sentence in the documents' words. The file `stdout` has the answers that the documents ask for.
 #![tactic(auto)]
 
+ghost use Rattle.std.specs.Io.{ReadsAtMost};
+
+use std::io;
+use std::io::Read;
 use test_edge_sheets::{build, line};
 
 mod answers;
@@ -29,92 +33,102 @@ struct Lengths {
 }
 
 // The answer where the line is a call with floors, and whether these are as they were.
-fn call_with_floors(words: &[u8], sheet: &[u8], floors: &[u32], truth: &[u8], length: usize) {
+fn call_with_floors(
+    rt: &impl Print,
+    words: &[u8],
+    sheet: &[u8],
+    floors: &[u32],
+    truth: &[u8],
+    length: usize,
+) -> io::Result<()> {
     let mut space = [0u32; listed_floors::ROOM];
     let kept: &mut [u32] = &mut space;
     listed_floors::copy(floors, kept);
     let list = listed_floors::front(floors, length);
-    calls::answer_with_floors(words, sheet, list, truth);
-    answers::kept(b"; floors", listed_floors::is_same(floors, kept));
+    calls::answer_with_floors(rt, words, sheet, list, truth)?;
+    answers::kept(rt, b"; floors", listed_floors::is_same(floors, kept))
 }
 
 // The answer where the line is a call.
-fn call(words: &[u8], sheet: &[u8], floors: &[u32], truth: &[u8], length: usize) {
+fn call(
+    rt: &impl Print,
+    words: &[u8],
+    sheet: &[u8],
+    floors: &[u32],
+    truth: &[u8],
+    length: usize,
+) -> io::Result<()> {
     if script::begins(words, b"with floors") {
-        call_with_floors(words, sheet, floors, truth, length);
-        return;
+        return call_with_floors(rt, words, sheet, floors, truth, length);
     }
     if script::begins(words, b"one sheet") {
-        calls::one_sheet(words, sheet);
-        return;
+        return calls::one_sheet(rt, words, sheet);
     }
     if script::begins(words, b"loss") {
-        calls::loss(sheet);
-        return;
+        return calls::loss(rt, sheet);
     }
     if script::begins(words, b"terms") {
-        terms::answer(words);
-        return;
+        return terms::answer(rt, words);
     }
     if script::begins(words, b"rivals") {
-        rivals::named(words);
-        return;
+        return rivals::named(rt, words);
     }
     if script::begins(words, b"share") {
-        rivals::share(words);
-        return;
+        return rivals::share(rt, words);
     }
-    calls::answer(words, sheet, truth);
+    calls::answer(rt, words, sheet, truth)
 }
 
 // The line goes out again, with the answer where it is a call. "truth" makes the sheet in hand the truth sheet, and "floors F F .." makes
 // these the floors in hand.
 fn step(
+    rt: &impl Print,
     words: &[u8],
     sheet: &mut [u8],
     truth: &mut [u8],
     floors: &mut [u32],
     lengths: Lengths,
-) -> Lengths {
-    line::text(words);
+) -> io::Result<Lengths> {
+    line::text(rt, words)?;
     if script::begins(words, b"truth") {
         sheets::copy(sheet, truth);
-        line::text(b"\n");
-        return Lengths {
+        line::text(rt, b"\n")?;
+        return Ok(Lengths {
             sheet: lengths.sheet,
             truth: lengths.sheet,
             floors: lengths.floors,
-        };
+        });
     }
     if script::begins(words, b"floors") {
         let count = listed_floors::write(words, floors);
-        line::text(b"\n");
-        return Lengths {
+        line::text(rt, b"\n")?;
+        return Ok(Lengths {
             sheet: lengths.sheet,
             truth: lengths.truth,
             floors: count,
-        };
+        });
     }
     let length = sheets::write(words, sheet, lengths.sheet);
     let truth_length = lengths.truth;
     let count = lengths.floors;
     call(
+        rt,
         words,
         line::front(sheet, length),
         floors,
         line::front(truth, truth_length),
         count,
-    );
-    line::text(b"\n");
-    Lengths {
+    )?;
+    line::text(rt, b"\n")?;
+    Ok(Lengths {
         sheet: length,
         truth: truth_length,
         floors: count,
-    }
+    })
 }
 
 // Each line in turn.
-fn run(text: &[u8]) {
+fn run(rt: &impl Print, text: &[u8]) -> io::Result<()> {
     let mut sheet_space = [0u8; build::ROOM];
     let sheet: &mut [u8] = &mut sheet_space;
     let mut truth_space = [0u8; build::ROOM];
@@ -129,13 +143,29 @@ fn run(text: &[u8]) {
     let mut at = 0;
     while at < text.len() {
         let end = script::line_end(text, at);
-        lengths = step(&text[at..end], sheet, truth, floors, lengths);
+        lengths = step(rt, &text[at..end], sheet, truth, floors, lengths)?;
         at = end + 1;
     }
+    Ok(())
 }
 
-fn main() {
+// The input to its end, or until the room is full: how many bytes of it stand at the front of the room.
+fn read_script<R: Read>(input: &mut R, room: &mut [u8]) -> io::Result<usize>
+    ensures { ReadsAtMost result room.new }
+{
+    let mut at = 0;
+    while at < room.len() {
+        let more = input.read(&mut room[at..])?;
+        if more == 0 {
+            return Ok(at);
+        }
+        at += more;
+    }
+    Ok(at)
+}
+
+fn main(rt: HostRuntime) -> io::Result<()> {
     let mut space = [0u8; SCRIPT_ROOM];
-    let length = io::read_full(0, &mut space);
-    run(&space[..length]);
+    let length = read_script(&mut rt.reader(), &mut space)?;
+    run(&rt, &space[..length])
 }

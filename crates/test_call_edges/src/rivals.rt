@@ -1,5 +1,6 @@
 // The lines that name rivals, for the profile "above named rivals" and for sharing: what the calls answer, and what they leave of what they were lent.
 use crate::{answers, calls, listed_bytes, script};
+use std::io;
 use test_edge_sheets::{build, line};
 
 // Room for more numbers than a byte can count, and for the rival sets of all bidders.
@@ -36,7 +37,7 @@ fn write_into(
 }
 
 // "rivals into LENGTH for N M OWNER RIVAL RIVAL .."
-pub fn named(words: &[u8]) {
+pub fn named(rt: &impl Print, words: &[u8]) -> io::Result<()> {
     let mut list_space = [0u8; LIST_ROOM];
     let list: &mut [u8] = &mut list_space;
     let count = listed_bytes::write(words, BEFORE_LISTS, list);
@@ -51,7 +52,7 @@ pub fn named(words: &[u8]) {
         length,
         &mut written,
     );
-    answers::terms(refusal, written, buffer);
+    answers::terms(rt, refusal, written, buffer)
 }
 
 // The same of sharing, with the members and then the sets in one list.
@@ -68,24 +69,22 @@ fn share_into(words: &[u8], list: &[u8], buffer: &mut [u8], length: usize, answe
 }
 
 // What is left by the call. A no leaves every byte.
-fn show(refusal: u32, answer: u8, buffer: &[u8]) {
-    answers::number(refusal);
+fn show(rt: &impl Print, refusal: u32, answer: u8, buffer: &[u8]) -> io::Result<()> {
+    answers::number(rt, refusal)?;
     if refusal != 0 {
-        answers::untouched(b"; every byte", buffer, 0);
-        answers::kept(b", answer", answer == answers::UNTOUCHED);
-        return;
+        answers::untouched(rt, b"; every byte", buffer, 0)?;
+        return answers::kept(rt, b", answer", answer == answers::UNTOUCHED);
     }
-    answers::yes_or_no(answer);
+    answers::yes_or_no(rt, answer)?;
     if answer != 1 {
-        answers::untouched(b"; every byte", buffer, 0);
-        return;
+        return answers::untouched(rt, b"; every byte", buffer, 0);
     }
-    let written = answers::order(buffer);
-    answers::untouched(b"; later bytes", buffer, written);
+    let written = answers::order(rt, buffer)?;
+    answers::untouched(rt, b"; later bytes", buffer, written)
 }
 
 // "share into LENGTH for N M COUNT MEMBER .. BYTE .."
-pub fn share(words: &[u8]) {
+pub fn share(rt: &impl Print, words: &[u8]) -> io::Result<()> {
     let mut list_space = [0u8; LIST_ROOM];
     let list: &mut [u8] = &mut list_space;
     let count = listed_bytes::write(words, BEFORE_LISTS, list);
@@ -94,5 +93,5 @@ pub fn share(words: &[u8]) {
     let mut answer = answers::UNTOUCHED;
     let length = script::number(words, 1) as usize;
     let refusal = share_into(words, line::front(list, count), buffer, length, &mut answer);
-    show(refusal, answer, buffer);
+    show(rt, refusal, answer, buffer)
 }

@@ -1,5 +1,6 @@
 // The lines that ask for top-of-page terms: what the call answers, and what it leaves of what it was lent.
 use crate::{answers, calls, listed_bytes, script};
+use std::io;
 use test_edge_sheets::{build, line};
 
 // Room for a bar more than there can be bidders, and a few more.
@@ -35,7 +36,7 @@ fn write_into(
 }
 
 // "terms into LENGTH for N M OWNER LIMIT BAR BAR .."
-pub fn answer(words: &[u8]) {
+pub fn answer(rt: &impl Print, words: &[u8]) -> io::Result<()> {
     let mut bars_space = [0u8; BARS_ROOM];
     let bars: &mut [u8] = &mut bars_space;
     let count = listed_bytes::write(words, BEFORE_BARS, bars);
@@ -50,5 +51,5 @@ pub fn answer(words: &[u8]) {
         length,
         &mut written,
     );
-    answers::terms(refusal, written, buffer);
+    answers::terms(rt, refusal, written, buffer)
 }

@@ -1,25 +1,25 @@
 // The parts of a printed line.
-use libc::STDOUT_FILENO;
+use std::io;
 
-pub fn text(words: &[u8]) {
-    io::write_all(STDOUT_FILENO, words);
+pub fn text(rt: &impl Print, words: &[u8]) -> io::Result<()> {
+    rt.write_all(words)
 }
 
 // Words and a number.
-pub fn number(words: &[u8], value: u64) {
-    io::write_all(STDOUT_FILENO, words);
-    io::print_decimal(STDOUT_FILENO, value);
+pub fn number(rt: &impl Print, words: &[u8], value: u64) -> io::Result<()> {
+    rt.write_all(words)?;
+    rt.print(value)
 }
 
 // Words and a small number.
-pub fn byte(words: &[u8], value: u8) {
-    number(words, value as u64);
+pub fn byte(rt: &impl Print, words: &[u8], value: u8) -> io::Result<()> {
+    number(rt, words, value as u64)
 }
 
 // The end of a line: its number.
-pub fn end(value: u64) {
-    number(b": ", value);
-    text(b"\n");
+pub fn end(rt: &impl Print, value: u64) -> io::Result<()> {
+    number(rt, b": ", value)?;
+    text(rt, b"\n")
 }
 
 // The first `length` bytes, or all where there are fewer.

@@ -1,6 +1,8 @@
 // What is counted, and the lines that the program writes.
 ghost use Rattle.std.specs.Prelude.{◌<◌};
 
+use std::io;
+
 pub const REFUSED: u32 = 0;
 
 // The comparisons by their floors, and from KINDS on nine counts of each kind.
@@ -95,65 +97,79 @@ pub fn place(kind: Kind, count: Count) -> u32 {
     KINDS + COUNTS * number(kind) + offset(count)
 }
 
-fn count_line(tally: &[u64], words: &[u8], kind: Kind, count: Count) {
-    test_tally::count_line(tally, words, place(kind, count));
+fn count_line(
+    rt: &impl Print,
+    tally: &[u64],
+    words: &[u8],
+    kind: Kind,
+    count: Count,
+) -> io::Result<()> {
+    test_tally::count_line(rt, tally, words, place(kind, count))
 }
 
-fn change_line(tally: &[u64], kind: Kind) {
+fn change_line(rt: &impl Print, tally: &[u64], kind: Kind) -> io::Result<()> {
     let floors = kind.floors;
     if is_floored(floors) {
         count_line(
+            rt,
             tally,
             b"of these, the honest gain is another than without floors",
             kind,
             Count::Changed,
-        );
+        )?;
     }
+    Ok(())
 }
 
-fn lines(tally: &[u64], kind: Kind) {
+fn lines(rt: &impl Print, tally: &[u64], kind: Kind) -> io::Result<()> {
     count_line(
+        rt,
         tally,
         b"of these, with a place for the bidder on one of the two pages",
         kind,
         Count::Placed,
-    );
-    change_line(tally, kind);
+    )?;
+    change_line(rt, tally, kind)?;
     count_line(
+        rt,
         tally,
         b"of these, one sheet of version 1 and one of version 2",
         kind,
         Count::Mixed,
-    );
+    )?;
     count_line(
+        rt,
         tally,
         b"of these, with a tick above 1",
         kind,
         Count::Stepped,
-    );
+    )?;
     count_line(
+        rt,
         tally,
         b"of these, the honest list pays more",
         kind,
         Count::More,
-    );
-    count_line(tally, b"of these, both pay the same", kind, Count::Same);
+    )?;
+    count_line(rt, tally, b"of these, both pay the same", kind, Count::Same)?;
     count_line(
+        rt,
         tally,
         b"of these, the honest list pays less",
         kind,
         Count::Less,
-    );
+    )?;
     count_line(
+        rt,
         tally,
         b"of these, the honest list pays less with a tick above 1",
         kind,
         Count::SteppedLess,
-    );
+    )
 }
 
 // The comparisons with such floors.
-fn report_with(tally: &[u64], words: &[u8], floors: Floors) {
+fn report_with(rt: &impl Print, tally: &[u64], words: &[u8], floors: Floors) -> io::Result<()> {
     let other = Kind {
         floors: floors,
         downward: false,
@@ -162,28 +178,35 @@ fn report_with(tally: &[u64], words: &[u8], floors: Floors) {
         floors: floors,
         downward: true,
     };
-    test_tally::count_line(tally, words, comparisons(floors));
+    test_tally::count_line(rt, tally, words, comparisons(floors))?;
     count_line(
+        rt,
         tally,
         b"other list not downward monotonic",
         other,
         Count::All,
-    );
-    lines(tally, other);
+    )?;
+    lines(rt, tally, other)?;
     count_line(
+        rt,
         tally,
         b"other list downward monotonic",
         downward,
         Count::All,
-    );
-    lines(tally, downward);
+    )?;
+    lines(rt, tally, downward)
 }
 
-pub fn report(tally: &[u64]) {
-    report_with(tally, b"comparisons without floors", Floors::Without);
-    report_with(tally, b"comparisons with falling floors", Floors::Falling);
-    report_with(tally, b"comparisons with rising floors", Floors::Rising);
-    report_with(tally, b"comparisons with mixed floors", Floors::Mixed);
-    report_with(tally, b"comparisons with equal floors", Floors::Level);
-    test_tally::count_line(tally, b"refused calls", REFUSED);
+pub fn report(rt: &impl Print, tally: &[u64]) -> io::Result<()> {
+    report_with(rt, tally, b"comparisons without floors", Floors::Without)?;
+    report_with(
+        rt,
+        tally,
+        b"comparisons with falling floors",
+        Floors::Falling,
+    )?;
+    report_with(rt, tally, b"comparisons with rising floors", Floors::Rising)?;
+    report_with(rt, tally, b"comparisons with mixed floors", Floors::Mixed)?;
+    report_with(rt, tally, b"comparisons with equal floors", Floors::Level)?;
+    test_tally::count_line(rt, tally, b"refused calls", REFUSED)
 }

@@ -6,6 +6,7 @@ mod compare;
 mod counts;
 mod other;
 
+use std::io;
 use test_chance::rounds;
 
 const SEED: u64 = 2463534242862342531;
@@ -34,11 +35,11 @@ fn list_shapes(state: &mut u64, tally: &mut [u64]) {
     comparisons(state, tally, rounds::REPEATS, 4000);
 }
 
-fn main() {
+fn main(rt: HostRuntime) -> io::Result<()> {
     let mut state = SEED;
     let mut numbers = [0u64; counts::ROOM];
     let tally: &mut [u64] = &mut numbers;
     plain_shapes(&mut state, tally);
     list_shapes(&mut state, tally);
-    counts::report(tally);
+    counts::report(&rt, tally)
 }

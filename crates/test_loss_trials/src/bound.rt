@@ -1,5 +1,6 @@
 // What a factor promises: so many times the total of the page that is played is at least the total of every page.
 use crate::counts;
+use std::io;
 use test_both_engines::counts::hold;
 use test_both_engines::pages;
 use test_chance::parts;
@@ -54,15 +55,28 @@ fn note_sharp(tally: &mut [u64], factor: u32, played: u64, total: u64, first: u3
 }
 
 // The promise against the total of a page, which is counted where there is one.
-fn hold_total(tally: &mut [u64], factor: u32, played: u64, total: u64, first: u32) {
-    hold(tally, reaches(factor, played, total), b"promise");
+fn hold_total(
+    rt: &impl Print,
+    tally: &mut [u64],
+    factor: u32,
+    played: u64,
+    total: u64,
+    first: u32,
+) -> io::Result<()> {
+    hold(rt, tally, reaches(factor, played, total), b"promise")?;
     test_tally::add_if(tally, 0 < total, first);
     note_sharp(tally, factor, played, total, first);
+    Ok(())
 }
 
 // The promise of a factor other than 0, against all pages and against the best page.
-pub fn hold_promise(tally: &mut [u64], sheet: &[u8], factor: u32) {
+pub fn hold_promise(
+    rt: &impl Print,
+    tally: &mut [u64],
+    sheet: &[u8],
+    factor: u32,
+) -> io::Result<()> {
     let greedy = played(sheet);
-    hold_total(tally, factor, greedy, largest(sheet), counts::ALL_PAGES);
-    hold_total(tally, factor, greedy, best(sheet), counts::BEST_PAGES);
+    hold_total(rt, tally, factor, greedy, largest(sheet), counts::ALL_PAGES)?;
+    hold_total(rt, tally, factor, greedy, best(sheet), counts::BEST_PAGES)
 }

@@ -1,5 +1,6 @@
 // One call by the library and by the second engine, on the same sheet.
 use crate::{bound, counts};
+use std::io;
 use test_both_engines::counts::hold;
 use test_rival_sheets::plain;
 
@@ -20,20 +21,28 @@ fn has_factor(lent: [u32; 3], factor: u32) -> bool {
 }
 
 // The number, the factor and the memory beside it.
-pub fn both(tally: &mut [u64], sheet: &[u8], kind: u32) {
+pub fn both(rt: &impl Print, tally: &mut [u64], sheet: &[u8], kind: u32) -> io::Result<()> {
     let mut lent = [MARK; 3];
     let number = pas::pas_loss_bound(sheet, &mut lent[1]);
     let due = test_plain::check(sheet);
     let same = has_factor(lent, factor_due(sheet, due));
-    hold(tally, number == due, b"number");
-    hold(tally, same, b"factor");
-    note(tally, sheet, kind, number, lent[1]);
+    hold(rt, tally, number == due, b"number")?;
+    hold(rt, tally, same, b"factor")?;
+    note(rt, tally, sheet, kind, number, lent[1])
 }
 
 // What the call is counted as; and where there is a factor, what it promises.
-fn note(tally: &mut [u64], sheet: &[u8], kind: u32, number: u32, factor: u32) {
+fn note(
+    rt: &impl Print,
+    tally: &mut [u64],
+    sheet: &[u8],
+    kind: u32,
+    number: u32,
+    factor: u32,
+) -> io::Result<()> {
     counts::note(tally, kind, number, factor);
     if (number == 0) & (factor != 0) {
-        bound::hold_promise(tally, sheet, factor);
+        bound::hold_promise(rt, tally, sheet, factor)?;
     }
+    Ok(())
 }

@@ -1,4 +1,5 @@
 // What is counted, and the lines that the program writes. Differences and rounds have the places that `test_both_engines` gives them, after these.
+use std::io;
 use test_both_engines::counts;
 
 // The calls by the number that they returned, 0 to 31, come first.
@@ -36,81 +37,116 @@ pub fn note(tally: &mut [u64], kind: u32, number: u32, factor: u32) {
 }
 
 // Words, a number and how many times it came, where it did.
-fn numbered_line(tally: &[u64], words: &[u8], first: u32, number: u32) {
+fn numbered_line(
+    rt: &impl Print,
+    tally: &[u64],
+    words: &[u8],
+    first: u32,
+    number: u32,
+) -> io::Result<()> {
     let count = test_tally::of(tally, after(first, number));
     if count == 0 {
-        return;
+        return Ok(());
     }
-    test_tally::text(words);
-    test_tally::number(number as u64);
-    test_tally::line(b"", count);
+    test_tally::text(rt, words)?;
+    test_tally::number(rt, number as u64)?;
+    test_tally::line(rt, b"", count)
 }
 
 // Such a line for each number up to the last.
-fn numbered_lines(tally: &[u64], words: &[u8], first: u32, last: u32) {
+fn numbered_lines(
+    rt: &impl Print,
+    tally: &[u64],
+    words: &[u8],
+    first: u32,
+    last: u32,
+) -> io::Result<()> {
     let mut number: u32 = 0;
     while number < last {
         number += 1;
-        numbered_line(tally, words, first, number);
+        numbered_line(rt, tally, words, first, number)?;
     }
+    Ok(())
 }
 
-fn kind_lines(tally: &[u64], words: &[u8], kind: u32) {
-    test_tally::count_line(tally, words, after(SHEETS, kind));
-    test_tally::count_line(tally, b"of these, with a factor", after(WITH_FACTOR, kind));
+fn kind_lines(rt: &impl Print, tally: &[u64], words: &[u8], kind: u32) -> io::Result<()> {
+    test_tally::count_line(rt, tally, words, after(SHEETS, kind))?;
+    test_tally::count_line(
+        rt,
+        tally,
+        b"of these, with a factor",
+        after(WITH_FACTOR, kind),
+    )
 }
 
-fn sheet_lines(tally: &[u64]) {
-    kind_lines(tally, b"lists of the profile", test_rival_sheets::PROFILE);
+fn sheet_lines(rt: &impl Print, tally: &[u64]) -> io::Result<()> {
     kind_lines(
+        rt,
+        tally,
+        b"lists of the profile",
+        test_rival_sheets::PROFILE,
+    )?;
+    kind_lines(
+        rt,
         tally,
         b"the same in any order, with repeats",
         test_rival_sheets::REPEATED,
-    );
-    kind_lines(tally, b"one condition missing", test_rival_sheets::MISSING);
+    )?;
     kind_lines(
+        rt,
+        tally,
+        b"one condition missing",
+        test_rival_sheets::MISSING,
+    )?;
+    kind_lines(
+        rt,
         tally,
         b"one condition missing, another in its place",
         test_rival_sheets::EXCHANGED,
-    );
+    )?;
     kind_lines(
+        rt,
         tally,
         b"one condition foreign to the profile",
         test_rival_sheets::FOREIGN,
-    );
-    kind_lines(tally, b"any lists", test_rival_sheets::ANY);
-    kind_lines(tally, b"with a fault", test_rival_sheets::DAMAGED);
+    )?;
+    kind_lines(rt, tally, b"any lists", test_rival_sheets::ANY)?;
+    kind_lines(rt, tally, b"with a fault", test_rival_sheets::DAMAGED)
 }
 
-fn promise_lines(tally: &[u64], words: &[u8], first: u32) {
-    test_tally::count_line(tally, words, first);
+fn promise_lines(rt: &impl Print, tally: &[u64], words: &[u8], first: u32) -> io::Result<()> {
+    test_tally::count_line(rt, tally, words, first)?;
     test_tally::count_line(
+        rt,
         tally,
         b"of these, met exactly by a factor above 1",
         after(first, 1),
-    );
+    )?;
     test_tally::count_line(
+        rt,
         tally,
         b"of these, where one less would not do",
         after(first, 2),
-    );
+    )
 }
 
-pub fn report(tally: &[u64]) {
-    test_tally::count_line(tally, b"calls", counts::ROUNDS);
-    numbered_lines(tally, b"refused ", 0, LAST_NUMBER);
-    sheet_lines(tally);
-    test_tally::count_line(tally, b"factor 0", FACTORS);
-    numbered_lines(tally, b"factor ", FACTORS, LAST_FACTOR);
+pub fn report(rt: &impl Print, tally: &[u64]) -> io::Result<()> {
+    test_tally::count_line(rt, tally, b"calls", counts::ROUNDS)?;
+    numbered_lines(rt, tally, b"refused ", 0, LAST_NUMBER)?;
+    sheet_lines(rt, tally)?;
+    test_tally::count_line(rt, tally, b"factor 0", FACTORS)?;
+    numbered_lines(rt, tally, b"factor ", FACTORS, LAST_FACTOR)?;
     promise_lines(
+        rt,
         tally,
         b"promises held against all pages, total above 0",
         ALL_PAGES,
-    );
+    )?;
     promise_lines(
+        rt,
         tally,
         b"promises held against the best page, total above 0",
         BEST_PAGES,
-    );
-    test_tally::count_line(tally, b"differences", counts::DIFFERENCES);
+    )?;
+    test_tally::count_line(rt, tally, b"differences", counts::DIFFERENCES)
 }

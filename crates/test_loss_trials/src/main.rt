@@ -8,39 +8,53 @@ mod bound;
 mod compare;
 mod counts;
 
+use std::io;
 use test_both_engines::counts::ROUNDS;
 use test_chance::{parts, rounds};
 
 const SEED: u64 = 2685821657736338717;
 
 // A sheet of the kind.
-fn round(state: &mut u64, tally: &mut [u64], shape: u32, kind: u32) {
+fn round(
+    rt: &impl Print,
+    state: &mut u64,
+    tally: &mut [u64],
+    shape: u32,
+    kind: u32,
+) -> io::Result<()> {
     let mut space = [0u8; parts::ROOM];
     let buffer: &mut [u8] = &mut space;
     let bytes = parts::size(test_rival_sheets::make(state, shape, kind, buffer));
     test_tally::add(tally, ROUNDS);
-    compare::both(tally, parts::part(buffer, 0, bytes), kind);
+    compare::both(rt, tally, parts::part(buffer, 0, bytes), kind)
 }
 
 // Sheets of a shape, the kinds in turn.
-fn play_rounds(state: &mut u64, tally: &mut [u64], shape: u32, times: u32) {
+fn play_rounds(
+    rt: &impl Print,
+    state: &mut u64,
+    tally: &mut [u64],
+    shape: u32,
+    times: u32,
+) -> io::Result<()> {
     let mut left = times;
     while 0 < left {
         left -= 1;
-        round(state, tally, shape, left % test_rival_sheets::KINDS);
+        round(rt, state, tally, shape, left % test_rival_sheets::KINDS)?;
     }
+    Ok(())
 }
 
-fn main() {
+fn main(rt: HostRuntime) -> io::Result<()> {
     let mut state = SEED;
     let mut numbers = [0u64; counts::ROOM];
     let tally: &mut [u64] = &mut numbers;
-    play_rounds(&mut state, tally, rounds::SMALL, 14000);
-    play_rounds(&mut state, tally, rounds::TIES, 14000);
-    play_rounds(&mut state, tally, rounds::MORE_SLOTS, 7000);
-    play_rounds(&mut state, tally, rounds::EIGHT, 2800);
-    play_rounds(&mut state, tally, rounds::MIDDLE, 700);
-    play_rounds(&mut state, tally, rounds::LARGE, 700);
-    play_rounds(&mut state, tally, rounds::LARGEST, 70);
-    counts::report(tally);
+    play_rounds(&rt, &mut state, tally, rounds::SMALL, 14000)?;
+    play_rounds(&rt, &mut state, tally, rounds::TIES, 14000)?;
+    play_rounds(&rt, &mut state, tally, rounds::MORE_SLOTS, 7000)?;
+    play_rounds(&rt, &mut state, tally, rounds::EIGHT, 2800)?;
+    play_rounds(&rt, &mut state, tally, rounds::MIDDLE, 700)?;
+    play_rounds(&rt, &mut state, tally, rounds::LARGE, 700)?;
+    play_rounds(&rt, &mut state, tally, rounds::LARGEST, 70)?;
+    counts::report(&rt, tally)
 }

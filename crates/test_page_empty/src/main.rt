@@ -1,6 +1,8 @@
 // The page program on round G of document 01, where slot 1 stays empty and slot 2 is still tried.
 #![tactic(auto)]
 
-fn main() {
-    page_job::run();
+use std::io;
+
+fn main(rt: HostRuntime) -> io::Result<()> {
+    page_job::run(&rt)
 }

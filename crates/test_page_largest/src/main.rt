@@ -2,6 +2,8 @@
 // left may stand at slot 3, and nobody at slot 9 while bidder 44 has slot 1, which it has by the last constraint of the sheet.
 #![tactic(auto)]
 
-fn main() {
-    page_job::run();
+use std::io;
+
+fn main(rt: HostRuntime) -> io::Result<()> {
+    page_job::run(&rt)
 }

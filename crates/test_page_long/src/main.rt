@@ -1,6 +1,8 @@
 // The page program on an input longer than any sheet: the largest right sheet, and then the same bytes again.
 #![tactic(auto)]
 
-fn main() {
-    page_job::run();
+use std::io;
+
+fn main(rt: HostRuntime) -> io::Result<()> {
+    page_job::run(&rt)
 }

@@ -1,6 +1,8 @@
 // The page program on the largest sheet (`test_page_largest`) with one byte more, a newline: no page, but refusal 7.
 #![tactic(auto)]
 
-fn main() {
-    page_job::run();
+use std::io;
+
+fn main(rt: HostRuntime) -> io::Result<()> {
+    page_job::run(&rt)
 }

@@ -1,6 +1,8 @@
 // The page program on a refused sheet: one line, and not a page.
 #![tactic(auto)]
 
-fn main() {
-    page_job::run();
+use std::io;
+
+fn main(rt: HostRuntime) -> io::Result<()> {
+    page_job::run(&rt)
 }

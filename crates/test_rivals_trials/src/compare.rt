@@ -1,6 +1,7 @@
 // One call by the library and by the second engine, on the same bytes.
 use crate::call::Call;
 use crate::{call, counts, plain};
+use std::io;
 use test_both_engines::bytes;
 use test_chance::{calls, lists, number, parts};
 
@@ -158,6 +159,7 @@ fn note(tally: &mut [u64], call: Call, number: u32, due: Due, lent: Lent) {
 // The call with so much lent, held to what is due: the number, the count or the answer, and every byte of the buffer and beside it. What the library wrote
 // takes the place of what was due.
 fn hold(
+    rt: &impl Print,
     state: &mut u64,
     tally: &mut [u64],
     call: Call,
@@ -166,7 +168,7 @@ fn hold(
     due: Due,
     lent: Lent,
     written: &mut [u8],
-) {
+) -> io::Result<()> {
     let mut first = [0u8; ROOM];
     let mut second = [0u8; ROOM];
     let one: &mut [u8] = &mut first;
@@ -181,18 +183,20 @@ fn hold(
     let number = by_library(call, list, sets, one, lent, &mut value);
     let value_due = if number_due == 0 { due.value } else { PRESET };
     note(tally, call, number, due, lent);
-    counts::hold(tally, number == number_due, b"number");
-    counts::hold(tally, value == value_due, b"count or answer");
-    counts::hold(tally, bytes::same(one, two, ROOM), b"bytes");
+    counts::hold(rt, tally, number == number_due, b"number")?;
+    counts::hold(rt, tally, value == value_due, b"count or answer")?;
+    counts::hold(rt, tally, bytes::same(one, two, ROOM), b"bytes")?;
     parts::copy(
         parts::part(one, lent.start, lent.size),
         written,
         due.bytes as usize,
     );
+    Ok(())
 }
 
 // Both engines on a call: the number of conditions or the answer that is due, with the library's bytes in the list.
 pub fn both(
+    rt: &impl Print,
     state: &mut u64,
     tally: &mut [u64],
     call: Call,
@@ -200,14 +204,14 @@ pub fn both(
     sets: &[u8],
     enough: bool,
     written: &mut [u8],
-) -> u32 {
+) -> io::Result<u32> {
     let due = due_of(state, call, list, sets, written);
     let lent = Lent {
         start: number::up_to(state, 9),
         size: calls::size(state, due.bytes, enough),
     };
-    hold(state, tally, call, list, sets, due, lent, written);
-    due.value
+    hold(rt, state, tally, call, list, sets, due, lent, written)?;
+    Ok(due.value)
 }
 
 fn with_faults(
@@ -227,7 +231,14 @@ fn with_faults(
 }
 
 // A call with m of its own, n up to the most, and so many faults.
-pub fn alone(state: &mut u64, tally: &mut [u64], sharing: bool, most: u32, faults: u32) {
+pub fn alone(
+    rt: &impl Print,
+    state: &mut u64,
+    tally: &mut [u64],
+    sharing: bool,
+    most: u32,
+    faults: u32,
+) -> io::Result<()> {
     let mut list_space = [0u8; call::LIST_ROOM];
     let list: &mut [u8] = &mut list_space;
     let mut sets_space = [0u8; call::SETS_ROOM];
@@ -242,5 +253,6 @@ pub fn alone(state: &mut u64, tally: &mut [u64], sharing: bool, most: u32, fault
     let asked = with_faults(state, right, list, sets, faults);
     let listed = parts::part(list, 0, asked.listed);
     let lent = parts::part(sets, 0, asked.bytes);
-    both(state, tally, asked, listed, lent, false, written);
+    both(rt, state, tally, asked, listed, lent, false, written)?;
+    Ok(())
 }

@@ -1,5 +1,7 @@
 // What is counted, and the lines that the program writes.
 
+use std::io;
+
 // The calls of the profile by the number that they returned, 0 to 25, come first, and then those of sharing.
 const NUMBERS: u32 = 26;
 
@@ -56,68 +58,77 @@ pub fn add_call(tally: &mut [u64], sharing: bool, number: u32) {
 }
 
 // A difference is counted, and a line names it and the call, so that it can be found.
-pub fn hold(tally: &mut [u64], same: bool, name: &[u8]) {
+pub fn hold(rt: &impl Print, tally: &mut [u64], same: bool, name: &[u8]) -> io::Result<()> {
     if same {
-        return;
+        return Ok(());
     }
     test_tally::add(tally, DIFFERENCES);
-    test_tally::text(b"difference: ");
-    test_tally::text(name);
-    test_tally::count_line(tally, b", call", CALLS);
+    test_tally::text(rt, b"difference: ")?;
+    test_tally::text(rt, name)?;
+    test_tally::count_line(rt, tally, b", call", CALLS)
 }
 
-fn profile_lines(tally: &[u64]) {
-    test_tally::text(b"above named rivals\n");
-    test_tally::count_line(tally, b"refused 4", 4);
-    test_tally::count_line(tally, b"refused 5", 5);
-    test_tally::count_line(tally, b"refused 16", 16);
-    test_tally::count_line(tally, b"refused 23", 23);
-    test_tally::count_line(tally, b"refused 24", 24);
-    test_tally::count_line(tally, b"refused 25", 25);
-    test_tally::count_line(tally, b"refused 19", 19);
-    test_tally::count_line(tally, b"of these, for want of a byte", BYTE_SHORT);
-    test_tally::count_line(tally, b"lists written", LISTS);
-    test_tally::count_line(tally, b"of these, in just their room", JUST_ROOM);
+fn profile_lines(rt: &impl Print, tally: &[u64]) -> io::Result<()> {
+    test_tally::text(rt, b"above named rivals\n")?;
+    test_tally::count_line(rt, tally, b"refused 4", 4)?;
+    test_tally::count_line(rt, tally, b"refused 5", 5)?;
+    test_tally::count_line(rt, tally, b"refused 16", 16)?;
+    test_tally::count_line(rt, tally, b"refused 23", 23)?;
+    test_tally::count_line(rt, tally, b"refused 24", 24)?;
+    test_tally::count_line(rt, tally, b"refused 25", 25)?;
+    test_tally::count_line(rt, tally, b"refused 19", 19)?;
+    test_tally::count_line(rt, tally, b"of these, for want of a byte", BYTE_SHORT)?;
+    test_tally::count_line(rt, tally, b"lists written", LISTS)?;
+    test_tally::count_line(rt, tally, b"of these, in just their room", JUST_ROOM)
 }
 
-fn sharing_lines(tally: &[u64]) {
-    test_tally::text(b"sharing\n");
-    test_tally::count_line(tally, b"refused 4", 30);
-    test_tally::count_line(tally, b"refused 5", 31);
-    test_tally::count_line(tally, b"refused 23", 49);
-    test_tally::count_line(tally, b"refused 24", 50);
-    test_tally::count_line(tally, b"refused 19", 45);
+fn sharing_lines(rt: &impl Print, tally: &[u64]) -> io::Result<()> {
+    test_tally::text(rt, b"sharing\n")?;
+    test_tally::count_line(rt, tally, b"refused 4", 30)?;
+    test_tally::count_line(rt, tally, b"refused 5", 31)?;
+    test_tally::count_line(rt, tally, b"refused 23", 49)?;
+    test_tally::count_line(rt, tally, b"refused 24", 50)?;
+    test_tally::count_line(rt, tally, b"refused 19", 45)?;
     test_tally::count_line(
+        rt,
         tally,
         b"of these, for want of a byte",
         of_kind(true, BYTE_SHORT),
-    );
-    test_tally::count_line(tally, b"yes", YES);
-    test_tally::count_line(tally, b"no, by rivals", NO_ORDER);
-    test_tally::count_line(tally, b"no, more members than places", TOO_MANY);
+    )?;
+    test_tally::count_line(rt, tally, b"yes", YES)?;
+    test_tally::count_line(rt, tally, b"no, by rivals", NO_ORDER)?;
+    test_tally::count_line(rt, tally, b"no, more members than places", TOO_MANY)?;
     test_tally::count_line(
+        rt,
         tally,
         b"of all these, in just their room",
         of_kind(true, JUST_ROOM),
-    );
+    )
 }
 
-pub fn report(tally: &[u64]) {
-    test_tally::count_line(tally, b"calls", CALLS);
-    profile_lines(tally);
-    sharing_lines(tally);
-    test_tally::count_line(tally, b"sheets of such lists", SHEETS);
-    test_tally::count_line(tally, b"lists on them, downward monotonic", DOWNWARD);
+pub fn report(rt: &impl Print, tally: &[u64]) -> io::Result<()> {
+    test_tally::count_line(rt, tally, b"calls", CALLS)?;
+    profile_lines(rt, tally)?;
+    sharing_lines(rt, tally)?;
+    test_tally::count_line(rt, tally, b"sheets of such lists", SHEETS)?;
+    test_tally::count_line(rt, tally, b"lists on them, downward monotonic", DOWNWARD)?;
     test_tally::count_line(
+        rt,
         tally,
         b"orders that break nothing on the first places",
         ORDERS,
-    );
+    )?;
     test_tally::count_line(
+        rt,
         tally,
         b"all pages tried: yes, and one has the members",
         PAGE_FOUND,
-    );
-    test_tally::count_line(tally, b"all pages tried: no, and none has them", NO_PAGE);
-    test_tally::count_line(tally, b"differences", DIFFERENCES);
+    )?;
+    test_tally::count_line(
+        rt,
+        tally,
+        b"all pages tried: no, and none has them",
+        NO_PAGE,
+    )?;
+    test_tally::count_line(rt, tally, b"differences", DIFFERENCES)
 }

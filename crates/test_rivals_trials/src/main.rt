@@ -10,45 +10,68 @@ mod counts;
 mod page;
 mod plain;
 
+use std::io;
 use test_chance::rounds;
 
 const SEED: u64 = 4101842887655102017;
 
 // Calls with up to so many bidders and with some faults or none.
-fn calls(state: &mut u64, tally: &mut [u64], sharing: bool, most: u32, faults: u32, times: u32) {
+fn calls(
+    rt: &impl Print,
+    state: &mut u64,
+    tally: &mut [u64],
+    sharing: bool,
+    most: u32,
+    faults: u32,
+    times: u32,
+) -> io::Result<()> {
     let mut left = times;
     while 0 < left {
-        compare::alone(state, tally, sharing, most, faults);
+        compare::alone(rt, state, tally, sharing, most, faults)?;
         left -= 1;
     }
+    Ok(())
 }
 
 // Sheets of a shape with lists from the profile.
-fn sheets(state: &mut u64, tally: &mut [u64], shape: u32, times: u32) {
+fn sheets(
+    rt: &impl Print,
+    state: &mut u64,
+    tally: &mut [u64],
+    shape: u32,
+    times: u32,
+) -> io::Result<()> {
     let mut left = times;
     while 0 < left {
-        page::on_sheet(state, tally, shape);
+        page::on_sheet(rt, state, tally, shape)?;
         left -= 1;
     }
+    Ok(())
 }
 
 // Calls of one kind, without faults and with them.
-fn all_calls(state: &mut u64, tally: &mut [u64], sharing: bool, most: u32) {
-    calls(state, tally, sharing, most, 0, 4000);
-    calls(state, tally, sharing, most, 1, 6000);
-    calls(state, tally, sharing, most, 2, 5000);
-    calls(state, tally, sharing, most, 4, 3000);
+fn all_calls(
+    rt: &impl Print,
+    state: &mut u64,
+    tally: &mut [u64],
+    sharing: bool,
+    most: u32,
+) -> io::Result<()> {
+    calls(rt, state, tally, sharing, most, 0, 4000)?;
+    calls(rt, state, tally, sharing, most, 1, 6000)?;
+    calls(rt, state, tally, sharing, most, 2, 5000)?;
+    calls(rt, state, tally, sharing, most, 4, 3000)
 }
 
-fn main() {
+fn main(rt: HostRuntime) -> io::Result<()> {
     let mut state = SEED;
     let mut numbers = [0u64; counts::ROOM];
     let tally: &mut [u64] = &mut numbers;
-    all_calls(&mut state, tally, false, 64);
-    all_calls(&mut state, tally, true, 6);
-    calls(&mut state, tally, true, 8, 0, 6000);
-    calls(&mut state, tally, true, 64, 1, 6000);
-    sheets(&mut state, tally, rounds::SMALL, 4000);
-    sheets(&mut state, tally, rounds::MIDDLE, 500);
-    counts::report(tally);
+    all_calls(&rt, &mut state, tally, false, 64)?;
+    all_calls(&rt, &mut state, tally, true, 6)?;
+    calls(&rt, &mut state, tally, true, 8, 0, 6000)?;
+    calls(&rt, &mut state, tally, true, 64, 1, 6000)?;
+    sheets(&rt, &mut state, tally, rounds::SMALL, 4000)?;
+    sheets(&rt, &mut state, tally, rounds::MIDDLE, 500)?;
+    counts::report(&rt, tally)
 }

@@ -1,6 +1,7 @@
 // Sheets whose lists all come from the profile "above named rivals", and whether members can share a page of them.
 use crate::call::Call;
 use crate::{call, compare, counts, plain};
+use std::io;
 use test_chance::{lists, parts, rounds};
 use test_plain::page;
 
@@ -12,7 +13,14 @@ const FEW_SLOTS: u32 = 4;
 const PAGES: u32 = 1296;
 
 // The list of one bidder, by the library.
-fn add_list(state: &mut u64, tally: &mut [u64], sheet: &mut [u8], rivals: &[u8], owner: u32) {
+fn add_list(
+    rt: &impl Print,
+    state: &mut u64,
+    tally: &mut [u64],
+    sheet: &mut [u8],
+    rivals: &[u8],
+    owner: u32,
+) -> io::Result<()> {
     let mut space = [0u8; compare::ROOM];
     let list: &mut [u8] = &mut space;
     let call = Call {
@@ -23,28 +31,37 @@ fn add_list(state: &mut u64, tally: &mut [u64], sheet: &mut [u8], rivals: &[u8],
         listed: 0,
         bytes: 0,
     };
-    let count = compare::both(state, tally, call, rivals, &[], true, list);
+    let count = compare::both(rt, state, tally, call, rivals, &[], true, list)?;
     lists::add_listed(sheet, list, count);
+    Ok(())
 }
 
-fn add_lists(state: &mut u64, tally: &mut [u64], sheet: &mut [u8], sets: &[u8]) {
+fn add_lists(
+    rt: &impl Print,
+    state: &mut u64,
+    tally: &mut [u64],
+    sheet: &mut [u8],
+    sets: &[u8],
+) -> io::Result<()> {
     let mut left = parts::bidders(sheet);
     while 0 < left {
-        add_list(state, tally, sheet, plain::set_of(sets, left), left);
+        add_list(rt, state, tally, sheet, plain::set_of(sets, left), left)?;
         left -= 1;
     }
+    Ok(())
 }
 
 // "The lists written are downward monotonic".
-fn hold_downward(tally: &mut [u64], sheet: &[u8]) {
+fn hold_downward(rt: &impl Print, tally: &mut [u64], sheet: &[u8]) -> io::Result<()> {
     let mut left = parts::bidders(sheet);
     while 0 < left {
         let mut answer: u8 = 2;
         let number = pas::pas_downward(sheet, left, &mut answer);
-        counts::hold(tally, number == 0 && answer == 1, b"downward monotonic");
+        counts::hold(rt, tally, number == 0 && answer == 1, b"downward monotonic")?;
         test_tally::add_if(tally, answer == 1, counts::DOWNWARD);
         left -= 1;
     }
+    Ok(())
 }
 
 // A page with one bidder more, where there is that bidder and that slot.
@@ -114,10 +131,17 @@ fn first_slots(order: &[u8]) -> [u8; 16] {
 }
 
 // "members placed in the order of a yes on the first places break no condition"
-fn hold_order(tally: &mut [u64], sheet: &[u8], yes: bool, order: &[u8]) {
+fn hold_order(
+    rt: &impl Print,
+    tally: &mut [u64],
+    sheet: &[u8],
+    yes: bool,
+    order: &[u8],
+) -> io::Result<()> {
     let broken = page::breaks_any(first_slots(order), sheet);
-    counts::hold(tally, !(yes & broken), b"order on the first places");
+    counts::hold(rt, tally, !(yes & broken), b"order on the first places")?;
     test_tally::add_if(tally, yes & !broken, counts::ORDERS);
+    Ok(())
 }
 
 fn is_small(sheet: &[u8]) -> bool {
@@ -125,39 +149,47 @@ fn is_small(sheet: &[u8]) -> bool {
 }
 
 // "and if the answer is no, no page of that round has just these members without breaking one"; others may stand beside them.
-fn hold_pages(tally: &mut [u64], sheet: &[u8], members: &[u8], yes: bool) {
+fn hold_pages(
+    rt: &impl Print,
+    tally: &mut [u64],
+    sheet: &[u8],
+    members: &[u8],
+    yes: bool,
+) -> io::Result<()> {
     let small = is_small(sheet);
     let found = if small {
         some_page(sheet, members)
     } else {
         yes
     };
-    counts::hold(tally, found == yes, b"some page");
+    counts::hold(rt, tally, found == yes, b"some page")?;
     test_tally::add_if(tally, small & found, counts::PAGE_FOUND);
     test_tally::add_if(tally, small & !found, counts::NO_PAGE);
+    Ok(())
 }
 
 // The sharing call with the sets that its lists come from, and the sheet.
 fn hold_sheet(
+    rt: &impl Print,
     state: &mut u64,
     tally: &mut [u64],
     sheet: &[u8],
     asked: Call,
     members: &[u8],
     sets: &[u8],
-) {
+) -> io::Result<()> {
     let mut space = [0u8; compare::ROOM];
     let order: &mut [u8] = &mut space;
-    let answer = compare::both(state, tally, asked, members, sets, true, order);
+    let answer = compare::both(rt, state, tally, asked, members, sets, true, order)?;
     test_tally::add(tally, counts::SHEETS);
-    counts::hold(tally, pas::pas_check(sheet) == 0, b"check");
-    hold_downward(tally, sheet);
-    hold_order(tally, sheet, answer == 1, order);
-    hold_pages(tally, sheet, members, answer == 1);
+    counts::hold(rt, tally, pas::pas_check(sheet) == 0, b"check")?;
+    hold_downward(rt, tally, sheet)?;
+    hold_order(rt, tally, sheet, answer == 1, order)?;
+    hold_pages(rt, tally, sheet, members, answer == 1)
 }
 
 // A sheet of the shape with these lists in place of its own. One that is then full may lack some conditions, and is left out.
-pub fn on_sheet(state: &mut u64, tally: &mut [u64], shape: u32) {
+pub fn on_sheet(rt: &impl Print, state: &mut u64, tally: &mut [u64], shape: u32) -> io::Result<()> {
     let mut sheet_space = [0u8; parts::ROOM];
     let buffer: &mut [u8] = &mut sheet_space;
     let mut list_space = [0u8; call::LIST_ROOM];
@@ -171,16 +203,18 @@ pub fn on_sheet(state: &mut u64, tally: &mut [u64], shape: u32) {
     let asked = call::sharing(state, n, m, list, sets);
     let members = parts::part(list, 0, asked.listed);
     let lent = parts::part(sets, 0, asked.bytes);
-    add_lists(state, tally, buffer, lent);
+    add_lists(rt, state, tally, buffer, lent)?;
     if parts::constraints(buffer) < compare::MAX_CONSTRAINTS {
         let bytes = parts::size(parts::length(buffer));
         hold_sheet(
+            rt,
             state,
             tally,
             parts::part(buffer, 0, bytes),
             asked,
             members,
             lent,
-        );
+        )?;
     }
+    Ok(())
 }

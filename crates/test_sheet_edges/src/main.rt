@@ -12,12 +12,14 @@ mod rising;
 mod show;
 mod ticks;
 
-fn main() {
-    header::report();
-    amounts::report();
-    constraints::report();
-    ticks::report();
-    order::report();
-    rising::report();
-    readings::report();
+use std::io;
+
+fn main(rt: HostRuntime) -> io::Result<()> {
+    header::report(&rt)?;
+    amounts::report(&rt)?;
+    constraints::report(&rt)?;
+    ticks::report(&rt)?;
+    order::report(&rt)?;
+    rising::report(&rt)?;
+    readings::report(&rt)
 }

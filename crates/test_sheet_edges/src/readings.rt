@@ -1,137 +1,143 @@
 // What is read of a small and a full sheet of each version, and that nothing is of a refused one. The bytes of each longer number differ, so
 // that their order shows.
 use sheet::{Kind, Round};
+use std::io;
 use test_edge_sheets::{build, line};
 
 // A tick, which each bid of version 2 here is a multiple of.
 const TICK: u32 = 0x01020304;
 
-pub fn report() {
-    refused();
-    small();
-    small_in_ticks();
-    full();
+pub fn report(rt: &impl Print) -> io::Result<()> {
+    refused(rt)?;
+    small(rt)?;
+    small_in_ticks(rt)?;
+    full(rt)
 }
 
 // A round's counts and its tick.
-fn counts(round: Round) {
-    line::number(b"  bidders ", round.bidders as u64);
-    line::number(b", places ", round.slots as u64);
-    line::number(b", conditions used ", round.used as u64);
-    line::number(b", tick ", round.tick as u64);
-    line::text(b"\n");
+fn counts(rt: &impl Print, round: Round) -> io::Result<()> {
+    line::number(rt, b"  bidders ", round.bidders as u64)?;
+    line::number(rt, b", places ", round.slots as u64)?;
+    line::number(rt, b", conditions used ", round.used as u64)?;
+    line::number(rt, b", tick ", round.tick as u64)?;
+    line::text(rt, b"\n")
 }
 
 // An element of an array: what it is, its index and its value.
-fn amount(name: &[u8], index: usize, value: u32) {
-    line::number(name, index as u64);
-    line::end(value as u64);
+fn amount(rt: &impl Print, name: &[u8], index: usize, value: u32) -> io::Result<()> {
+    line::number(rt, name, index as u64)?;
+    line::end(rt, value as u64)
 }
 
 // The effect at an index.
-fn effect(round: Round, index: usize) {
+fn effect(rt: &impl Print, round: Round, index: usize) -> io::Result<()> {
     let effects = round.effects;
     if index < 16 {
-        amount(b"  effect at ", index, effects[index]);
+        amount(rt, b"  effect at ", index, effects[index])?;
     }
+    Ok(())
 }
 
 // The bid at an index.
-fn bid(round: Round, index: usize) {
+fn bid(rt: &impl Print, round: Round, index: usize) -> io::Result<()> {
     let bids = round.bids;
     if index < 64 {
-        amount(b"  bid at ", index, bids[index]);
+        amount(rt, b"  bid at ", index, bids[index])?;
     }
+    Ok(())
 }
 
 // What a constraint forbids its owner.
-fn kind_parts(kind: Kind) {
+fn kind_parts(rt: &impl Print, kind: Kind) -> io::Result<()> {
     match kind {
         Kind::OwnSlot(own) => {
-            line::byte(b", own place ", own.0);
+            line::byte(rt, b", own place ", own.0)?;
         }
         Kind::OtherSlot(other, others) => {
-            line::number(b", other ", other.0 as u64);
-            line::byte(b" at place ", others.0);
+            line::number(rt, b", other ", other.0 as u64)?;
+            line::byte(rt, b" at place ", others.0)?;
         }
         Kind::Pair(own, other, others) => {
-            line::byte(b", own place ", own.0);
-            line::number(b", other ", other.0 as u64);
-            line::byte(b" at place ", others.0);
+            line::byte(rt, b", own place ", own.0)?;
+            line::number(rt, b", other ", other.0 as u64)?;
+            line::byte(rt, b" at place ", others.0)?;
         }
     }
+    Ok(())
 }
 
 // The constraint at an index.
-fn constraint(round: Round, index: usize) {
+fn constraint(rt: &impl Print, round: Round, index: usize) -> io::Result<()> {
     let constraints = round.constraints;
     if index < 1024 {
         let found = constraints[index];
         let owner = found.owner;
         let kind = found.kind;
-        line::number(b"  condition at ", index as u64);
-        line::number(b": owner ", owner.0 as u64);
-        kind_parts(kind);
-        line::text(b"\n");
+        line::number(rt, b"  condition at ", index as u64)?;
+        line::number(rt, b": owner ", owner.0 as u64)?;
+        kind_parts(rt, kind)?;
+        line::text(rt, b"\n")?;
     }
+    Ok(())
 }
 
 // The effects: the last one, and where the sheet leaves some blank, before it those up to the first blank one.
-fn effects(round: Round) {
+fn effects(rt: &impl Print, round: Round) -> io::Result<()> {
     if round.slots < 16 {
-        effect(round, 0);
-        effect(round, 1);
-        effect(round, 2);
-        effect(round, 3);
+        effect(rt, round, 0)?;
+        effect(rt, round, 1)?;
+        effect(rt, round, 2)?;
+        effect(rt, round, 3)?;
     }
-    effect(round, 15);
+    effect(rt, round, 15)
 }
 
 // The bids: the last one, and where the sheet leaves some blank, before it the first, the last that is set and the first blank one.
-fn bids(round: Round) {
+fn bids(rt: &impl Print, round: Round) -> io::Result<()> {
     if round.bidders < 64 {
-        bid(round, 0);
-        bid(round, 5);
-        bid(round, 6);
+        bid(rt, round, 0)?;
+        bid(rt, round, 5)?;
+        bid(rt, round, 6)?;
     }
-    bid(round, 63);
+    bid(rt, round, 63)
 }
 
 // The constraints: the last one, and where the sheet leaves some blank, before it one of each kind, the last that is set and the first
 // blank one.
-fn constraints(round: Round) {
+fn constraints(rt: &impl Print, round: Round) -> io::Result<()> {
     if round.used < 1024 {
-        constraint(round, 0);
-        constraint(round, 1);
-        constraint(round, 2);
-        constraint(round, 257);
-        constraint(round, 258);
+        constraint(rt, round, 0)?;
+        constraint(rt, round, 1)?;
+        constraint(rt, round, 2)?;
+        constraint(rt, round, 257)?;
+        constraint(rt, round, 258)?;
     }
-    constraint(round, 1023);
+    constraint(rt, round, 1023)
 }
 
 // A line with the number that the check gives the first `length` bytes, and where it accepts them, what is read of them.
-fn reading(name: &[u8], buf: &[u8], length: usize) {
+fn reading(rt: &impl Print, name: &[u8], buf: &[u8], length: usize) -> io::Result<()> {
     let sheet = line::front(buf, length);
     let refusal = sheet_check::check(sheet);
-    line::text(name);
-    line::end(refusal as u64);
+    line::text(rt, name)?;
+    line::end(rt, refusal as u64)?;
     if refusal == 0 {
         let round = sheet_read::accepted_round(sheet);
-        counts(round);
-        effects(round);
-        bids(round);
-        constraints(round);
+        counts(rt, round)?;
+        effects(rt, round)?;
+        bids(rt, round)?;
+        constraints(rt, round)?;
     }
+    Ok(())
 }
 
 // Six bidders, three slots and 0x0102 constraints, with a bid out of range.
-fn refused() {
+fn refused(rt: &impl Print) -> io::Result<()> {
     let mut space = [0u8; build::ROOM];
     let buf: &mut [u8] = &mut space;
     let length = build::base(buf, 6, 3, 0x0102);
     build::set_bid(buf, 6, 1000000001);
-    reading(b"reading a refused sheet", buf, length);
+    reading(rt, b"reading a refused sheet", buf, length)
 }
 
 // On a sheet of six bidders, three slots and 0x0102 constraints: the effects, the first and the last bid.
@@ -144,7 +150,7 @@ fn set_small(buf: &mut [u8], first_bid: u32, last_bid: u32) {
 }
 
 // A constraint of each kind and the last one, in any order.
-fn small() {
+fn small(rt: &impl Print) -> io::Result<()> {
     let mut space = [0u8; build::ROOM];
     let buf: &mut [u8] = &mut space;
     let length = build::base(buf, 6, 3, 0x0102);
@@ -153,11 +159,11 @@ fn small() {
     build::set_constraint(buf, 2, [3, 0, 1, 2]);
     build::set_constraint(buf, 3, [4, 2, 0, 0]);
     build::set_constraint(buf, 0x0102, [5, 1, 4, 3]);
-    reading(b"reading a small sheet", buf, length);
+    reading(rt, b"reading a small sheet", buf, length)
 }
 
 // The same in version 2, where they rise.
-fn small_in_ticks() {
+fn small_in_ticks(rt: &impl Print) -> io::Result<()> {
     let mut space = [0u8; build::ROOM];
     let buf: &mut [u8] = &mut space;
     let length = build::base_in_ticks(buf, TICK, 6, 3, 0x0102);
@@ -167,7 +173,7 @@ fn small_in_ticks() {
     build::set_constraint(buf, 3, [1, 3, 5, 2]);
     build::rise(buf, 4);
     build::set_constraint(buf, 0x0102, [6, 1, 4, 3]);
-    reading(b"reading a small sheet of version 2", buf, length);
+    reading(rt, b"reading a small sheet of version 2", buf, length)
 }
 
 // On a sheet of the largest counts: the last field of each kind.
@@ -177,13 +183,13 @@ fn set_full(buf: &mut [u8], last_bid: u32) {
     build::set_constraint(buf, 1024, [64, 16, 63, 15]);
 }
 
-fn full() {
+fn full(rt: &impl Print) -> io::Result<()> {
     let mut space = [0u8; build::ROOM];
     let buf: &mut [u8] = &mut space;
     let length = build::base(buf, 64, 16, 1024);
     set_full(buf, 0x01020304);
-    reading(b"reading a full sheet", buf, length);
+    reading(rt, b"reading a full sheet", buf, length)?;
     let longer = build::base_in_ticks(buf, TICK, 64, 16, 1024);
     set_full(buf, 57 * TICK);
-    reading(b"reading a full sheet of version 2", buf, longer);
+    reading(rt, b"reading a full sheet of version 2", buf, longer)
 }

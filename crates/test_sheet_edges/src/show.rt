@@ -1,14 +1,15 @@
 // The lines that the program writes.
+use std::io;
 use test_edge_sheets::line::{end, front, text};
 
 // The end of a line: the number that the check gives the first `length` bytes.
-pub fn verdict(buf: &[u8], length: usize) {
+pub fn verdict(rt: &impl Print, buf: &[u8], length: usize) -> io::Result<()> {
     let refusal = sheet_check::check(front(buf, length));
-    end(refusal as u64);
+    end(rt, refusal as u64)
 }
 
 // A line: a name, and the number that the check gives the first `length` bytes.
-pub fn case(name: &[u8], buf: &[u8], length: usize) {
-    text(name);
-    verdict(buf, length);
+pub fn case(rt: &impl Print, name: &[u8], buf: &[u8], length: usize) -> io::Result<()> {
+    text(rt, name)?;
+    verdict(rt, buf, length)
 }

@@ -4,7 +4,7 @@
 ghost use Rattle.std.specs.Prelude.{◌≡◌, if◌then◌else◌, slice_index};
 ghost use Rattle.test_tally.specs.Tally.{counted};
 
-use libc::STDOUT_FILENO;
+use std::io;
 
 // A count, 0 past the end.
 pub fn of(tally: &[u64], which: u32) -> u64
@@ -33,23 +33,23 @@ pub fn add_if(tally: &mut [u64], holds: bool, which: u32)
     }
 }
 
-pub fn text(words: &[u8]) {
-    io::write_all(STDOUT_FILENO, words);
+pub fn text(rt: &impl Print, words: &[u8]) -> io::Result<()> {
+    rt.write_all(words)
 }
 
-pub fn number(value: u64) {
-    io::print_decimal(STDOUT_FILENO, value);
+pub fn number(rt: &impl Print, value: u64) -> io::Result<()> {
+    rt.print(value)
 }
 
 // A line: words, a space and a number.
-pub fn line(words: &[u8], value: u64) {
-    text(words);
-    text(b" ");
-    number(value);
-    text(b"\n");
+pub fn line(rt: &impl Print, words: &[u8], value: u64) -> io::Result<()> {
+    text(rt, words)?;
+    text(rt, b" ")?;
+    number(rt, value)?;
+    text(rt, b"\n")
 }
 
 // A line: words and a count.
-pub fn count_line(tally: &[u64], words: &[u8], which: u32) {
-    line(words, of(tally, which));
+pub fn count_line(rt: &impl Print, tally: &[u64], words: &[u8], which: u32) -> io::Result<()> {
+    line(rt, words, of(tally, which))
 }

@@ -1,6 +1,7 @@
 // One call by the library and by the second engine, on the same bytes.
 use crate::call::Call;
 use crate::{call, counts, plain};
+use std::io;
 use test_both_engines::bytes;
 use test_chance::{calls, number, parts};
 
@@ -99,6 +100,7 @@ pub fn bytes_of(count: u32) -> u32 {
 // The call with so much lent, held to what is due. The list that the library wrote takes the place of the second engine's; its count, or what was
 // there before.
 fn hold(
+    rt: &impl Print,
     state: &mut u64,
     tally: &mut [u64],
     call: Call,
@@ -106,7 +108,7 @@ fn hold(
     rule: u32,
     lent: Lent,
     list: &mut [u8],
-) -> u32 {
+) -> io::Result<u32> {
     let mut first = [0u8; ROOM];
     let mut second = [0u8; ROOM];
     let one: &mut [u8] = &mut first;
@@ -116,19 +118,20 @@ fn hold(
     let mut count = PRESET;
     let number = by_library(call, bars, one, lent, &mut count);
     note(tally, call, number, lent);
-    counts::hold(tally, number == number_due, b"number");
+    counts::hold(rt, tally, number == number_due, b"number")?;
     counts::hold(
+        rt,
         tally,
         count == count_after(number_due, lent.count),
         b"count",
-    );
-    counts::hold(tally, bytes::same(one, two, ROOM), b"bytes");
+    )?;
+    counts::hold(rt, tally, bytes::same(one, two, ROOM), b"bytes")?;
     parts::copy(
         parts::part(one, lent.start, lent.size),
         list,
         bytes_of(count) as usize,
     );
-    count
+    Ok(count)
 }
 
 // The list that is due, and how many conditions it has; of a call that breaks a rule, any number, for a length.
@@ -141,13 +144,14 @@ fn due_list(state: &mut u64, call: Call, bars: &[u8], rule: u32, list: &mut [u8]
 
 // Both engines on a call: the library's list, and its count, 1,024 or more where it is refused.
 pub fn both(
+    rt: &impl Print,
     state: &mut u64,
     tally: &mut [u64],
     call: Call,
     bars: &[u8],
     enough: bool,
     list: &mut [u8],
-) -> u32 {
+) -> io::Result<u32> {
     let lent_bars = parts::part(bars, 0, call.bars);
     let rule = plain::rule(call, lent_bars);
     let due_count = due_list(state, call, lent_bars, rule, list);
@@ -156,7 +160,7 @@ pub fn both(
         size: calls::size(state, bytes_of(due_count), enough),
         count: due_count,
     };
-    hold(state, tally, call, lent_bars, rule, lent, list)
+    hold(rt, state, tally, call, lent_bars, rule, lent, list)
 }
 
 fn with_faults(state: &mut u64, right: Call, bars: &mut [u8], faults: u32) -> Call {
@@ -170,7 +174,7 @@ fn with_faults(state: &mut u64, right: Call, bars: &mut [u8], faults: u32) -> Ca
 }
 
 // A call with n and m of its own and so many faults.
-pub fn alone(state: &mut u64, tally: &mut [u64], faults: u32) {
+pub fn alone(rt: &impl Print, state: &mut u64, tally: &mut [u64], faults: u32) -> io::Result<()> {
     let mut bars_space = [0u8; call::BARS_ROOM];
     let bars: &mut [u8] = &mut bars_space;
     let mut list_space = [0u8; ROOM];
@@ -179,5 +183,6 @@ pub fn alone(state: &mut u64, tally: &mut [u64], faults: u32) {
     let m = calls::up_to_most(state, call::MAX_SLOTS);
     let right = call::right(state, n, m, bars);
     let asked = with_faults(state, right, bars, faults);
-    both(state, tally, asked, bars, false, list);
+    both(rt, state, tally, asked, bars, false, list)?;
+    Ok(())
 }

@@ -1,5 +1,7 @@
 // What is counted, and the lines that the program writes.
 
+use std::io;
+
 // The calls by the number that they returned, 0 to 22, come first.
 const NUMBERS: u32 = 23;
 
@@ -58,71 +60,90 @@ pub fn add_call(tally: &mut [u64], number: u32) {
 }
 
 // A difference is counted, and a line names it and the call, so that it can be found.
-pub fn hold(tally: &mut [u64], same: bool, name: &[u8]) {
+pub fn hold(rt: &impl Print, tally: &mut [u64], same: bool, name: &[u8]) -> io::Result<()> {
     if same {
-        return;
+        return Ok(());
     }
     test_tally::add(tally, DIFFERENCES);
-    test_tally::text(b"difference: ");
-    test_tally::text(name);
-    test_tally::count_line(tally, b", call", CALLS);
+    test_tally::text(rt, b"difference: ")?;
+    test_tally::text(rt, name)?;
+    test_tally::count_line(rt, tally, b", call", CALLS)
 }
 
-fn refused_lines(tally: &[u64]) {
-    test_tally::count_line(tally, b"refused 4", 4);
-    test_tally::count_line(tally, b"refused 5", 5);
-    test_tally::count_line(tally, b"refused 16", 16);
-    test_tally::count_line(tally, b"refused 20", 20);
-    test_tally::count_line(tally, b"refused 21", 21);
-    test_tally::count_line(tally, b"refused 22", 22);
-    test_tally::count_line(tally, b"refused 19", 19);
-    test_tally::count_line(tally, b"of these, for want of a byte", BYTE_SHORT);
+fn refused_lines(rt: &impl Print, tally: &[u64]) -> io::Result<()> {
+    test_tally::count_line(rt, tally, b"refused 4", 4)?;
+    test_tally::count_line(rt, tally, b"refused 5", 5)?;
+    test_tally::count_line(rt, tally, b"refused 16", 16)?;
+    test_tally::count_line(rt, tally, b"refused 20", 20)?;
+    test_tally::count_line(rt, tally, b"refused 21", 21)?;
+    test_tally::count_line(rt, tally, b"refused 22", 22)?;
+    test_tally::count_line(rt, tally, b"refused 19", 19)?;
+    test_tally::count_line(rt, tally, b"of these, for want of a byte", BYTE_SHORT)
 }
 
-fn list_lines(tally: &[u64]) {
-    test_tally::count_line(tally, b"lists written", 0);
-    test_tally::count_line(tally, b"of these, with no condition", EMPTY);
-    test_tally::count_line(tally, b"of these, by bars alone", BARS_ALONE);
-    test_tally::count_line(tally, b"of these, by the limit alone", LIMIT_ALONE);
-    test_tally::count_line(tally, b"of these, by both", BOTH);
-    test_tally::count_line(tally, b"of these, with 1023 conditions", LONGEST);
-    test_tally::count_line(tally, b"of these, in just their room", JUST_ROOM);
+fn list_lines(rt: &impl Print, tally: &[u64]) -> io::Result<()> {
+    test_tally::count_line(rt, tally, b"lists written", 0)?;
+    test_tally::count_line(rt, tally, b"of these, with no condition", EMPTY)?;
+    test_tally::count_line(rt, tally, b"of these, by bars alone", BARS_ALONE)?;
+    test_tally::count_line(rt, tally, b"of these, by the limit alone", LIMIT_ALONE)?;
+    test_tally::count_line(rt, tally, b"of these, by both", BOTH)?;
+    test_tally::count_line(rt, tally, b"of these, with 1023 conditions", LONGEST)?;
+    test_tally::count_line(rt, tally, b"of these, in just their room", JUST_ROOM)
 }
 
-fn gain_lines(tally: &[u64], words: &[u8], first: u32) {
-    test_tally::text(words);
-    test_tally::text(b"\n");
+fn gain_lines(rt: &impl Print, tally: &[u64], words: &[u8], first: u32) -> io::Result<()> {
+    test_tally::text(rt, words)?;
+    test_tally::text(rt, b"\n")?;
     test_tally::count_line(
+        rt,
         tally,
         b"the honest list pays more",
         std::num::wrapping_add_u32(first, MORE),
-    );
+    )?;
     test_tally::count_line(
+        rt,
         tally,
         b"both pay the same",
         std::num::wrapping_add_u32(first, SAME),
-    );
+    )?;
     test_tally::count_line(
+        rt,
         tally,
         b"the honest list pays less",
         std::num::wrapping_add_u32(first, LESS),
-    );
+    )?;
     test_tally::count_line(
+        rt,
         tally,
         b"one of the two gains is not 0",
         std::num::wrapping_add_u32(first, GAINED),
-    );
+    )
 }
 
-pub fn report(tally: &[u64]) {
-    test_tally::count_line(tally, b"calls", CALLS);
-    refused_lines(tally);
-    list_lines(tally);
-    test_tally::count_line(tally, b"lists for a sheet", SHEETS);
-    test_tally::count_line(tally, b"of these, too long for what is left of it", FULL);
-    test_tally::count_line(tally, b"of these, downward monotonic", DOWNWARD);
-    test_tally::count_line(tally, b"of these, handed back as the owner's part", PARTS);
-    gain_lines(tally, b"as the list sent instead", WITHOUT_FLOORS);
-    gain_lines(tally, b"as the list sent instead, with floors", WITH_FLOORS);
-    test_tally::count_line(tally, b"differences", DIFFERENCES);
+pub fn report(rt: &impl Print, tally: &[u64]) -> io::Result<()> {
+    test_tally::count_line(rt, tally, b"calls", CALLS)?;
+    refused_lines(rt, tally)?;
+    list_lines(rt, tally)?;
+    test_tally::count_line(rt, tally, b"lists for a sheet", SHEETS)?;
+    test_tally::count_line(
+        rt,
+        tally,
+        b"of these, too long for what is left of it",
+        FULL,
+    )?;
+    test_tally::count_line(rt, tally, b"of these, downward monotonic", DOWNWARD)?;
+    test_tally::count_line(
+        rt,
+        tally,
+        b"of these, handed back as the owner's part",
+        PARTS,
+    )?;
+    gain_lines(rt, tally, b"as the list sent instead", WITHOUT_FLOORS)?;
+    gain_lines(
+        rt,
+        tally,
+        b"as the list sent instead, with floors",
+        WITH_FLOORS,
+    )?;
+    test_tally::count_line(rt, tally, b"differences", DIFFERENCES)
 }

@@ -11,52 +11,67 @@ mod counts;
 mod plain;
 mod sent;
 
+use std::io;
 use test_chance::rounds;
 
 const SEED: u64 = 7046029254386353131;
 
 // Calls with n and m of their own, with some faults or none.
-fn calls(state: &mut u64, tally: &mut [u64], faults: u32, times: u32) {
+fn calls(
+    rt: &impl Print,
+    state: &mut u64,
+    tally: &mut [u64],
+    faults: u32,
+    times: u32,
+) -> io::Result<()> {
     let mut left = times;
     while 0 < left {
-        compare::alone(state, tally, faults);
+        compare::alone(rt, state, tally, faults)?;
         left -= 1;
     }
+    Ok(())
 }
 
 // Calls with the n and m of a sheet of the shape.
-fn lists(state: &mut u64, tally: &mut [u64], shape: u32, times: u32) {
+fn lists(
+    rt: &impl Print,
+    state: &mut u64,
+    tally: &mut [u64],
+    shape: u32,
+    times: u32,
+) -> io::Result<()> {
     let mut left = times;
     while 0 < left {
-        sent::on_sheet(state, tally, shape);
+        sent::on_sheet(rt, state, tally, shape)?;
         left -= 1;
     }
+    Ok(())
 }
 
-fn small_lists(state: &mut u64, tally: &mut [u64]) {
-    lists(state, tally, rounds::SMALL, 4000);
-    lists(state, tally, rounds::TIES, 2000);
-    lists(state, tally, rounds::ZERO_BIDS, 1000);
-    lists(state, tally, rounds::MORE_SLOTS, 2000);
+fn small_lists(rt: &impl Print, state: &mut u64, tally: &mut [u64]) -> io::Result<()> {
+    lists(rt, state, tally, rounds::SMALL, 4000)?;
+    lists(rt, state, tally, rounds::TIES, 2000)?;
+    lists(rt, state, tally, rounds::ZERO_BIDS, 1000)?;
+    lists(rt, state, tally, rounds::MORE_SLOTS, 2000)
 }
 
-fn other_lists(state: &mut u64, tally: &mut [u64]) {
-    lists(state, tally, rounds::DOWNWARD, 1000);
-    lists(state, tally, rounds::EXCLUSIONS, 1000);
-    lists(state, tally, rounds::CHAINS, 1000);
-    lists(state, tally, rounds::MIDDLE, 2000);
-    lists(state, tally, rounds::LARGE, 500);
+fn other_lists(rt: &impl Print, state: &mut u64, tally: &mut [u64]) -> io::Result<()> {
+    lists(rt, state, tally, rounds::DOWNWARD, 1000)?;
+    lists(rt, state, tally, rounds::EXCLUSIONS, 1000)?;
+    lists(rt, state, tally, rounds::CHAINS, 1000)?;
+    lists(rt, state, tally, rounds::MIDDLE, 2000)?;
+    lists(rt, state, tally, rounds::LARGE, 500)
 }
 
-fn main() {
+fn main(rt: HostRuntime) -> io::Result<()> {
     let mut state = SEED;
     let mut numbers = [0u64; counts::ROOM];
     let tally: &mut [u64] = &mut numbers;
-    calls(&mut state, tally, 0, 6000);
-    calls(&mut state, tally, 1, 20000);
-    calls(&mut state, tally, 2, 20000);
-    calls(&mut state, tally, 4, 10000);
-    small_lists(&mut state, tally);
-    other_lists(&mut state, tally);
-    counts::report(tally);
+    calls(&rt, &mut state, tally, 0, 6000)?;
+    calls(&rt, &mut state, tally, 1, 20000)?;
+    calls(&rt, &mut state, tally, 2, 20000)?;
+    calls(&rt, &mut state, tally, 4, 10000)?;
+    small_lists(&rt, &mut state, tally)?;
+    other_lists(&rt, &mut state, tally)?;
+    counts::report(&rt, tally)
 }

@@ -8,6 +8,7 @@ mod lent_floors;
 mod report;
 mod round;
 
+use std::io;
 use test_both_engines::counts;
 use test_chance::rounds;
 use test_damage::faults;
@@ -15,63 +16,78 @@ use test_damage::faults;
 const SEED: u64 = 88172645463325252;
 
 // Right sheets of a shape.
-fn right_rounds(state: &mut u64, tally: &mut [u64], shape: u32, times: u32) {
+fn right_rounds(
+    rt: &impl Print,
+    state: &mut u64,
+    tally: &mut [u64],
+    shape: u32,
+    times: u32,
+) -> io::Result<()> {
     let mut left = times;
     while 0 < left {
-        round::play_round(state, tally, shape, 0);
+        round::play_round(rt, state, tally, shape, 0)?;
         left -= 1;
     }
+    Ok(())
 }
 
 // Sheets with a fault, most of them small.
-fn damaged_rounds(state: &mut u64, tally: &mut [u64], fault: u32, times: u32) {
+fn damaged_rounds(
+    rt: &impl Print,
+    state: &mut u64,
+    tally: &mut [u64],
+    fault: u32,
+    times: u32,
+) -> io::Result<()> {
     let mut left = times;
     while 0 < left {
         let drawn = test_chance::number::up_to(state, 19);
         let shape = drawn % rounds::SHAPES;
-        round::play_round(state, tally, shape, fault);
+        round::play_round(rt, state, tally, shape, fault)?;
         left -= 1;
     }
+    Ok(())
 }
 
-fn small_rounds(state: &mut u64, tally: &mut [u64]) {
-    right_rounds(state, tally, rounds::SMALL, 6000);
-    right_rounds(state, tally, rounds::TIES, 2500);
-    right_rounds(state, tally, rounds::ZERO_BIDS, 2500);
-    right_rounds(state, tally, rounds::MORE_SLOTS, 2500);
+fn small_rounds(rt: &impl Print, state: &mut u64, tally: &mut [u64]) -> io::Result<()> {
+    right_rounds(rt, state, tally, rounds::SMALL, 6000)?;
+    right_rounds(rt, state, tally, rounds::TIES, 2500)?;
+    right_rounds(rt, state, tally, rounds::ZERO_BIDS, 2500)?;
+    right_rounds(rt, state, tally, rounds::MORE_SLOTS, 2500)
 }
 
-fn small_rounds_of_lists(state: &mut u64, tally: &mut [u64]) {
-    right_rounds(state, tally, rounds::DOWNWARD, 2500);
-    right_rounds(state, tally, rounds::EXCLUSIONS, 2500);
-    right_rounds(state, tally, rounds::CHAINS, 2500);
-    right_rounds(state, tally, rounds::REPEATS, 2500);
+fn small_rounds_of_lists(rt: &impl Print, state: &mut u64, tally: &mut [u64]) -> io::Result<()> {
+    right_rounds(rt, state, tally, rounds::DOWNWARD, 2500)?;
+    right_rounds(rt, state, tally, rounds::EXCLUSIONS, 2500)?;
+    right_rounds(rt, state, tally, rounds::CHAINS, 2500)?;
+    right_rounds(rt, state, tally, rounds::REPEATS, 2500)
 }
 
-fn larger_rounds(state: &mut u64, tally: &mut [u64]) {
-    right_rounds(state, tally, rounds::SIX_OR_SEVEN, 40);
-    right_rounds(state, tally, rounds::EIGHT, 300);
-    right_rounds(state, tally, rounds::MIDDLE, 300);
-    right_rounds(state, tally, rounds::LARGE, 200);
-    right_rounds(state, tally, rounds::LARGEST, 250);
+fn larger_rounds(rt: &impl Print, state: &mut u64, tally: &mut [u64]) -> io::Result<()> {
+    right_rounds(rt, state, tally, rounds::SIX_OR_SEVEN, 40)?;
+    right_rounds(rt, state, tally, rounds::EIGHT, 300)?;
+    right_rounds(rt, state, tally, rounds::MIDDLE, 300)?;
+    right_rounds(rt, state, tally, rounds::LARGE, 200)?;
+    right_rounds(rt, state, tally, rounds::LARGEST, 250)
 }
 
 // As many for each fault.
-fn all_damaged_rounds(state: &mut u64, tally: &mut [u64]) {
+fn all_damaged_rounds(rt: &impl Print, state: &mut u64, tally: &mut [u64]) -> io::Result<()> {
     let mut left = faults::FAULTS;
     while 0 < left {
-        damaged_rounds(state, tally, left, 900);
+        damaged_rounds(rt, state, tally, left, 900)?;
         left -= 1;
     }
+    Ok(())
 }
 
-fn main() {
+fn main(rt: HostRuntime) -> io::Result<()> {
     let mut state = SEED;
     let mut numbers = [0u64; counts::ROOM];
     let tally: &mut [u64] = &mut numbers;
-    small_rounds(&mut state, tally);
-    small_rounds_of_lists(&mut state, tally);
-    larger_rounds(&mut state, tally);
-    all_damaged_rounds(&mut state, tally);
-    report::all(tally);
+    small_rounds(&rt, &mut state, tally)?;
+    small_rounds_of_lists(&rt, &mut state, tally)?;
+    larger_rounds(&rt, &mut state, tally)?;
+    all_damaged_rounds(&rt, &mut state, tally)?;
+    report::all(&rt, tally)
 }

@@ -1,5 +1,6 @@
 // One round: a sheet, a truth sheet and a list of floors, each lent as a part of a larger buffer, through every call of both engines.
 use crate::lent_floors;
+use std::io;
 use test_both_engines::answers::Form;
 use test_both_engines::{answers, bytes, counts, one_sheet, owners};
 use test_chance::{floor_lists, lists, number, parts, rounds};
@@ -86,9 +87,9 @@ fn note_order(tally: &mut [u64], kind: Kind, sheet: &[u8]) {
     test_tally::add_if(tally, !order & (0 < falls), counts::OTHER_AND_FALL);
 }
 
-fn check(tally: &mut [u64], kind: Kind, sheet: &[u8]) {
+fn check(rt: &impl Print, tally: &mut [u64], kind: Kind, sheet: &[u8]) -> io::Result<()> {
     note_order(tally, kind, sheet);
-    answers::check(tally, sheet, faults::number(kind.fault));
+    answers::check(rt, tally, sheet, faults::number(kind.fault))?;
     let right = kind.fault == 0;
     let two = right && parts::version(sheet) == parts::TICK_VERSION;
     test_tally::add_if(tally, two, counts::VERSION_TWO);
@@ -101,10 +102,19 @@ fn check(tally: &mut [u64], kind: Kind, sheet: &[u8]) {
         counts::EIGHT,
         counts::STEPPED,
     );
+    Ok(())
 }
 
-fn play(state: &mut u64, tally: &mut [u64], kind: Kind, sheet: &[u8], floors: &[u32], form: Form) {
-    let played = answers::play(state, tally, sheet, floors, form);
+fn play(
+    rt: &impl Print,
+    state: &mut u64,
+    tally: &mut [u64],
+    kind: Kind,
+    sheet: &[u8],
+    floors: &[u32],
+    form: Form,
+) -> io::Result<()> {
+    let played = answers::play(rt, state, tally, sheet, floors, form)?;
     let shapes = answers::by_form(form, counts::PLAYED, counts::FLOORED_PLAYED);
     test_tally::add_if(tally, played, counts::by_shape(shapes, kind.shape));
     note(
@@ -115,17 +125,19 @@ fn play(state: &mut u64, tally: &mut [u64], kind: Kind, sheet: &[u8], floors: &[
         answers::by_form(form, counts::EIGHT_PAGES, counts::EIGHT_FLOORED_PAGES),
         answers::by_form(form, counts::STEPPED_PAGES, counts::STEPPED_FLOORED_PAGES),
     );
+    Ok(())
 }
 
 fn gain(
+    rt: &impl Print,
     state: &mut u64,
     tally: &mut [u64],
     sheet: &[u8],
     floors: &[u32],
     form: Form,
     truth: &[u8],
-) {
-    let answered = answers::gain(state, tally, sheet, floors, form, truth);
+) -> io::Result<()> {
+    let answered = answers::gain(rt, state, tally, sheet, floors, form, truth)?;
     let another = parts::tick(sheet) != parts::tick(truth);
     let first = answered && !form.floored;
     test_tally::add_if(tally, first && another, counts::OTHER_TICK_GAINS);
@@ -137,20 +149,31 @@ fn gain(
         answers::by_form(form, counts::EIGHT_GAINS, counts::EIGHT_FLOORED_GAINS),
         answers::by_form(form, counts::STEPPED_GAINS, counts::STEPPED_FLOORED_GAINS),
     );
+    Ok(())
 }
 
-fn best(state: &mut u64, tally: &mut [u64], kind: Kind, sheet: &[u8], floors: &[u32], form: Form) {
-    let searched = answers::best(state, tally, sheet, floors, form);
+fn best(
+    rt: &impl Print,
+    state: &mut u64,
+    tally: &mut [u64],
+    kind: Kind,
+    sheet: &[u8],
+    floors: &[u32],
+    form: Form,
+) -> io::Result<()> {
+    let searched = answers::best(rt, state, tally, sheet, floors, form)?;
     let shapes = answers::by_form(form, counts::SEARCHED, counts::FLOORED_SEARCHED);
     test_tally::add_if(tally, searched, counts::by_shape(shapes, kind.shape));
     let eight = answers::by_form(form, counts::EIGHT_BEST, counts::EIGHT_FLOORED_BEST);
     let stepped = answers::by_form(form, counts::STEPPED_BEST, counts::STEPPED_FLOORED_BEST);
     test_tally::add_if(tally, searched && is_eight(sheet), eight);
     test_tally::add_if(tally, searched && 1 < parts::tick(sheet), stepped);
+    Ok(())
 }
 
 // The calls that have a form with floors.
 fn three_calls(
+    rt: &impl Print,
     state: &mut u64,
     tally: &mut [u64],
     kind: Kind,
@@ -158,10 +181,10 @@ fn three_calls(
     floors: &[u32],
     form: Form,
     truth: &[u8],
-) {
-    play(state, tally, kind, sheet, floors, form);
-    gain(state, tally, sheet, floors, form, truth);
-    best(state, tally, kind, sheet, floors, form);
+) -> io::Result<()> {
+    play(rt, state, tally, kind, sheet, floors, form)?;
+    gain(rt, state, tally, sheet, floors, form, truth)?;
+    best(rt, state, tally, kind, sheet, floors, form)
 }
 
 // The number that is due: the sheet's or, where it has none, the list's.
@@ -174,7 +197,14 @@ fn rule_with(kind: Kind, fault: u32) -> u32 {
 }
 
 // The calls with floors, which are lent as a part of a longer list.
-fn with_floors(state: &mut u64, tally: &mut [u64], kind: Kind, sheet: &[u8], truth: &[u8]) {
+fn with_floors(
+    rt: &impl Print,
+    state: &mut u64,
+    tally: &mut [u64],
+    kind: Kind,
+    sheet: &[u8],
+    truth: &[u8],
+) -> io::Result<()> {
     let mut first = [0u32; floor_lists::ROOM];
     let mut second = [0u32; floor_lists::ROOM];
     let space: &mut [u32] = &mut first;
@@ -189,21 +219,34 @@ fn with_floors(state: &mut u64, tally: &mut [u64], kind: Kind, sheet: &[u8], tru
         floored: true,
         rule: rule_with(kind, fault),
     };
-    three_calls(state, tally, kind, sheet, list, form, truth);
+    three_calls(rt, state, tally, kind, sheet, list, form, truth)?;
     let same = bytes::same_floors(space, kept, floor_lists::ROOM as u32);
-    counts::hold(tally, same, b"the floors");
+    counts::hold(rt, tally, same, b"the floors")
 }
 
-fn without_floors(state: &mut u64, tally: &mut [u64], kind: Kind, sheet: &[u8], truth: &[u8]) {
+fn without_floors(
+    rt: &impl Print,
+    state: &mut u64,
+    tally: &mut [u64],
+    kind: Kind,
+    sheet: &[u8],
+    truth: &[u8],
+) -> io::Result<()> {
     let form = Form {
         floored: false,
         rule: faults::number(kind.fault),
     };
-    three_calls(state, tally, kind, sheet, &[], form, truth);
+    three_calls(rt, state, tally, kind, sheet, &[], form, truth)
 }
 
 // "One sheet for one round". What is drawn for it is drawn apart, so that the other calls get what they get without it.
-fn one_sheet(drawn: u64, tally: &mut [u64], kind: Kind, sheet: &[u8]) {
+fn one_sheet(
+    rt: &impl Print,
+    drawn: u64,
+    tally: &mut [u64],
+    kind: Kind,
+    sheet: &[u8],
+) -> io::Result<()> {
     let mut first = [0u32; floor_lists::ROOM];
     let space: &mut [u32] = &mut first;
     let mut state = drawn ^ APART;
@@ -211,26 +254,34 @@ fn one_sheet(drawn: u64, tally: &mut [u64], kind: Kind, sheet: &[u8]) {
     let length = lent_floors::lay(&mut state, sheet, fault, 0, space);
     let list = floor_lists::part(space, 0, length);
     let rule = faults::number(kind.fault);
-    one_sheet::compare(&mut state, tally, sheet, rule, list);
+    one_sheet::compare(rt, &mut state, tally, sheet, rule, list)
 }
 
-fn all_calls(state: &mut u64, tally: &mut [u64], kind: Kind, sheet: &[u8], truth: &[u8]) {
-    check(tally, kind, sheet);
-    without_floors(state, tally, kind, sheet, truth);
-    with_floors(state, tally, kind, sheet, truth);
-    answers::downward(state, tally, sheet);
-    owners::parts_of(tally, sheet, faults::number(kind.fault));
-    one_sheet(*state, tally, kind, sheet);
+fn all_calls(
+    rt: &impl Print,
+    state: &mut u64,
+    tally: &mut [u64],
+    kind: Kind,
+    sheet: &[u8],
+    truth: &[u8],
+) -> io::Result<()> {
+    check(rt, tally, kind, sheet)?;
+    without_floors(rt, state, tally, kind, sheet, truth)?;
+    with_floors(rt, state, tally, kind, sheet, truth)?;
+    answers::downward(rt, state, tally, sheet)?;
+    owners::parts_of(rt, tally, sheet, faults::number(kind.fault))?;
+    one_sheet(rt, *state, tally, kind, sheet)
 }
 
 fn with_truth(
+    rt: &impl Print,
     state: &mut u64,
     tally: &mut [u64],
     kind: Kind,
     sheet: &[u8],
     made: &[u8],
     bytes: u32,
-) {
+) -> io::Result<()> {
     let mut first = [0u8; parts::ROOM];
     let mut second = [0u8; parts::ROOM];
     let space: &mut [u8] = &mut first;
@@ -238,12 +289,20 @@ fn with_truth(
     let start = number::up_to(state, 9);
     let total = lay(state, made, start, bytes, space);
     parts::copy(space, kept, total);
-    all_calls(state, tally, kind, sheet, parts::part(space, start, bytes));
+    all_calls(
+        rt,
+        state,
+        tally,
+        kind,
+        sheet,
+        parts::part(space, start, bytes),
+    )?;
     let same = bytes::same(space, kept, total);
-    counts::hold(tally, same, b"the truth sheet's bytes");
+    counts::hold(rt, tally, same, b"the truth sheet's bytes")
 }
 
 fn with_sheet(
+    rt: &impl Print,
     state: &mut u64,
     tally: &mut [u64],
     kind: Kind,
@@ -251,7 +310,7 @@ fn with_sheet(
     bytes: u32,
     truth: &[u8],
     truth_bytes: u32,
-) {
+) -> io::Result<()> {
     let mut first = [0u8; parts::ROOM];
     let mut second = [0u8; parts::ROOM];
     let space: &mut [u8] = &mut first;
@@ -260,15 +319,16 @@ fn with_sheet(
     let total = lay(state, made, start, bytes, space);
     parts::copy(space, kept, total);
     with_truth(
+        rt,
         state,
         tally,
         kind,
         parts::part(space, start, bytes),
         truth,
         truth_bytes,
-    );
+    )?;
     let same = bytes::same(space, kept, total);
-    counts::hold(tally, same, b"the sheet's bytes");
+    counts::hold(rt, tally, same, b"the sheet's bytes")
 }
 
 fn count_round(tally: &mut [u64], shape: u32, fault: u32) {
@@ -281,7 +341,13 @@ fn count_round(tally: &mut [u64], shape: u32, fault: u32) {
 }
 
 // A round on a sheet of the shape with the fault, or on a right one where the fault is 0.
-pub fn play_round(state: &mut u64, tally: &mut [u64], shape: u32, fault: u32) {
+pub fn play_round(
+    rt: &impl Print,
+    state: &mut u64,
+    tally: &mut [u64],
+    shape: u32,
+    fault: u32,
+) -> io::Result<()> {
     let mut first = [0u8; parts::ROOM];
     let mut second = [0u8; parts::ROOM];
     let sheet: &mut [u8] = &mut first;
@@ -295,6 +361,7 @@ pub fn play_round(state: &mut u64, tally: &mut [u64], shape: u32, fault: u32) {
         fault: fault,
     };
     with_sheet(
+        rt,
         state,
         tally,
         kind,
@@ -302,5 +369,5 @@ pub fn play_round(state: &mut u64, tally: &mut [u64], shape: u32, fault: u32) {
         parts::size(changed),
         truth,
         parts::size(truth_bytes),
-    );
+    )
 }
