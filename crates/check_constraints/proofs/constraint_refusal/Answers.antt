@@ -1,7 +1,7 @@
 -- `check_constraints::constraint_refusal` meets its contract: each way out rewrites the definition with the tests that led there.
 -- Assumes nothing.
 use mathlib.Core.Bool.{and-false}
-use borrow.Author.Tests.{eq-eqb, ne_eqb, not-true, not-false}
+use borrow.Author.Tests.{eq-eqb, ne_eqb}
 use Rattle.sheet.specs.Refusal.{fields_refusal}
 use Rattle.check_constraints.proofs.constraint_refusal.Goals as goal
 

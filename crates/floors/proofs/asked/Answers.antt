@@ -7,7 +7,6 @@ use native.Mathlib.Omega.{arith}
 use lib.ListN.{length, get_or}
 use Rattle.basis.specs.Rows.{padded}
 use Rattle.basis.proofs.RowLaws.{padded-none, padded-next, length-padded, get_d_padded}
-use Rattle.choice.specs.Critical.{floor_asks}
 use Rattle.floors.proofs.asked.Invariants.{asks_at}
 use Rattle.floors.proofs.asked.Goals as goal
 

@@ -9,7 +9,7 @@ use Rattle.basis.specs.Bytes.{byte_at}
 use Rattle.basis.specs.Rows.{padded}
 use Rattle.basis.proofs.RowLaws.{padded-none, padded-next}
 use Rattle.sheet.specs.declared.Constraint.{Constraint}
-use Rattle.sheet.specs.Sheet.{version, bidder_count, slot_count}
+use Rattle.sheet.specs.Sheet.{bidder_count, slot_count}
 use Rattle.sheet.specs.Round.{blank, constraint_field, round_of}
 use Rattle.sheet_read.proofs.RoomLaws.{room}
 use Rattle.sheet_read.proofs.WordLaws.{word_constraint}

@@ -11,6 +11,6 @@ returns-then-other-eq0 c = sym (kind_own _ _ _ c.if-other-eq0.true)
 pub returns-else-other-eq0 : goal.returns-else-other-eq0
 returns-else-other-eq0 c =
     elim c.if-own-eq0.branch [
-      then-own-eq0 w ↦ w.kind-is ∙ sym (kind_other _ _ _ c.if-other-eq0.false w.if-own-eq0.true)
+      | then-own-eq0 w ↦ w.kind-is ∙ sym (kind_other _ _ _ c.if-other-eq0.false w.if-own-eq0.true)
       | else-own-eq0 w ↦ w.kind-is ∙ sym (kind_pair _ _ _ c.if-other-eq0.false w.if-own-eq0.false)
     ]
