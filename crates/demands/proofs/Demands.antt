@@ -141,7 +141,6 @@ demand_one =
       share_page_call = λ n m members sets out out' before number after g.
           owed_two number (share_refusal n m members sets out) (order_buffer n m members sets out) out out' (yes_number (can_share n m members sets)) before after
           g.number g.buffer g.written;
-      loss_bound_call = λ s before number after g. owed number (refusal_of s) (loss_factor s) before after g.number g.written;
     }
 
 -- Demand 2: the result's page and prices, and the best page, with floors of 0.
@@ -258,5 +257,6 @@ request_eight =
       one_place = one_place;
       bound = bound;
       best = best-below;
+      loss_bound_call = λ s before number after g. owed number (refusal_of s) (loss_factor s) before after g.number g.written;
       sharp = sharp;
     }

@@ -95,9 +95,6 @@ pub record DemandOne : Type 0 where
   pub share_page_call : (n m : ℕ) (members sets out out' : List ℕ) (before number after : ℕ) → SharePageGiven n m members sets out before number out' after →
       Owed number (share_refusal n m members sets out) ((out' ≡ out) × (after ≡ before))
       ((out' ≡ order_buffer n m members sets out) × (after ≡ yes_number (can_share n m members sets)))
-  -- pas_loss_bound, those of pas_check
-  pub loss_bound_call : (s : List ℕ) (before number after : ℕ) → LossBoundGiven s before number after →
-      Owed number (refusal_of s) (after ≡ before) (after ≡ loss_factor s)
 
 -- DEMAND 2. "The page is the greedy page. A price is the smallest bid with which its winner, all else unchanged, still wins that place. Up to 8
 -- bidders and 8 places, the best page breaks no condition and no other such page has a larger total." With request S-4 "a price becomes the smallest
@@ -663,5 +660,8 @@ pub record RequestEight : Type 0 where
   -- and at least what pas_best returns
   pub best : (s out out' into into' : List ℕ) (before factor before' best : ℕ) → LossBoundGiven s before 0 factor → 0 < factor → Played s out 0 out' →
       BestPageGiven s into before' 0 into' best → best ≤ factor * total_said s out'
+  -- the number is one of those of pas_check, and else the answer is the factor
+  pub loss_bound_call : (s : List ℕ) (before number after : ℕ) → LossBoundGiven s before number after →
+      Owed number (refusal_of s) (after ≡ before) (after ≡ loss_factor s)
   -- d + 1 cannot be made less: computed for d of 1, 2 and 3
   pub sharp : (d : ℕ) → 0 < d → d ≤ 3 → Sharp d

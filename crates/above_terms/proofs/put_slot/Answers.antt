@@ -13,8 +13,8 @@ use Rattle.above_terms.proofs.put_slot.Goals.{In-loop-j}
 use Rattle.above_terms.proofs.put_slot.Goals as goal
 
 -- the rival of a turn
-low-rival : (c : In-loop-j) → get_or c.args.others.now c.loop-j.j 0 ≤ 64
-low-rival c = c.requires.3 c.loop-j.j c.loop-j-test.true
+low_rival : (c : In-loop-j) → get_or c.args.others.now c.loop-j.j 0 ≤ 64
+low_rival c = c.requires.3 c.loop-j.j c.loop-j-test.true
 
 pub loop-j-init : goal.loop-j-init
 unfolding slot_pairs joined quads
@@ -24,7 +24,7 @@ pub put_run-requires : goal.put_run-requires
 put_run-requires c =
     let a = c.args in
     let more = slot_pairs-room a.owner.0 a.own.0 a.others.now c.loop-j.j c.loop-j-test.true in
-    let low = low-rival (goal.at.put_run-requires c).In-loop-j in
+    let low = low_rival (goal.at.put_run-requires c).In-loop-j in
     let owned = c.requires.0 in
     let placed = c.requires.2 in
     let room = c.requires.4 in
@@ -58,6 +58,6 @@ loop-j-preserved c =
           turn.invariant.run
           c.word_of-top.ensures
           ∙ ap (sets (sets a.res.now a.start (quads (slot_pairs owner own others turn.j))) turn.at)
-          (pairs_words owner own (get_or others turn.j 0) c.requires.0 c.requires.2 (low-rival (goal.at.loop-j-preserved c).In-loop-j))
+          (pairs_words owner own (get_or others turn.j 0) c.requires.0 c.requires.2 (low_rival (goal.at.loop-j-preserved c).In-loop-j))
           ∙ slot_pairs-next owner own others a.res.now a.start turn.at turn.j turn.invariant.end;
     }

@@ -23,9 +23,9 @@ none_filled ranked bids bidders =
     }
 
 module _ (ranked bids by_rank : List ℕ) (bidders rank : ℕ) (h : Filled ranked bids by_rank bidders rank) (l : rank < bidders) (few : bidders ≤ 8) where
-  one-filled : (b next : ℕ) → 0 < b → b ≡ get_or ranked rank 0 → next ≡ suc rank →
+  one_filled : (b next : ℕ) → 0 < b → b ≡ get_or ranked rank 0 → next ≡ suc rank →
       Filled ranked bids (set by_rank rank (get_or bids (b - 1) 0)) bidders next
-  one-filled b next some e n =
+  one_filled b next some e n =
       let size = h.size in
       record {
         size = length-set by_rank rank _ ∙ size;
@@ -49,9 +49,9 @@ module _ (ranked bids by_rank : List ℕ) (bidders rank : ℕ) (h : Filled ranke
       }
 
 -- the bidder at hand is one of the bidders
-ranked-there : (c : After-ranked_at-bidder) →
+ranked_there : (c : After-ranked_at-bidder) →
     (0 < c.ranked_at-bidder.result.0) × (c.ranked_at-bidder.result.0 ≤ length c.args.bids.now)
-ranked-there c =
+ranked_there c =
     let b = c.requires.2 c.loop-rank.rank.0 c.loop-rank-test.true in
     let e = c.ranked_at-bidder.ensures in
     let some = b.0 in
@@ -63,12 +63,12 @@ loop-rank-init c = none_filled _ _ _
 
 pub loop-rank-preserved : goal.loop-rank-preserved
 loop-rank-preserved c =
-    one-filled _ _ _ _ _
+    one_filled _ _ _ _ _
     c.loop-rank.invariant
     c.loop-rank-test.true
     c.requires.0
     _
     _
-    (ranked-there (goal.at.loop-rank-preserved c).After-ranked_at-bidder).0
+    (ranked_there (goal.at.loop-rank-preserved c).After-ranked_at-bidder).0
     c.ranked_at-bidder.ensures
     c.next_rank-rank.ensures

@@ -18,15 +18,15 @@ product_fits : (b e : ℕ) → b ≤ 1000000000 → e ≤ 1000000 → b * e ≤ 
 product_fits b e p q = mul-le-mul p q
 
 -- the bid at a rank is as low as bids are
-bid-low : (bids : List ℕ) (most b : ℕ) → ((i : ℕ) → get_or bids i 0 ≤ most) → bid_in bids b ≤ most
+bid_low : (bids : List ℕ) (most b : ℕ) → ((i : ℕ) → get_or bids i 0 ≤ most) → bid_in bids b ≤ most
 unfolding bid_in
-bid-low bids most zero low = omega arith
-bid-low bids most (suc i) low = low i
+bid_low bids most zero low = omega arith
+bid_low bids most (suc i) low = low i
 
-ranked-low : (ranked bids : List ℕ) (n i most : ℕ) → ((i : ℕ) → get_or bids i 0 ≤ most) → bid_at_rank ranked bids n i ≤ most
-ranked-low ranked bids n i most low =
+ranked_low : (ranked bids : List ℕ) (n i most : ℕ) → ((i : ℕ) → get_or bids i 0 ≤ most) → bid_at_rank ranked bids n i ≤ most
+ranked_low ranked bids n i most low =
     ⊎_elim
-    (λ (l : i < n). let e = bid_ranked ranked bids n i l in let b = bid-low bids most (get_or ranked i 0) low in omega arith)
+    (λ (l : i < n). let e = bid_ranked ranked bids n i l in let b = bid_low bids most (get_or ranked i 0) low in omega arith)
     (λ (l : n ≤ i). let e = bid_past ranked bids n i l in omega arith)
     (below_or_not i n)
 
@@ -42,11 +42,11 @@ record Given (bids effects : List ℕ) (slots : ℕ) : Type 0 where
   bid : (i : ℕ) → get_or bids i 0 ≤ 1000000000
   effect : (i : ℕ) → get_or effects i 0 ≤ 1000000
 
-all-filled : (ranked bids effects by_rank gains : List ℕ) (bidders slots slot : ℕ) → Given bids effects slots → slots < slot →
+all_filled : (ranked bids effects by_rank gains : List ℕ) (bidders slots slot : ℕ) → Given bids effects slots → slots < slot →
     ((i : ℕ) → get_or by_rank i 0 ≡ bid_at_rank ranked bids bidders i) → Filled by_rank effects gains (8 * (slot - 1)) →
     GainsOf (bid_at_rank ranked bids bidders) (nth effects) gains
 unfolding gain_in nth
-all-filled ranked bids effects by_rank gains bidders slots slot g l bid h i k low high =
+all_filled ranked bids effects by_rank gains bidders slots slot g l bid h i k low high =
     let this = ap (λ (b : ℕ). b * get_or effects k 0) (bid i) in
     ⊎_elim
     (λ (m : 8 * k + i < 8 * (slot - 1)). h.told i k low m ∙ this)
@@ -56,17 +56,17 @@ all-filled ranked bids effects by_rank gains bidders slots slot g l bid h i k lo
     (below_or_not (8 * k + i) (8 * (slot - 1)))
 
 -- and no seat adds more than the highest bid at the largest effect
-all-low : (ranked bids effects gains : List ℕ) (bidders slots : ℕ) → Given bids effects slots → GainsOf (bid_at_rank ranked bids bidders) (nth effects) gains →
+all_low : (ranked bids effects gains : List ℕ) (bidders slots : ℕ) → Given bids effects slots → GainsOf (bid_at_rank ranked bids bidders) (nth effects) gains →
     ((x : ℕ) → 128 ≤ x → get_or gains x 0 ≡ 0) → (x : ℕ) → get_or gains x 0 ≤ 1000000000000000
 unfolding gain_in nth
-all-low ranked bids effects gains bidders slots g h none x =
+all_low ranked bids effects gains bidders slots g h none x =
     ⊎_elim
     (λ (l : x < 128).
     let seat : 8 * (x / 8) + x % 8 ≡ x = (let parts = div-add-mod' x 8 in omega arith) in
     let rank : x % 8 < 8 = mod-lt x (zero-lt-suc 7) in
     let e = h (x % 8) (x / 8) rank (omega arith) in
     subst (λ (n : ℕ). get_or gains n 0 ≤ 1000000000000000) seat
-    (let low = product_fits (bid_at_rank ranked bids bidders (x % 8)) (get_or effects (x / 8) 0) (ranked-low ranked bids bidders (x % 8) 1000000000 g.bid) (g.effect (x / 8)) in omega arith))
+    (let low = product_fits (bid_at_rank ranked bids bidders (x % 8)) (get_or effects (x / 8) 0) (ranked_low ranked bids bidders (x % 8) 1000000000 g.bid) (g.effect (x / 8)) in omega arith))
     (λ (l : 128 ≤ x). let e = none x l in omega arith)
     (below_or_not x 128)
 
@@ -82,5 +82,5 @@ returns c =
     let v = c.loop-slot.invariant in
     let few = g.few in
     let within = v.within in
-    let told = all-filled _ _ _ _ _ _ _ _ g c.loop-slot-test.false c.bids_by_rank-by_rank.ensures v.filled in
-    (told, all-low _ _ _ _ _ _ g told (λ x l. v.filled.empty x (omega arith)))
+    let told = all_filled _ _ _ _ _ _ _ _ g c.loop-slot-test.false c.bids_by_rank-by_rank.ensures v.filled in
+    (told, all_low _ _ _ _ _ _ g told (λ x l. v.filled.empty x (omega arith)))

@@ -16,8 +16,8 @@ use Rattle.best_bound.proofs.most_left.Goals.{After-gain_at-sum, Start}
 use Rattle.best_bound.proofs.most_left.Goals as goal
 
 -- a word holds the sum of eight such numbers
-word-holds-sum : (sum i x : ℕ) → sum ≤ i * 1000000000000000 → i < 8 → x ≤ 1000000000000000 → Fits w64 (sum + x)
-word-holds-sum sum i x h l q = omega arith
+word_holds_sum : (sum i x : ℕ) → sum ≤ i * 1000000000000000 → i < 8 → x ≤ 1000000000000000 → Fits w64 (sum + x)
+word_holds_sum sum i x h l q = omega arith
 
 -- what a call is given
 record Given (gains : List ℕ) (from : ℕ) : Type 0 where
@@ -30,15 +30,15 @@ module _ (gains : List ℕ) (whole from ranks at sum rank : ℕ) (g : Given gain
   abbrev slot_of : ℕ → ℕ
   slot_of = slot_after (bit_of whole) (from - 1) 16
 
-  abbrev addOf : ℕ → ℕ
-  addOf = add_after (bit_of whole) (gain_in gains) (from - 1) 16
+  abbrev add_of : ℕ → ℕ
+  add_of = add_after (bit_of whole) (gain_in gains) (from - 1) 16
 
   here : (bit_of whole rank ≡ true) × (h.passed ≤ rank)
   here = rest_here whole ranks h.passed rank h.rest f
 
   -- the slot has a seat in the table
-  slot-low : (0 < at) × (at ≤ 16)
-  slot-low =
+  slot_low : (0 < at) × (at ≤ 16)
+  slot_low =
       let n = h.near in
       let e = h.next in
       let low = f.low in
@@ -52,21 +52,21 @@ module _ (gains : List ℕ) (whole from ranks at sum rank : ℕ) (g : Given gain
   up_to : h.passed + (rank - h.passed) ≡ rank
   up_to = let p = here.1 in omega arith
 
-  slot-now : slot_of rank ≡ slot_of h.passed
-  slot-now = ap slot_of (sym up_to) ∙ slots-none (bit_of whole) (from - 1) 16 h.passed (rank - h.passed) none_between
+  slot_now : slot_of rank ≡ slot_of h.passed
+  slot_now = ap slot_of (sym up_to) ∙ slots-none (bit_of whole) (from - 1) 16 h.passed (rank - h.passed) none_between
 
-  add-now : addOf rank ≡ addOf h.passed
-  add-now = ap addOf (sym up_to) ∙ added_none (bit_of whole) (gain_in gains) (from - 1) 16 h.passed (rank - h.passed) none_between
+  add_now : add_of rank ≡ add_of h.passed
+  add_now = ap add_of (sym up_to) ∙ added_none (bit_of whole) (gain_in gains) (from - 1) 16 h.passed (rank - h.passed) none_between
 
   slot_left : slot_of rank < 16
   slot_left =
       let e = h.next in
-      let s = slot-low.1 in
-      let n = slot-now in
+      let s = slot_low.1 in
+      let n = slot_now in
       omega arith
 
   sum_fits : Fits w64 (sum + get_or gains (8 * (at - 1) + rank) 0)
-  sum_fits = word-holds-sum sum rank _ (let t = h.fits in let p = here.1 in omega arith) f.low (g.each _)
+  sum_fits = word_holds_sum sum rank _ (let t = h.fits in let p = here.1 in omega arith) f.low (g.each _)
 
   one_more : (less next x : ℕ) → Rest whole less (suc rank) → next ≡ suc at → x ≡ get_or gains (8 * (at - 1) + rank) 0 →
       Gone gains whole from less next (sum + x)
@@ -74,7 +74,7 @@ module _ (gains : List ℕ) (whole from ranks at sum rank : ℕ) (g : Given gain
   one_more less next x rest below adds =
       let e = h.next in
       let p = here.1 in
-      let n = slot-now in
+      let n = slot_now in
       let low = f.low in
       let index : at - 1 ≡ slot_of rank = omega arith in
       record {
@@ -82,7 +82,7 @@ module _ (gains : List ℕ) (whole from ranks at sum rank : ℕ) (g : Given gain
         rest = rest;
         next = (let t = slot_taken (bit_of whole) (from - 1) 16 rank here.0 slot_left in omega arith);
         so_far =
-            ap₂ ◌+◌ (h.so_far ∙ sym add-now) (adds ∙ ap (λ (k : ℕ). get_or gains (8 * k + rank) 0) index)
+            ap₂ ◌+◌ (h.so_far ∙ sym add_now) (adds ∙ ap (λ (k : ℕ). get_or gains (8 * k + rank) 0) index)
             ∙ sym (add_taken (bit_of whole) (gain_in gains) (from - 1) 16 rank here.0 slot_left);
         near = (let t = h.near in omega arith);
         fits = (let t = h.fits in let y = g.each (8 * (at - 1) + rank) in omega arith);
@@ -103,13 +103,13 @@ given : (c : Start) → Given c.args.gains.now c.args.slot.0
 given c = record { some = c.requires.0; low = c.requires.1; each = c.requires.2 }
 
 -- what the rank at hand adds at its slot
-gain-now : (c : After-gain_at-sum) →
+gain_now : (c : After-gain_at-sum) →
     c.gain_at-sum.result
     ≡ get_or
     c.args.gains.now
     (8 * (c.loop-ranks.at.0 - 1) + c.first_rank.result.0)
     0
-gain-now c = c.gain_at-sum.ensures ∙ ap (λ (x : ℕ). get_or c.args.gains.now x 0) c.seat_at-seat.ensures
+gain_now c = c.gain_at-sum.ensures ∙ ap (λ (x : ℕ). get_or c.args.gains.now x 0) c.seat_at-seat.ensures
 
 pub loop-ranks-init : goal.loop-ranks-init
 unfolding slot_after add_after
@@ -140,7 +140,7 @@ loop-ranks-preserved c =
     _
     (rest_next _ _ _ _ v.rest f _ less.0 (less.1 _ f))
     c.next_slot-at.ensures
-    (gain-now (goal.at.loop-ranks-preserved c).After-gain_at-sum)
+    (gain_now (goal.at.loop-ranks-preserved c).After-gain_at-sum)
 
 pub returns : goal.returns
 returns c =

@@ -18,9 +18,9 @@ use Rattle.best_clash.proofs.fill_table.Goals.{After-constraint_at}
 use Rattle.best_clash.proofs.fill_table.Goals as goal
 
 -- the count that the sheet tells is the round's
-round-used : (s : List ℕ) (used : ℕ) → used ≡ constraint_count s → used ≡ (round_of s).used
+round_used : (s : List ℕ) (used : ℕ) → used ≡ constraint_count s → used ≡ (round_of s).used
 unfolding round_of
-round-used s used e = e
+round_used s used e = e
 
 -- the constraint that a turn reads is the round's
 read : (c : After-constraint_at) →
@@ -51,7 +51,7 @@ loop-i-preserved c =
     let n = c.loop-i.i in
     let ranks = c.args.ranks.now in
     record {
-      some = subst (λ (m : ℕ). n + 1 ≤ m) (round-used _ _ c.constraint_count-used.ensures) (omega arith);
+      some = subst (λ (m : ℕ). n + 1 ≤ m) (round_used _ _ c.constraint_count-used.ensures) (omega arith);
       size = c.mark_constraint.ensures.0;
       told = λ x y inside.
           rw (add-one n)
@@ -65,5 +65,5 @@ pub returns : goal.returns
 returns c =
     let v = c.loop-i.invariant in
     let r = round_of c.args.sheet.now in
-    let past : r.used ≤ c.loop-i.i = subst (λ (m : ℕ). m ≤ c.loop-i.i) (round-used _ _ c.constraint_count-used.ensures) c.loop-i-test.false in
+    let past : r.used ≤ c.loop-i.i = subst (λ (m : ℕ). m ≤ c.loop-i.i) (round_used _ _ c.constraint_count-used.ensures) c.loop-i-test.false in
     record { told = λ x y inside. v.told x y inside ∙ ap (λ (m : ℕ). some_shuts c.args.ranks.now r m x y) (le_antisymm v.some past) }

@@ -19,17 +19,17 @@ read c =
     let e = c.ranked_at-bidder.ensures in
     (omega arith, omega arith)
 
-bid-read : (c : After-ranked_at-bidder) →
+bid_read : (c : After-ranked_at-bidder) →
     get_or c.args.bids.now (c.ranked_at-bidder.result.0 - 1) 0
     ≡ bid_in c.args.bids.now (get_or c.args.ranked.now (c.loop-count.count - 1) 0)
-bid-read c = sym (bid_index _ _ (read c).0) ∙ ap (bid_in _) c.ranked_at-bidder.ensures
+bid_read c = sym (bid_index _ _ (read c).0) ∙ ap (bid_in _) c.ranked_at-bidder.ensures
 
 pub returns-then-floor-bids : goal.returns-then-floor-bids
 returns-then-floor-bids c =
     let a = c.args in
     let v = c.loop-count.invariant in
     let within = v.within in
-    let bid = bid-read (goal.at.returns-then-floor-bids c).After-ranked_at-bidder in (
+    let bid = bid_read (goal.at.returns-then-floor-bids c).After-ranked_at-bidder in (
       within,
       reach_first a.bids.now a.ranked.now a.bidders a.floor c.loop-count.count within (λ i l. (let more = c.requires.1.falls i (c.loop-count.count - 1) (omega arith) (omega arith) in let high = c.if-floor-bids.true in omega arith)) v.later,
     )
@@ -39,7 +39,7 @@ loop-count-preserved c =
     let a = c.args in
     let v = c.loop-count.invariant in
     let within = v.within in
-    let bid = bid-read (goal.at.loop-count-preserved c).After-ranked_at-bidder in
+    let bid = bid_read (goal.at.loop-count-preserved c).After-ranked_at-bidder in
     let low = c.if-floor-bids.false in
     record {
       within = omega arith;

@@ -27,8 +27,8 @@ use Rattle.best_search.proofs.+raise.Goals as goal
 -- a turn: what lies below the rank's choice was searched, or left out
 module _ (shut gains : List ℕ) (slot free had known highest left : ℕ) (v : Rising shut gains slot free had known highest left) (some : free ≡ 0 → ⊥)
     (t : ℕ) (first : First left t) (next : Ahead) (leads : (k : ℕ) → suc k ≡ slot → Leads shut gains k free had t next) where
-  t-free : bit_of free t ≡ true
-  t-free = (rest_here free left v.start t v.rest first).0
+  t_free : bit_of free t ≡ true
+  t_free = (rest_here free left v.start t v.rest first).0
 
   abbrev Below : ℕ → Type 0
   Below found =
@@ -39,14 +39,14 @@ module _ (shut gains : List ℕ) (slot free had known highest left : ℕ) (v : R
   searched below found e deeper r ranked p k at-k tables w f =
       let inside = slot_left r ranked shut gains tables p k had w free f some in
       deeper r ranked (put p (suc k) (get_or ranked t 0)) (suc k) (omega arith) tables
-      (lead_node r ranked shut gains tables p k had w free f inside t first.low t-free next (leads k at-k))
-      (lead_free r ranked shut gains tables p k had w free f inside t first.low t-free next (leads k at-k))
+      (lead_node r ranked shut gains tables p k had w free f inside t first.low t_free next (leads k at-k))
+      (lead_free r ranked shut gains tables p k had w free f inside t first.low t_free next (leads k at-k))
 
   left_out : next.most ≤ highest → Below highest
   left_out less r ranked p k at-k tables w f =
       let inside = slot_left r ranked shut gains tables p k had w free f some in
       none_larger r (Agrees (put p (suc k) (get_or ranked t 0)) (suc k)) highest
-      (λ q a ok. (let most = lead_most r ranked shut gains tables p k had w free f inside t first.low t-free next (leads k at-k) q a ok in omega arith))
+      (λ q a ok. (let most = lead_most r ranked shut gains tables p k had w free f inside t first.low t_free next (leads k at-k) q a ok in omega arith))
 
   turned : (less found : ℕ) → less < left → ((i : ℕ) → bit_of less i ≡ (bit_of left i && not (eqb i t))) → Below found →
       Rising shut gains slot free had known found less

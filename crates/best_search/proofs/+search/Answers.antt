@@ -39,24 +39,24 @@ module _ (shut gains ranks : List ℕ) (bidders slot : ℕ) (p : Page) (free had
   -- nobody at the next slot
   module _ (next : Ahead) (passes : (k : ℕ) → suc k ≡ slot → Passes gains k free had next) where
     module _ (below : ℕ) (at-below : below ≡ suc slot) (found : Bool) (page : Page) (deeper : Sought shut gains ranks bidders below p next.free.0 next.had sum found page) where
-      nobody-searched : ForAll shut gains ranks bidders slot p free had (λ r k. FirstWith r (Agrees (put p (suc k) 0) (suc k)) sum found page)
-      nobody-searched r ranked k at-k n v o w f =
+      nobody_searched : ForAll shut gains ranks bidders slot p free had (λ r k. FirstWith r (Agrees (put p (suc k) 0) (suc k)) sum found page)
+      nobody_searched r ranked k at-k n v o w f =
           let inside = slot_left r ranked shut gains v p k had w free f some in
           subst (λ (x : Page). FirstWith r (Agrees x (suc k)) sum found page) (sym (put-nobody p (suc k) (w.later (suc k) (omega arith))))
           (deeper r ranked (suc k) (omega arith) n v o
           (pass_node r ranked shut gains v p k had w free f inside next (passes k at-k))
           (pass-free r ranked shut gains v p k had w free f inside next (passes k at-k)))
 
-      nobody-found : found ≡ true → ForAll shut gains ranks bidders slot p free had (λ r k. FirstWith r (Agrees p k) sum found page)
-      nobody-found yes' r ranked k at-k n v o w f =
-          found_next r p k had sum w (room r ranked shut gains v p k had w free f some) 0 page (none_first r k) found yes' (nobody-searched r ranked k at-k n v o w f)
+      nobody_found : found ≡ true → ForAll shut gains ranks bidders slot p free had (λ r k. FirstWith r (Agrees p k) sum found page)
+      nobody_found yes' r ranked k at-k n v o w f =
+          found_next r p k had sum w (room r ranked shut gains v p k had w free f some) 0 page (none_first r k) found yes' (nobody_searched r ranked k at-k n v o w f)
 
-      nobody-none : found ≡ false → ForAll shut gains ranks bidders slot p free had (λ r k. NoneBelow r p k 1 sum)
-      nobody-none no' r ranked k at-k n v o w f =
-          none-next r p k had sum w (room r ranked shut gains v p k had w free f some) 0 (none_first r k) ((nobody-searched r ranked k at-k n v o w f).none no')
+      nobody_none : found ≡ false → ForAll shut gains ranks bidders slot p free had (λ r k. NoneBelow r p k 1 sum)
+      nobody_none no' r ranked k at-k n v o w f =
+          none-next r p k had sum w (room r ranked shut gains v p k had w free f some) 0 (none_first r k) ((nobody_searched r ranked k at-k n v o w f).none no')
 
-    nobody-small : next.most < sum → ForAll shut gains ranks bidders slot p free had (λ r k. NoneBelow r p k 1 sum)
-    nobody-small small r ranked k at-k n v o w f =
+    nobody_small : next.most < sum → ForAll shut gains ranks bidders slot p free had (λ r k. NoneBelow r p k 1 sum)
+    nobody_small small r ranked k at-k n v o w f =
         none-next r p k had sum w (room r ranked shut gains v p k had w free f some) 0 (none_first r k)
         (λ q a ok t.
         let inside = slot_left r ranked shut gains v p k had w free f some in
@@ -65,13 +65,13 @@ module _ (shut gains ranks : List ℕ) (bidders slot : ℕ) (p : Page) (free had
         absurd (omega arith))
 
   -- bidder b there
-  module _ (b : ℕ) (u : Seeking shut gains ranks bidders slot p free had sum b) (turn : b ≤ bidders) (i : ℕ) (i-is : i ≡ get_or ranks b 0) (i-low : i < 8) where
+  module _ (b : ℕ) (u : Seeking shut gains ranks bidders slot p free had sum b) (turn : b ≤ bidders) (i : ℕ) (i_is : i ≡ get_or ranks b 0) (i_low : i < 8) where
     named : (r : Round) (ranked : List ℕ) → r.bidders ≡ bidders → RanksOf r.bidders ranked ranks → get_or ranked i 0 ≡ b
-    named r ranked n o = ap (λ (x : ℕ). get_or ranked x 0) i-is ∙ o.there b u.some (omega arith)
+    named r ranked n o = ap (λ (x : ℕ). get_or ranked x 0) i_is ∙ o.there b u.some (omega arith)
 
-    next-turn : ForAll shut gains ranks bidders slot p free had (λ r k. (q : Page) → Agrees (put p (suc k) b) (suc k) q → Allowed r q → total r q ≡ sum → ⊥) →
+    next_turn : ForAll shut gains ranks bidders slot p free had (λ r k. (q : Page) → Agrees (put p (suc k) b) (suc k) q → Allowed r q → total r q ≡ sum → ⊥) →
         Seeking shut gains ranks bidders slot p free had sum (suc b)
-    next-turn here =
+    next_turn here =
         record {
           some = omega arith;
           most = omega arith;
@@ -81,20 +81,20 @@ module _ (shut gains ranks : List ℕ) (bidders slot : ℕ) (p : Page) (free had
 
     not_free : bit_of free i ≡ false → Seeking shut gains ranks bidders slot p free had sum (suc b)
     not_free no' =
-        next-turn
+        next_turn
         (λ r ranked k at-k n v o w f q a ok t.
         let inside = slot_left r ranked shut gains v p k had w free f some in
         let before = agrees_before p q k b w.page.sized (room r ranked shut gains v p k had w free f some) a in
-        let low : i < r.bidders = subst (λ (x : ℕ). x < r.bidders) (sym i-is) (o.low b u.some (omega arith)) in
+        let low : i < r.bidders = subst (λ (x : ℕ). x < r.bidders) (sym i_is) (o.low b u.some (omega arith)) in
         not_both (free-here r ranked shut gains v p k had w free f inside q before.0 ok i low (named r ranked n o ∙ sym before.1)) no')
 
     module _ (i-free : bit_of free i ≡ true) (next : Ahead) (leads : (k : ℕ) → suc k ≡ slot → Leads shut gains k free had i next) where
       too_small : next.most < sum → Seeking shut gains ranks bidders slot p free had sum (suc b)
       too_small small =
-          next-turn
+          next_turn
           (λ r ranked k at-k n v o w f q a ok t.
           let inside = slot_left r ranked shut gains v p k had w free f some in
-          let most = lead_most r ranked shut gains v p k had w free f inside i i-low i-free next (leads k at-k) q
+          let most = lead_most r ranked shut gains v p k had w free f inside i i_low i-free next (leads k at-k) q
           (subst (λ (x : ℕ). Agrees (put p (suc k) x) (suc k) q) (sym (named r ranked n o)) a) ok in
           absurd (omega arith))
 
@@ -108,17 +108,17 @@ module _ (shut gains ranks : List ℕ) (bidders slot : ℕ) (p : Page) (free had
             subst (λ (x : Page). Sought shut gains ranks bidders below x next.free.0 next.had sum found page) same deeper
             r ranked (suc k) (omega arith) n v o
             (subst (λ (x : ℕ). Node r (put p (suc k) x) (suc k) next.had) there
-            (lead_node r ranked shut gains v p k had w free f inside i i-low i-free next (leads k at-k)))
+            (lead_node r ranked shut gains v p k had w free f inside i i_low i-free next (leads k at-k)))
             (subst (λ (x : ℕ). FreeFor r ranked (put p (suc k) x) (suc k) next.free.0) there
-            (lead_free r ranked shut gains v p k had w free f inside i i-low i-free next (leads k at-k)))
+            (lead_free r ranked shut gains v p k had w free f inside i i_low i-free next (leads k at-k)))
 
-        is-first : found ≡ true → ForAll shut gains ranks bidders slot p free had (λ r k. FirstWith r (Agrees p k) sum found page)
-        is-first yes' r ranked k at-k n v o w f =
+        is_first : found ≡ true → ForAll shut gains ranks bidders slot p free had (λ r k. FirstWith r (Agrees p k) sum found page)
+        is_first yes' r ranked k at-k n v o w f =
             found_next r p k had sum w (room r ranked shut gains v p k had w free f some) b page (u.so_far r ranked k at-k n v o w f) found yes'
             (searched r ranked k at-k n v o w f)
 
-        none-there : found ≡ false → Seeking shut gains ranks bidders slot p free had sum (suc b)
-        none-there no' = next-turn (λ r ranked k at-k n v o w f. (searched r ranked k at-k n v o w f).none no')
+        none_there : found ≡ false → Seeking shut gains ranks bidders slot p free had sum (suc b)
+        none_there no' = next_turn (λ r ranked k at-k n v o w f. (searched r ranked k at-k n v o w f).none no')
 
 pub returns-then-free-eq0 : goal.returns-then-free-eq0
 returns-then-free-eq0 t c =
@@ -154,7 +154,7 @@ returns-then-below t c =
     let a = c.args in
     let q = c.requires in
     λ r ranked k e n v o w f.
-    nobody-found a.shut.now a.gains.now a.ranks.now a.bidders a.slot.0 a.page a.free.0 a.had a.total c.if-free-eq0.false
+    nobody_found a.shut.now a.gains.now a.ranks.now a.bidders a.slot.0 a.page a.free.0 a.had a.total c.if-free-eq0.false
     c.pass_over-passed.result c.pass_over-passed.ensures c.next_slot-next.result.0 c.next_slot-next.ensures _ _ c.search-below.ensures c.if-below.true r ranked k e n v o w f
 
 pub loop-bidder-init : goal.loop-bidder-init
@@ -169,8 +169,8 @@ loop-bidder-init t c =
       most = omega arith;
       so_far =
           elim c.if-total-passed.branch [
-            then-total-passed+else-below x ↦ nobody-none a.shut.now a.gains.now a.ranks.now a.bidders a.slot.0 a.page a.free.0 a.had a.total some next passes c.next_slot-next.result.0 c.next_slot-next.ensures _ _ x.search-below.ensures x.if-below.false
-          | else-total-passed x ↦ nobody-small a.shut.now a.gains.now a.ranks.now a.bidders a.slot.0 a.page a.free.0 a.had a.total some next passes x.if-total-passed.false
+            then-total-passed+else-below x ↦ nobody_none a.shut.now a.gains.now a.ranks.now a.bidders a.slot.0 a.page a.free.0 a.had a.total some next passes c.next_slot-next.result.0 c.next_slot-next.ensures _ _ x.search-below.ensures x.if-below.false
+          | else-total-passed x ↦ nobody_small a.shut.now a.gains.now a.ranks.now a.bidders a.slot.0 a.page a.free.0 a.had a.total some next passes x.if-total-passed.false
           ];
     }
 
@@ -202,7 +202,7 @@ returns-then-below-2 t c =
     let a = c.args in
     let q = c.requires in
     let some = c.if-free-eq0.false in
-    is-first a.shut.now a.gains.now a.ranks.now a.bidders a.slot.0 a.page a.free.0 a.had a.total some c.loop-bidder.bidder.0 c.loop-bidder.invariant c.loop-bidder-test.true c.rank_of-rank.result.0 c.rank_of-rank.ensures
+    is_first a.shut.now a.gains.now a.ranks.now a.bidders a.slot.0 a.page a.free.0 a.had a.total some c.loop-bidder.bidder.0 c.loop-bidder.invariant c.loop-bidder-test.true c.rank_of-rank.result.0 c.rank_of-rank.ensures
     (subst (λ (n : ℕ). n < 8) (sym c.rank_of-rank.ensures) (q.by_index.2 _)) (sym c.is_free.ensures ∙ c.if-is_free.true)
     c.look_ahead-ahead.result c.look_ahead-ahead.ensures c.next_slot-next.result.0 c.next_slot-next.ensures
     c.with_bidder.result c.with_bidder.ensures _ _ c.search-below-then-total-ahead.ensures c.if-below-2.true
@@ -216,15 +216,15 @@ loop-bidder-preserved t c =
     let inv = c.loop-bidder.invariant in
     let turn = c.loop-bidder-test.true in
     let i = c.rank_of-rank.result.0 in
-    let i-is = c.rank_of-rank.ensures in
-    let i-low = subst (λ (n : ℕ). n < 8) (sym i-is) (q.by_index.2 _) in
+    let i_is = c.rank_of-rank.ensures in
+    let i_low = subst (λ (n : ℕ). n < 8) (sym i_is) (q.by_index.2 _) in
     let told = c.is_free.ensures in
     rw (add-one b)
     (elim c.if-is_free.branch [
       then-is_free+then-total-ahead+else-below-2 x ↦
-        none-there a.shut.now a.gains.now a.ranks.now a.bidders a.slot.0 a.page a.free.0 a.had a.total some b inv turn i i-is i-low (sym told ∙ x.if-is_free.true) x.look_ahead-ahead.result x.look_ahead-ahead.ensures c.next_slot-next.result.0 c.next_slot-next.ensures
+        none_there a.shut.now a.gains.now a.ranks.now a.bidders a.slot.0 a.page a.free.0 a.had a.total some b inv turn i i_is i_low (sym told ∙ x.if-is_free.true) x.look_ahead-ahead.result x.look_ahead-ahead.ensures c.next_slot-next.result.0 c.next_slot-next.ensures
         x.with_bidder.result x.with_bidder.ensures _ _ x.search-below-then-total-ahead.ensures x.if-below-2.false
     | then-is_free+else-total-ahead x ↦
-        too_small a.shut.now a.gains.now a.ranks.now a.bidders a.slot.0 a.page a.free.0 a.had a.total some b inv turn i i-is i-low (sym told ∙ x.if-is_free.true) x.look_ahead-ahead.result x.look_ahead-ahead.ensures x.if-total-ahead.false
-    | else-is_free x ↦ not_free a.shut.now a.gains.now a.ranks.now a.bidders a.slot.0 a.page a.free.0 a.had a.total some b inv turn i i-is i-low (sym told ∙ x.if-is_free.false)
+        too_small a.shut.now a.gains.now a.ranks.now a.bidders a.slot.0 a.page a.free.0 a.had a.total some b inv turn i i_is i_low (sym told ∙ x.if-is_free.true) x.look_ahead-ahead.result x.look_ahead-ahead.ensures x.if-total-ahead.false
+    | else-is_free x ↦ not_free a.shut.now a.gains.now a.ranks.now a.bidders a.slot.0 a.page a.free.0 a.had a.total some b inv turn i i_is i_low (sym told ∙ x.if-is_free.false)
     ])

@@ -26,8 +26,8 @@ written out p m = row (λ k. at p (suc k)) m ++ drop m out
 abbrev round : Start → Round
 round s = with_floors (round_of s.args.sheet.now) s.args.floors.now
 
-proper-round : (s : Start) → ProperRound (round s)
-proper-round s =
+proper_round : (s : Start) → ProperRound (round s)
+proper_round s =
     floors-proper _ _ (round_proper _ s.requires.0) (subst (λ (m : ℕ). ProperFloors m s.args.floors.now) (sym (round_slots s.args.sheet.now)) s.requires.1)
 
 pub bounds-sheet-5 : goal.bounds-sheet-5
@@ -60,7 +60,7 @@ pub returns : goal.returns
 returns c =
     let sheet = c.args.sheet.now in
     let out = c.args.res.now in
-    let proper = proper-round (goal.at.returns c).Start in
+    let proper = proper_round (goal.at.returns c).Start in
     let page = c.best_page-answer.result.page in
     best-gives (round (goal.at.returns c).Start) sheet out page c.best_page-answer.result.total _ c.if-bidders-gt8.false c.if-slots-gt8.false c.if-res-slots.false
     (is_best_page (round (goal.at.returns c).Start) proper.most_slots proper page c.best_page-answer.ensures.0) c.best_page-answer.ensures.1

@@ -30,18 +30,18 @@ use Rattle.best_search.proofs.best_page.Goals.{After-ranking_of-ranked}
 use Rattle.best_search.proofs.best_page.Goals as goal
 
 -- the ranking is one of the round's bids
-order-of : (s bids ranked : List ℕ) → bids ≡ (round_of s).bids → InOrder (bid_in bids) (bidder_count s) ranked → InOrder (bid_in (round_of s).bids) (bidder_count s) ranked
-order-of s bids ranked e o = subst (λ (x : List ℕ). InOrder (bid_in x) (bidder_count s) ranked) e o
+order_of : (s bids ranked : List ℕ) → bids ≡ (round_of s).bids → InOrder (bid_in bids) (bidder_count s) ranked → InOrder (bid_in (round_of s).bids) (bidder_count s) ranked
+order_of s bids ranked e o = subst (λ (x : List ℕ). InOrder (bid_in x) (bidder_count s) ranked) e o
 
 -- after the last slot there is no effect
-effects-end : (s : List ℕ) → Accepted s → (k : ℕ) → slot_count s ≤ k → get_or (round_of s).effects k 0 ≡ 0
+effects_end : (s : List ℕ) → Accepted s → (k : ℕ) → slot_count s ≤ k → get_or (round_of s).effects k 0 ≡ 0
 unfolding round_of
-effects-end s ok k l = get_d_padded_after (λ j. effect_field s (suc j)) (slot_count s) 16 0 k (accepted-sheet s ok).counts.most_slots l
+effects_end s ok k l = get_d_padded_after (λ j. effect_field s (suc j)) (slot_count s) 16 0 k (accepted-sheet s ok).counts.most_slots l
 
 -- and it is one of the bids that are read
-ranked-bids : (s bids ranked : List ℕ) → Accepted s → bidder_count s ≤ 8 → bids ≡ (round_of s).bids → InOrder (bid_in bids) (bidder_count s) ranked →
+ranked_bids : (s bids ranked : List ℕ) → Accepted s → bidder_count s ≤ 8 → bids ≡ (round_of s).bids → InOrder (bid_in bids) (bidder_count s) ranked →
     RankedBids bids (bidder_count s) ranked
-ranked-bids s bids ranked ok few same o =
+ranked_bids s bids ranked ok few same o =
     let room : length bids ≡ 64 = ap length same ∙ (round_proper s ok).sized_bids in
     let size = o.size in
     record {
@@ -62,13 +62,13 @@ gained s bids effects ok same_bids same_effects =
     let proper = round_proper s ok in
     record {
       size = ap length same_effects ∙ proper.sized_effects;
-      none = λ k l. ap (λ (x : List ℕ). get_or x k 0) same_effects ∙ effects-end s ok k l;
+      none = λ k l. ap (λ (x : List ℕ). get_or x k 0) same_effects ∙ effects_end s ok k l;
       bid = λ i. subst (λ (x : List ℕ). get_or x i 0 ≤ 1000000000) (sym same_bids) (bids-low (round_of s) proper i);
       effect = λ i. subst (λ (x : List ℕ). get_or x i 0 ≤ 1000000) (sym same_effects) (effects-low (round_of s) proper i);
     }
 
 -- all tables are the round's, so the searches give its best page
-found-best : (s floors : List ℕ) → Accepted s → bidder_count s ≤ 8 → slot_count s ≤ 8 → ProperFloors (slot_count s) floors →
+found_best : (s floors : List ℕ) → Accepted s → bidder_count s ≤ 8 → slot_count s ≤ 8 → ProperFloors (slot_count s) floors →
     (bids effects ranked ranks gains table shut : List ℕ) (free largest : ℕ) (found : Bool) (page empty : Page) →
     bids ≡ (round_of s).bids → effects ≡ (round_of s).effects → InOrder (bid_in bids) (bidder_count s) ranked → RanksOf (bidder_count s) ranked ranks →
     GainsOf (bid_at_rank ranked bids (bidder_count s)) (nth effects) gains →
@@ -76,8 +76,8 @@ found-best : (s floors : List ℕ) → Accepted s → bidder_count s ≤ 8 → s
     Raised shut gains 1 free 0 0 largest → empty ≡ empty_page → Sought shut gains ranks (bidder_count s) 1 empty free 0 largest found page →
     Best (with_floors (round_of s) floors) page × (largest ≡ total (with_floors (round_of s) floors) page)
 unfolding round_of with_floors
-found-best s floors ok few short proper bids effects ranked ranks gains table shut free largest found page empty same_bids same_effects o by_number g filled words left raised none sought =
-    best_found (with_floors (round_of s) floors) (floors-proper (round_of s) floors (round_proper s ok) proper) few short ranked (order-of s bids ranked same_bids o) shut gains
+found_best s floors ok few short proper bids effects ranked ranks gains table shut free largest found page empty same_bids same_effects o by_number g filled words left raised none sought =
+    best_found (with_floors (round_of s) floors) (floors-proper (round_of s) floors (round_proper s ok) proper) few short ranked (order_of s bids ranked same_bids o) shut gains
     (subst (λ (x : List ℕ). GainsOf (bid_at_rank ranked (round_of s).bids (bidder_count s)) (nth x) gains) same_effects
     (subst (λ (x : List ℕ). GainsOf (bid_at_rank ranked x (bidder_count s)) (nth effects) gains) same_bids g))
     (shut_floors (round_of s) floors ranked shut (shut_of s ok few short ranked ranks table shut by_number filled words))
@@ -88,10 +88,10 @@ found-best s floors ok few short proper bids effects ranked ranks gains table sh
     (subst (λ (x : Page). Sought shut gains ranks (bidder_count s) 1 x free 0 largest found page) none sought)
 
 -- the ranking that is handed on
-ranked-at : (c : After-ranking_of-ranked) → RankedBids c.accepted_bids-bids.result (bidder_count c.args.sheet.now) c.ranking_of-ranked.result
-ranked-at c =
+ranked_at : (c : After-ranking_of-ranked) → RankedBids c.accepted_bids-bids.result (bidder_count c.args.sheet.now) c.ranking_of-ranked.result
+ranked_at c =
     let p = c.requires in
-    ranked-bids _ _ _ p.0 p.1 c.accepted_bids-bids.ensures c.ranking_of-ranked.ensures
+    ranked_bids _ _ _ p.0 p.1 c.accepted_bids-bids.ensures c.ranking_of-ranked.ensures
 
 pub bounds-sheet-5 : goal.bounds-sheet-5
 bounds-sheet-5 c = omega (arith, (accepted-sheet _ c.requires.0).counts)
@@ -119,11 +119,11 @@ fill_table-requires-clause-table_len c =
 pub first_free-free-requires : goal.first_free-free-requires
 first_free-free-requires c =
     let p = c.requires in
-    (p.1, p.2, p.3.enough, ranked-at (goal.at.first_free-free-requires c).After-ranking_of-ranked)
+    (p.1, p.2, p.3.enough, ranked_at (goal.at.first_free-free-requires c).After-ranking_of-ranked)
 
 pub returns : goal.returns
 returns c =
     let p = c.requires in
-    found-best c.args.sheet.now c.args.floors.now p.0 p.1 p.2 p.3 _ _ _ _ _ _ _ _ _ _ _ _ c.accepted_bids-bids.ensures
+    found_best c.args.sheet.now c.args.floors.now p.0 p.1 p.2 p.3 _ _ _ _ _ _ _ _ _ _ _ _ c.accepted_bids-bids.ensures
     c.accepted_effects-effects.ensures c.ranking_of-ranked.ensures c.ranks_of-ranks.ensures.0 c.gains_of-gains.ensures.0 c.fill_table.ensures
     c.shut_words-shut.ensures c.first_free-free.ensures c.raise-largest.ensures c.empty_page-page.ensures c.search-first.ensures

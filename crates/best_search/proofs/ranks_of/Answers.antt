@@ -12,9 +12,9 @@ use Rattle.best_clash.specs.EngineClash.{RanksOf}
 use Rattle.best_search.proofs.ranks_of.Invariants.{Passed}
 use Rattle.best_search.proofs.ranks_of.Goals as goal
 
-one-passed : (bid : ℕ → ℕ) (ranked ranks : List ℕ) (bidders rank : ℕ) → InOrder bid bidders ranked → Passed ranked ranks bidders rank → rank < bidders → bidders ≤ 8 →
+one_passed : (bid : ℕ → ℕ) (ranked ranks : List ℕ) (bidders rank : ℕ) → InOrder bid bidders ranked → Passed ranked ranks bidders rank → rank < bidders → bidders ≤ 8 →
     (b next : ℕ) → b ≡ get_or ranked rank 0 → next ≡ suc rank → Passed ranked (set ranks b rank) bidders next
-one-passed bid ranked ranks bidders rank list h l few b next e n =
+one_passed bid ranked ranks bidders rank list h l few b next e n =
     let size = h.size in
     let low = (list.some rank l).1 in
     record {
@@ -36,8 +36,8 @@ one-passed bid ranked ranks bidders rank list h l few b next e n =
           (same_or_not i rank);
     }
 
-all-passed : (bid : ℕ → ℕ) (ranked ranks : List ℕ) (bidders rank : ℕ) → InOrder bid bidders ranked → Passed ranked ranks bidders rank → bidders ≤ rank → RanksOf bidders ranked ranks
-all-passed bid ranked ranks bidders rank list h past =
+all_passed : (bid : ℕ → ℕ) (ranked ranks : List ℕ) (bidders rank : ℕ) → InOrder bid bidders ranked → Passed ranked ranks bidders rank → bidders ≤ rank → RanksOf bidders ranked ranks
+all_passed bid ranked ranks bidders rank list h past =
     record {
       named = list.some;
       back = λ i l. h.told i (omega arith);
@@ -54,11 +54,11 @@ all-passed bid ranked ranks bidders rank list h past =
 pub loop-rank-preserved : goal.loop-rank-preserved
 loop-rank-preserved c =
     let p = c.requires in
-    one-passed p.1.0 _ _ _ _ p.1.1 c.loop-rank.invariant c.loop-rank-test.true p.0 _ _
+    one_passed p.1.0 _ _ _ _ p.1.1 c.loop-rank.invariant c.loop-rank-test.true p.0 _ _
     c.ranked_at-bidder.ensures c.next_rank-rank.ensures
 
 pub returns : goal.returns
 returns c =
     let p = c.requires in
     let v = c.loop-rank.invariant in
-    (all-passed p.1.0 _ _ _ _ p.1.1 v c.loop-rank-test.false, v.small)
+    (all_passed p.1.0 _ _ _ _ p.1.1 v c.loop-rank-test.false, v.small)

@@ -17,11 +17,11 @@ unfolding row
 row_stored f k out l =
     ap (λ (t : List ℕ). set (row f k ++ t) k (f k)) (drop-cons out k 0 l)
     ∙ set_at (row f k) (get_or out k 0) (drop (suc k) out) (f k) k (length-row f k)
-    ∙ append-cons (row f k) (f k) (drop (suc k) out)
+    ∙ append_cons (row f k) (f k) (drop (suc k) out)
   where
-    append-cons : (xs : List ℕ) (a : ℕ) (ys : List ℕ) → xs ++ a ∷ ys ≡ xs ++ (a ∷ []) ++ ys
-    append-cons [] a ys = refl
-    append-cons (x ∷ xs) a ys = ap (λ (t : List ℕ). x ∷ t) (append-cons xs a ys)
+    append_cons : (xs : List ℕ) (a : ℕ) (ys : List ℕ) → xs ++ a ∷ ys ≡ xs ++ (a ∷ []) ++ ys
+    append_cons [] a ys = refl
+    append_cons (x ∷ xs) a ys = ap (λ (t : List ℕ). x ∷ t) (append_cons xs a ys)
 
 pub loop-k-init : goal.loop-k-init
 unfolding row

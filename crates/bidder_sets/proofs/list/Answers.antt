@@ -35,8 +35,8 @@ module _ (word n : ℕ) (space₀ space : List ℕ) (count i : ℕ) (v : Put wor
       }
 
   -- or is not
-  put-passed : in_word word (i + 1) ≡ false → Put word n space₀ space count (i + 1)
-  put-passed e =
+  put_passed : in_word word (i + 1) ≡ false → Put word n space₀ space count (i + 1)
+  put_passed e =
       let next = add-one i in
       let few = v.few in
       let same : rising_members (in_word word) i ≡ rising_members (in_word word) (i + 1)
@@ -53,5 +53,5 @@ loop-i-preserved c =
     let inside = c.loop-i-test.true in
     elim c.if-has.branch [
       | then-has w ↦ rw (w.space-is, w.count-is) (put_next _ _ _ _ _ _ turn.invariant inside (sym c.has.ensures ∙ w.if-has.true))
-      | else-has w ↦ rw (w.space-is, w.count-is) (put-passed _ _ _ _ _ _ turn.invariant inside (sym c.has.ensures ∙ w.if-has.false))
+      | else-has w ↦ rw (w.space-is, w.count-is) (put_passed _ _ _ _ _ _ turn.invariant inside (sym c.has.ensures ∙ w.if-has.false))
     ]

@@ -13,11 +13,11 @@ use Rattle.check_constraints.proofs.RisingLaws.{order_refusal_lem, terms-first}
 use Rattle.check_constraints.proofs.first_refusal.Goals as goal
 
 -- the four bytes that a turn reads are the constraint's fields
-read-terms : (s : List ℕ) {start bidders slots : ℕ} (k : ℕ) → start ≡ constraints_start s → bidders ≡ bidder_count s → slots ≡ slot_count s →
+read_terms : (s : List ℕ) {start bidders slots : ℕ} (k : ℕ) → start ≡ constraints_start s → bidders ≡ bidder_count s → slots ≡ slot_count s →
     let at = start + 4 * k in
     fields_refusal bidders slots (byte_at s at) (byte_at s (at + 1)) (byte_at s (at + 2)) (byte_at s (at + 3)) ≡ terms_refusal s k
 unfolding terms_refusal owner_field own_slot_field other_field other_slot_field
-read-terms s k p q r = rw (p, q, r)
+read_terms s k p q r = rw (p, q, r)
 
 pub loop-k-init : goal.loop-k-init
 unfolding first_over
@@ -27,7 +27,7 @@ pub returns-then-refusal-ne0 : goal.returns-then-refusal-ne0
 returns-then-refusal-ne0 c =
     let s = c.args.sheet.now in
     let k = c.loop-k.k in
-    let terms = c.constraint_refusal-refusal.ensures ∙ read-terms s k c.requires.start_value.0 c.requires.bidders_value.0 c.requires.bidders_value.1 in
+    let terms = c.constraint_refusal-refusal.ensures ∙ read_terms s k c.requires.start_value.0 c.requires.bidders_value.0 c.requires.bidders_value.1 in
     let refused : terms_refusal s k ≡ 0 → ⊥ = λ z. c.if-refusal-ne0.true (terms ∙ z) in
     let first = terms-first s k refused in
     terms ∙ sym first ∙ sym (first_found (constraint_refusal s) k _ c.loop-k-test.true c.loop-k.invariant.none (λ z. refused (sym first ∙ z)))
@@ -37,7 +37,7 @@ returns-then-rising-number c =
     let s = c.args.sheet.now in
     let k = c.loop-k.k in
     let low : (i : ℕ) → byte_at s i < 256 = λ i. omega (arith, c.shared_slice_known-1.given i) in
-    let terms = sym (c.constraint_refusal-refusal.ensures ∙ read-terms s k c.requires.start_value.0 c.requires.bidders_value.0 c.requires.bidders_value.1) ∙ c.if-refusal-ne0.false in
+    let terms = sym (c.constraint_refusal-refusal.ensures ∙ read_terms s k c.requires.start_value.0 c.requires.bidders_value.0 c.requires.bidders_value.1) ∙ c.if-refusal-ne0.false in
     let number = c.order_number-number.ensures ∙ word_number s low _ _ k c.requires.start_value.0 c.word32.ensures in
     let is = order_refusal_lem s low k terms c.requires.bidders_value.2 number c.loop-k.invariant.last c.if-rising-number.true in
     sym (first_found (constraint_refusal s) k _ c.loop-k-test.true c.loop-k.invariant.none (λ z. absurd (let no : 28 ≡ 0 = sym is ∙ z in omega arith)) ∙ is)
@@ -47,7 +47,7 @@ loop-k-preserved c =
     let s = c.args.sheet.now in
     let k = c.loop-k.k in
     let low : (i : ℕ) → byte_at s i < 256 = λ i. omega (arith, c.shared_slice_known-1.given i) in
-    let terms = sym (c.constraint_refusal-refusal.ensures ∙ read-terms s k c.requires.start_value.0 c.requires.bidders_value.0 c.requires.bidders_value.1) ∙ c.if-refusal-ne0.false in
+    let terms = sym (c.constraint_refusal-refusal.ensures ∙ read_terms s k c.requires.start_value.0 c.requires.bidders_value.0 c.requires.bidders_value.1) ∙ c.if-refusal-ne0.false in
     let number = c.order_number-number.ensures ∙ word_number s low _ _ k c.requires.start_value.0 c.word32.ensures in
     let is = order_refusal_lem s low k terms c.requires.bidders_value.2 number c.loop-k.invariant.last c.if-rising-number.false in
     record { room = omega arith; none = rw add-one (first_next (constraint_refusal s) k c.loop-k.invariant.none is); last = rw add-one number }

@@ -19,9 +19,9 @@ read : (c : After-constraint_at-constraint) →
 read c = c.constraint_at-constraint.ensures ∙ sym (round_constraint _ c.requires.2 _ (omega arith))
 
 -- and proper
-read-proper : (c : After-constraint_at-constraint) → Proper c.constraint_at-constraint.result
+read_proper : (c : After-constraint_at-constraint) → Proper c.constraint_at-constraint.result
 unfolding round_of
-read-proper c =
+read_proper c =
     subst Proper (sym (read c)) ((round_proper _ c.requires.2).proper _ (c.loop-i.i, omega arith, refl))
 
 pub loop-i-init : goal.loop-i-init
@@ -35,7 +35,7 @@ constraint_at-constraint-requires c = (c.constraints_start-start.ensures, omega 
 pub list-requires : goal.list-requires
 list-requires c =
     let q = c.constraint_at-constraint.result in
-    (c.loop-i.invariant.1.sized, kind_in_range q.owner.0 q.kind (read-proper (goal.at.list-requires c).After-constraint_at-constraint).parts)
+    (c.loop-i.invariant.1.sized, kind_in_range q.owner.0 q.kind (read_proper (goal.at.list-requires c).After-constraint_at-constraint).parts)
 
 pub loop-i-preserved : goal.loop-i-preserved
 loop-i-preserved c =

@@ -10,7 +10,7 @@ use Rattle.sheet.specs.Proper.{Proper}
 use Rattle.sheet.proofs.AcceptedLaws.{accepted-sheet}
 use Rattle.sheet.proofs.RoundLaws.{round_constraint, round_proper}
 use Rattle.auction.specs.Broken.{breaks_own}
-use Rattle.gain.proofs.breaks_own.Invariants.{brokenAt, ownBroken}
+use Rattle.gain.proofs.breaks_own.Invariants.{broken_at, ownBroken}
 use Rattle.gain.proofs.breaks_own.Goals.{After-constraint_at-constraint, After-own_broken}
 use Rattle.gain.proofs.breaks_own.Goals as goal
 
@@ -20,7 +20,7 @@ read : (c : After-constraint_at-constraint) →
 read c = c.constraint_at-constraint.ensures ∙ sym (round_constraint _ c.requires.0 _ (omega arith))
 
 -- and what it tests is the round's too
-tested : (c : After-own_broken) → c.own_broken.result ≡ brokenAt c.args.truth.now c.args.page c.args.bidder.0 c.loop-a.a
+tested : (c : After-own_broken) → c.own_broken.result ≡ broken_at c.args.truth.now c.args.page c.args.bidder.0 c.loop-a.a
 tested c =
     c.own_broken.ensures
     ∙ ap (ownBroken _ _) (c.constraint_at-constraint.ensures ∙ sym (round_constraint _ c.requires.0 _ (omega arith)))

@@ -17,11 +17,11 @@ abbrev pub ownBroken : Page → ℕ → Constraint → Bool
 ownBroken p i q = eqb q.owner.0 i && broken p q
 
 -- the sheet's constraint at an index is so
-abbrev pub brokenAt : List ℕ → Page → ℕ → ℕ → Bool
-brokenAt s p i a = ownBroken p i (constraint_at (round_of s) a)
+abbrev pub broken_at : List ℕ → Page → ℕ → ℕ → Bool
+broken_at s p i a = ownBroken p i (constraint_at (round_of s) a)
 
 abbrev pub invariant-loop-a : goal.invariant-loop-a
-invariant-loop-a l = (l.a ≤ l.used) × (any_below (brokenAt l.truth l.page l.bidder.0) l.a ≡ false)
+invariant-loop-a l = (l.a ≤ l.used) × (any_below (broken_at l.truth l.page l.bidder.0) l.a ≡ false)
 
 abbrev pub decreases-loop-a : goal.decreases-loop-a
 decreases-loop-a l = l.used - l.a

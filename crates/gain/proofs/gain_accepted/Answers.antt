@@ -12,10 +12,10 @@ use Rattle.gain.proofs.gain_accepted.Goals.{Else-later-ne0}
 use Rattle.gain.proofs.gain_accepted.Goals as goal
 
 -- 14 to 17 leave the call
-none-later : (c : Else-later-ne0) →
+none_later : (c : Else-later-ne0) →
     let given = c.args in
     later_refusal given.played.now given.truth.now given.bidder given.worth ≡ 0
-none-later c = sym c.later_refusal-later.ensures ∙ c.if-later-ne0.false
+none_later c = sym c.later_refusal-later.ensures ∙ c.if-later-ne0.false
 
 pub returns-then-later-ne0 : goal.returns-then-later-ne0
 returns-then-later-ne0 c = λ floors asked.
@@ -26,10 +26,10 @@ returns-then-later-ne0 c = λ floors asked.
     ∙ ap (λ (n : ℕ). gained_for n r given.truth.now given.bidder given.worth) c.later_refusal-later.ensures
 
 pub overflow_cast-bidder : goal.overflow_cast-bidder
-overflow_cast-bidder c = omega (arith, (later-accepted _ _ _ _ (none-later (goal.at.overflow_cast-bidder c).Else-later-ne0)).within_range, (accepted-sheet _ c.requires.0).counts)
+overflow_cast-bidder c = omega (arith, (later-accepted _ _ _ _ (none_later (goal.at.overflow_cast-bidder c).Else-later-ne0)).within_range, (accepted-sheet _ c.requires.0).counts)
 
 pub gain_of-requires : goal.gain_of-requires
-gain_of-requires c = let facts = later-accepted _ _ _ _ (none-later (goal.at.gain_of-requires c).Else-later-ne0) in (c.requires.0, c.requires.1, facts.truth, facts.low, facts.some)
+gain_of-requires c = let facts = later-accepted _ _ _ _ (none_later (goal.at.gain_of-requires c).Else-later-ne0) in (c.requires.0, c.requires.1, facts.truth, facts.low, facts.some)
 
 pub returns : goal.returns
 returns c = λ floors asked.
@@ -37,4 +37,4 @@ returns c = λ floors asked.
       refusal = 0;
       gain = (to_z-of_z {w = w64} {z = c.gain_of.result} (record { sfits = c.gain_of.type_inv }) ∙ c.gain_of.ensures floors asked) j;
     })
-    ∙ for_gained _ _ _ _ _ (none-later (goal.at.returns c).Else-later-ne0)
+    ∙ for_gained _ _ _ _ _ (none_later (goal.at.returns c).Else-later-ne0)

@@ -26,28 +26,28 @@ here : (c : After-struct_known-2-1) (floors : List ℕ) (asked : Asked (tick_fie
 here c floors asked = stands _ _ _ _ _ _ _ _ _ c.requires.4 _ (sym c.slot_of-slot.ensures) (omega arith)
 
 -- some such floors are lent
-some-floors : (c : After-struct_known-2-1) →
+some_floors : (c : After-struct_known-2-1) →
     Stands c.args.played.now c.requires.0 c.requires.1.0 c.requires.1.1.proper (round_of c.args.truth.now) c.args.bidder.0 c.args.worth
     c.played-outcome.result
     (c.played-outcome.ensures c.requires.1.0 c.requires.1.1)
     c.slot_of-slot.result.0
-some-floors c = here c c.requires.1.0 c.requires.1.1
+some_floors c = here c c.requires.1.0 c.requires.1.1
 
 pub returns-then-slot-eq0 : goal.returns-then-slot-eq0
 returns-then-slot-eq0 c = λ floors asked.
     gain-none _ c.requires.0 floors asked.proper _ _ _ _ (c.played-outcome.ensures floors asked) (omega arith)
 
 pub effect_at-effect-requires : goal.effect_at-effect-requires
-effect_at-effect-requires c = (c.requires.0, omega arith, omega (arith, (some-floors (goal.at.effect_at-effect-requires c).After-struct_known-2-1).most_slot))
+effect_at-effect-requires c = (c.requires.0, omega arith, omega (arith, (some_floors (goal.at.effect_at-effect-requires c).After-struct_known-2-1).most_slot))
 
 pub breaks_own-requires : goal.breaks_own-requires
-breaks_own-requires c = (c.requires.2, (some-floors (goal.at.breaks_own-requires c).After-struct_known-2-1).has_slot)
+breaks_own-requires c = (c.requires.2, (some_floors (goal.at.breaks_own-requires c).After-struct_known-2-1).has_slot)
 
 pub bounds-outcome-k : goal.bounds-outcome-k
-bounds-outcome-k c = omega (arith, (some-floors (goal.at.bounds-outcome-k c).After-struct_known-2-1).most_slot, (accepted-sheet _ c.requires.0).counts)
+bounds-outcome-k c = omega (arith, (some_floors (goal.at.bounds-outcome-k c).After-struct_known-2-1).most_slot, (accepted-sheet _ c.requires.0).counts)
 
 pub gain_if-requires : goal.gain_if-requires
-gain_if-requires c = let h = some-floors (goal.at.gain_if-requires c).After-struct_known-2-1 in (omega (arith, h.low_effect), c.requires.3, h.low_price)
+gain_if-requires c = let h = some_floors (goal.at.gain_if-requires c).After-struct_known-2-1 in (omega (arith, h.low_effect), c.requires.3, h.low_price)
 
 pub returns : goal.returns
 returns c = λ floors asked.

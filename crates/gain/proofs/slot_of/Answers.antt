@@ -29,8 +29,8 @@ loop-k-preserved c =
     let p = c.args.page in
     let i = c.args.bidder.0 in
     let k = c.loop-k.k in
-    let not-here : at p (suc k) ≡ i → ⊥ = eqb-false (at p (suc k)) i (ap (λ (x : ℕ). eqb (at p x) i) (sym (add-one k)) ∙ sym c.stands.ensures ∙ c.if-stands.false) in
-    (omega arith, rw (add-one k) (first_next (seen p i) k c.loop-k.invariant.1 (seen_not p i k not-here)))
+    let not_here : at p (suc k) ≡ i → ⊥ = eqb-false (at p (suc k)) i (ap (λ (x : ℕ). eqb (at p x) i) (sym (add-one k)) ∙ sym c.stands.ensures ∙ c.if-stands.false) in
+    (omega arith, rw (add-one k) (first_next (seen p i) k c.loop-k.invariant.1 (seen_not p i k not_here)))
 
 pub returns : goal.returns
 unfolding slot_of

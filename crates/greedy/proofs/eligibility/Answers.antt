@@ -19,17 +19,17 @@ use Rattle.greedy.proofs.eligibility.Goals.{After-is_marked, After-is_marked-not
 use Rattle.greedy.proofs.eligibility.Goals as goal
 
 -- who stands where was asked by the candidate's number
-held-told : (c : After-is_marked) → c.is_marked.result ≡ is_marked c.args.held.now c.args.bidder.0
-held-told c =
+held_told : (c : After-is_marked) → c.is_marked.result ≡ is_marked c.args.held.now c.args.bidder.0
+held_told c =
     let e = c.owner_key-anywhere.ensures in
     let any : c.owner_key-anywhere.result.0 ≡ c.args.bidder.0 = omega arith in
     c.is_marked.ensures ∙ ap (is_marked c.args.held.now) any
 
 -- whom the bars keep from the slot, or from any, was asked by the candidate's two keys
-bars-told : (c : After-is_marked-not_here) →
+bars_told : (c : After-is_marked-not_here) →
     (c.is_marked-never.result || c.is_marked-not_here.result)
     ≡ (is_marked c.args.barred.now c.args.bidder.0 || is_marked c.args.barred.now (key c.args.bidder.0 c.args.slot.0))
-bars-told c =
+bars_told c =
     let a = c.args in
     let e = c.owner_key-anywhere.ensures in
     let any : c.owner_key-anywhere.result.0 ≡ a.bidder.0 = omega arith in
@@ -38,7 +38,7 @@ bars-told c =
     (c.is_marked-not_here.ensures ∙ ap (is_marked a.barred.now) c.owner_key-here.ensures)
 
 -- the tests after the first, in their order, are the step's
-later-tests : (c : After-is_marked-not_here) (q : Round) (p : Page) →
+later_tests : (c : After-is_marked-not_here) (q : Round) (p : Page) →
     let a = c.args in
     let named = c.named_by-named.result in
     SoFar q p a.sheet.now a.barred.now a.held.now a.bids.now a.asks a.slot.0 →
@@ -47,7 +47,7 @@ later-tests : (c : After-is_marked-not_here) (q : Round) (p : Page) →
     4 when ltb (bid_in a.bids.now a.bidder.0) a.asks otherwise
     0)
     ≡ first_failed q p a.slot.0 a.bidder.0
-later-tests c q p far =
+later_tests c q p far =
     let a = c.args in
     let e = c.owner_key-anywhere.ensures in
     let any : c.owner_key-anywhere.result.0 ≡ a.bidder.0 = omega arith in
@@ -57,7 +57,7 @@ later-tests c q p far =
     let s = round_of a.sheet.now in
     ap
     (λ (t : Bool). 2 when named.earlier otherwise 3 when named.itself || t otherwise 4 when ltb (bid_in a.bids.now a.bidder.0) a.asks otherwise 0)
-    (bars-told c)
+    (bars_told c)
     ∙ first_unplaced q p a.sheet.now a.barred.now a.held.now a.bids.now a.asks a.slot.0 a.bidder.0 far range.0.0 range.0.1 range.1.0 range.1.1
     (sym held ∙ c.if-is_marked.false)
     named
@@ -70,22 +70,22 @@ returns-then-is_marked c = λ q p far.
     let a = c.args in
     let range = c.requires.bidder_nonzero in
     first-placed q p a.sheet.now a.barred.now a.held.now a.bids.now a.asks a.slot.0 a.bidder.0 far range.0.0 range.0.1 range.1.0 range.1.1
-    (sym (held-told (goal.at.returns-then-is_marked c).After-is_marked) ∙ c.if-is_marked.true)
+    (sym (held_told (goal.at.returns-then-is_marked c).After-is_marked) ∙ c.if-is_marked.true)
 
 pub returns-then-earlier : goal.returns-then-earlier
 unfolding failed_test
-returns-then-earlier c = λ q p far. sym (simp c.if-earlier.true) ∙ later-tests (goal.at.returns-then-earlier c).After-is_marked-not_here q p far
+returns-then-earlier c = λ q p far. sym (simp c.if-earlier.true) ∙ later_tests (goal.at.returns-then-earlier c).After-is_marked-not_here q p far
 
 pub returns-then-own : goal.returns-then-own
 unfolding failed_test
-returns-then-own c = λ q p far. sym (simp (c.if-earlier.false, c.if-own.true)) ∙ later-tests (goal.at.returns-then-own c).After-is_marked-not_here q p far
+returns-then-own c = λ q p far. sym (simp (c.if-earlier.false, c.if-own.true)) ∙ later_tests (goal.at.returns-then-own c).After-is_marked-not_here q p far
 
 pub returns-then-is_below : goal.returns-then-is_below
 unfolding failed_test
 returns-then-is_below c = λ q p far.
-    sym (simp (c.if-earlier.false, c.if-own.false, sym c.is_below.ensures ∙ c.if-is_below.true)) ∙ later-tests (goal.at.returns-then-is_below c).After-is_marked-not_here q p far
+    sym (simp (c.if-earlier.false, c.if-own.false, sym c.is_below.ensures ∙ c.if-is_below.true)) ∙ later_tests (goal.at.returns-then-is_below c).After-is_marked-not_here q p far
 
 pub returns : goal.returns
 unfolding failed_test
 returns c = λ q p far.
-    sym (simp (c.if-earlier.false, c.if-own.false, sym c.is_below.ensures ∙ c.if-is_below.false)) ∙ later-tests (goal.at.returns c).After-is_marked-not_here q p far
+    sym (simp (c.if-earlier.false, c.if-own.false, sym c.is_below.ensures ∙ c.if-is_below.false)) ∙ later_tests (goal.at.returns c).After-is_marked-not_here q p far

@@ -13,8 +13,8 @@ loop-slot-init c =
     record {
       first = omega arith;
       most = omega arith;
-      size-barred = refl;
-      size-held = refl;
+      size_barred = refl;
+      size_held = refl;
       filled = λ r lent. rw c.empty_page-page.ensures (filled_start r lent.proper);
     }
 
@@ -46,8 +46,8 @@ loop-slot-preserved c =
     record {
       first = omega arith;
       most = omega arith;
-      size-barred = c.settle.auto.barred ∙ v.size-barred;
-      size-held = c.settle.auto.held ∙ v.size-held;
+      size_barred = c.settle.auto.barred ∙ v.size_barred;
+      size_held = c.settle.auto.held ∙ v.size_held;
       filled = λ r lent.
           rw (c.with_bidder-page.ensures, c.price_index-index.ensures, next)
           (slot_filled r _ _ _ _ _ _ _ _ _ lent _ _ _ _ _ _ _ s v.first below c.asked_at-asked.ensures (v.filled r lent) c.award_slot-awarded.ensures _ _

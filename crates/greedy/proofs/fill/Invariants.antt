@@ -13,8 +13,8 @@ use Rattle.greedy.proofs.fill.Given as goal
 pub record Going (s : List ℕ) (start : ℕ) (last links bids asks : List ℕ) (bidders slots tick : ℕ) (barred held : List ℕ) (page : Page) (prices : List ℕ) (slot : ℕ) : Type 0 where
   pub first : 0 < slot
   pub most : slot ≤ suc slots
-  pub size-barred : length barred ≡ 1089
-  pub size-held : length held ≡ 1089
+  pub size_barred : length barred ≡ 1089
+  pub size_held : length held ≡ 1089
   pub filled : (r : Round) → Lent r s start last links bids asks bidders slots tick → Filled r (slot - 1) barred held page prices
 
 abbrev pub invariant-loop-slot : goal.invariant-loop-slot

@@ -36,9 +36,9 @@ answered c q p far a e =
     ∙ ap (first_failed q p c.args.slot.0) c.ranked_at-bidder.ensures
 
 -- from a bidder below the floor on nobody is eligible
-below-from : (q : Round) (p : Page) (s ranked barred held bids : List ℕ) (asks bidders slot i j : ℕ) → SoFar q p s barred held bids asks slot →
+below_from : (q : Round) (p : Page) (s ranked barred held bids : List ℕ) (asks bidders slot i j : ℕ) → SoFar q p s barred held bids asks slot →
     InOrder (bid_in bids) bidders ranked → bid_of q (get_or ranked i 0) < floor_of q slot → i ≤ j → j < bidders → eligible q p slot (get_or ranked j 0) ≡ false
-below-from q p s ranked barred held bids asks bidders slot i j far o below m l =
+below_from q p s ranked barred held bids asks bidders slot i j far o below m l =
     let b = get_or ranked j 0 in
     let no_more : bid_in bids b ≤ bid_in bids (get_or ranked i 0) = ranked-falls (bid_in bids) bidders ranked o i j m l in
     let lower = lent_bid q bids far.bids_are (get_or ranked i 0) in
@@ -46,12 +46,12 @@ below-from q p s ranked barred held bids asks bidders slot i j far o below m l =
     fails (eligible q p slot b) (λ e. let reaches = eligible-reaches q p slot b e in absurd (omega arith))
 
 -- the three other answers say that the bidder is not eligible
-not-eligible : (c : Joined-answer) (q : Round) (p : Page) →
+not_eligible : (c : Joined-answer) (q : Round) (p : Page) →
     let given = c.args in
     SoFar q p given.sheet.now given.barred.now given.held.now given.bids.now given.asks given.slot.0 →
     eligible q p given.slot.0 (get_or given.ranked.now c.loop-i.i 0) ≡ false
 unfolding failed_test eligible
-not-eligible c q p far =
+not_eligible c q p far =
     let told : (a : Eligibility) → c.eligibility-answer.result ≡ a → failed_test a ≡ first_failed q p c.args.slot.0 (get_or c.args.ranked.now c.loop-i.i 0)
     = λ a e. ap failed_test (sym e) ∙ c.eligibility-answer.ensures q p far ∙ ap (first_failed q p c.args.slot.0) c.ranked_at-bidder.ensures in
     elim c.match-answer.branch [
@@ -85,7 +85,7 @@ returns-in-BelowFloor-clause-next_at c =
       passed = λ j from under.
           ⊎_elim
           (λ (l : j < i). v.passed q p far j from l)
-          (λ (l : i ≤ j). below-from q p _ _ _ _ _ _ _ _ _ j far c.requires.in_order below l under)
+          (λ (l : i ≤ j). below_from q p _ _ _ _ _ _ _ _ _ j far c.requires.in_order below l under)
           (below_or_not j i);
       here = λ more. absurd (omega arith);
     }
@@ -102,7 +102,7 @@ loop-i-preserved c =
       high = omega arith;
       passed = λ q p far j from under.
           ⊎_elim
-          (λ (e : j ≡ i). ap (λ (z : ℕ). eligible q p a.slot.0 (get_or a.ranked.now z 0)) e ∙ not-eligible (goal.at.loop-i-preserved c).Joined-answer q p far)
+          (λ (e : j ≡ i). ap (λ (z : ℕ). eligible q p a.slot.0 (get_or a.ranked.now z 0)) e ∙ not_eligible (goal.at.loop-i-preserved c).Joined-answer q p far)
           (λ (lt : j < i). v.passed q p far j from lt)
           (eq-or-lt_of_le (let s : j ≤ i = omega arith in s));
     }

@@ -17,11 +17,11 @@ use Rattle.greedy.specs.EngineEligible.{Lent}
 use Rattle.greedy.proofs.played.Goals as goal
 
 -- what is lent on is the round's, with the floors
-lent-on : (s : List ℕ) (start : ℕ) (last links bids floors asks : List ℕ) (tick : ℕ) → Accepted s → Asked (tick_field s) (slot_count s) floors asks → start ≡ constraints_start s →
+lent_on : (s : List ℕ) (start : ℕ) (last links bids floors asks : List ℕ) (tick : ℕ) → Accepted s → Asked (tick_field s) (slot_count s) floors asks → start ≡ constraints_start s →
     Linked (round_of s) (round_of s).used last links → bids ≡ (round_of s).bids → tick ≡ tick_field s →
     Lent (with_floors (round_of s) floors) s start last links bids asks (bidder_count s) (slot_count s) tick
 unfolding round_of with_floors
-lent-on s start last links bids floors asks tick ok asked starts linked bids_are tick_is =
+lent_on s start last links bids floors asks tick ok asked starts linked bids_are tick_is =
     record {
       proper = floors-proper (round_of s) floors (round_proper s ok) asked.proper;
       kept = record { accepted = ok; starts = starts; linked = linked };
@@ -59,10 +59,10 @@ pub fill-requires : goal.fill-requires
 fill-requires c =
     let floors = c.requires.1.0 in (
       with_floors (round_of c.args.sheet.now) floors,
-      lent-on _ _ _ _ _ floors _ _ c.requires.0 c.requires.1.1 c.constraints_start-start.ensures c.link_all.ensures c.accepted_bids-bids.ensures c.tick_of-tick.ensures,
+      lent_on _ _ _ _ _ floors _ _ c.requires.0 c.requires.1.1 c.constraints_start-start.ensures c.link_all.ensures c.accepted_bids-bids.ensures c.tick_of-tick.ensures,
     )
 
 pub returns : goal.returns
 returns c = λ floors asked.
     c.fill.ensures (with_floors (round_of c.args.sheet.now) floors)
-    (lent-on _ _ _ _ _ floors _ _ c.requires.0 asked c.constraints_start-start.ensures c.link_all.ensures c.accepted_bids-bids.ensures c.tick_of-tick.ensures)
+    (lent_on _ _ _ _ _ floors _ _ c.requires.0 asked c.constraints_start-start.ensures c.link_all.ensures c.accepted_bids-bids.ensures c.tick_of-tick.ensures)

@@ -1,6 +1,5 @@
 -- `greedy_links::enter` meets its contract: the two parts of the chain's key, and then one link more. Assumes nothing.
 use native.Mathlib.Omega.{arith}
-use Rattle.greedy_links.specs.EngineKeys.{chain_bidder, chain_slot}
 use Rattle.greedy_links.proofs.KeyLaws.{keys_fit}
 use Rattle.greedy_links.proofs.enter.Goals as goal
 

@@ -40,6 +40,6 @@ returns c =
     let all = le_antisymm v.0 c.loop-j-test.false in
     let sum = v.1 ∙ ap (sum_to (λ i. get_or c.args.counts.now i 0)) all in
     let most = v.2 ∙ ap (most_to (λ i. get_or c.args.counts.now i 0)) all in
-    let sum-few = sum_at-most (λ i. get_or c.args.counts.now i 0) 64 c.args.n (λ i l. few.2 i) in
-    let most-few = most-at-most (λ i. get_or c.args.counts.now i 0) 64 c.args.n (λ i l. few.2 i) in
+    let sum_few = sum_at-most (λ i. get_or c.args.counts.now i 0) 64 c.args.n (λ i l. few.2 i) in
+    let most_few = most-at-most (λ i. get_or c.args.counts.now i 0) 64 c.args.n (λ i l. few.2 i) in
     (sum, most, omega arith, omega arith)

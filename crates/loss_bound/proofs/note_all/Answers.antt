@@ -42,21 +42,21 @@ room c =
     omega arith
 
 -- and are its fields
-owner-read : (c : In-loop-k) → get_or (sheet c) (c.args.start + 4 * index c) 0 ≡ owner_field (sheet c) (index c)
+owner_read : (c : In-loop-k) → get_or (sheet c) (c.args.start + 4 * index c) 0 ≡ owner_field (sheet c) (index c)
 unfolding owner_field
-owner-read c = ap (λ (x : ℕ). get_or (sheet c) (x + 4 * index c) 0) c.requires.1
+owner_read c = ap (λ (x : ℕ). get_or (sheet c) (x + 4 * index c) 0) c.requires.1
 
 own_read : (c : In-loop-k) → get_or (sheet c) (c.args.start + 4 * index c + 1) 0 ≡ own_slot_field (sheet c) (index c)
 unfolding own_slot_field
 own_read c = ap (λ (x : ℕ). get_or (sheet c) (x + 4 * index c + 1) 0) c.requires.1
 
-other-read : (c : In-loop-k) → get_or (sheet c) (c.args.start + 4 * index c + 2) 0 ≡ other_field (sheet c) (index c)
+other_read : (c : In-loop-k) → get_or (sheet c) (c.args.start + 4 * index c + 2) 0 ≡ other_field (sheet c) (index c)
 unfolding other_field
-other-read c = ap (λ (x : ℕ). get_or (sheet c) (x + 4 * index c + 2) 0) c.requires.1
+other_read c = ap (λ (x : ℕ). get_or (sheet c) (x + 4 * index c + 2) 0) c.requires.1
 
-others-read : (c : In-loop-k) → get_or (sheet c) (c.args.start + 4 * index c + 3) 0 ≡ other_slot_field (sheet c) (index c)
+others_read : (c : In-loop-k) → get_or (sheet c) (c.args.start + 4 * index c + 3) 0 ≡ other_slot_field (sheet c) (index c)
 unfolding other_slot_field
-others-read c = ap (λ (x : ℕ). get_or (sheet c) (x + 4 * index c + 3) 0) c.requires.1
+others_read c = ap (λ (x : ℕ). get_or (sheet c) (x + 4 * index c + 3) 0) c.requires.1
 
 pub loop-k-init : goal.loop-k-init
 unfolding all_below
@@ -85,13 +85,13 @@ bounds-sheet-at-in-loop-k c = let inside = room (goal.at.bounds-sheet-at-in-loop
 pub returns-then-others-eq0 : goal.returns-then-others-eq0
 returns-then-others-eq0 c =
     let t = (goal.at.returns-then-others-eq0 c).In-loop-k in
-    (sym (no_other (sheet t) (index t) _ (index_below t) (sym (others-read t) ∙ c.if-others-eq0.true)), λ e. absurd (false≢true e))
+    (sym (no_other (sheet t) (index t) _ (index_below t) (sym (others_read t) ∙ c.if-others-eq0.true)), λ e. absurd (false≢true e))
 
 pub returns-then-own-others : goal.returns-then-own-others
 returns-then-own-others c =
     let t = (goal.at.returns-then-own-others c).In-loop-k in
     let less = c.if-own-others.true in
-    let same = others-read t in
+    let same = others_read t in
     let same' = own_read t in
     (sym (not_above (sheet t) (index t) _ (index_below t) (omega arith)), λ e. absurd (false≢true e))
 
@@ -100,9 +100,9 @@ pub note-requires : goal.note-requires
 note-requires c =
     let t = (goal.at.note-requires c).In-loop-k in
     let facts = accepted t in
-    let owner = owner-read t in
-    let other = other-read t in
-    let others = others-read t in
+    let owner = owner_read t in
+    let other = other_read t in
+    let others = others_read t in
     let some' : 0 < other_slot_field (sheet t) (index t) = omega arith in
     let some = rival_some facts some' in
     let v = c.loop-k.invariant.2 in
@@ -114,9 +114,9 @@ loop-k-preserved c =
     let t = (goal.at.loop-k-preserved c).In-loop-k in
     let facts = accepted t in
     let v = c.loop-k.invariant in
-    let owner = owner-read t in
-    let other = other-read t in
-    let others = others-read t in
+    let owner = owner_read t in
+    let other = other_read t in
+    let others = others_read t in
     let own = own_read t in
     let some : 0 < other_slot_field (sheet t) (index t) = omega arith in
     let above : other_slot_field (sheet t) (index t) < own_slot_field (sheet t) (index t) = omega arith in

@@ -10,9 +10,9 @@ use Rattle.owner_part.proofs.OwnerLaws.{owners_rise, first_is}
 use Rattle.owner_part.proofs.first_from.Goals as goal
 
 -- the byte that a turn reads is the middle constraint's owner
-owner-read : (s : List ℕ) (start k : ℕ) → start ≡ constraints_start s → byte_at s (start + 4 * k) ≡ owner_field s k
+owner_read : (s : List ℕ) (start k : ℕ) → start ≡ constraints_start s → byte_at s (start + 4 * k) ≡ owner_field s k
 unfolding owner_field
-owner-read s start k e = ap (λ (x : ℕ). byte_at s (x + 4 * k)) e
+owner_read s start k e = ap (λ (x : ℕ). byte_at s (x + 4 * k)) e
 
 pub overflow_mul-middle : goal.overflow_mul-middle
 overflow_mul-middle c = omega (arith, room _ c.requires.0)
@@ -28,7 +28,7 @@ loop-low-preserved-then-wide-owner c =
     let l = c.loop-low in
     let s = c.args.sheet.now in
     let middle = l.low + (l.high - l.low) / 2 in
-    let here = owner-read s c.args.start middle c.requires.2 in
+    let here = owner_read s c.args.start middle c.requires.2 in
     let count = c.requires.3 in (
       omega arith,
       omega arith,
@@ -41,7 +41,7 @@ loop-low-preserved c =
     let l = c.loop-low in
     let s = c.args.sheet.now in
     let middle = l.low + (l.high - l.low) / 2 in
-    let here = owner-read s c.args.start middle c.requires.2 in
+    let here = owner_read s c.args.start middle c.requires.2 in
     let count = c.requires.3 in (
       omega arith,
       omega arith,

@@ -14,19 +14,19 @@ put_small text at n h =
     subst (λ (bytes : List ℕ). Put text at bytes (at + 1) (set text at (digit n))) (sym (decimal-small n h))
     (record { next = refl; buffer = refl })
 
-put-large : (text text' : List ℕ) (at middle n : ℕ) → 10 ≤ n → Put text at (decimal (n / 10)) middle text' →
+put_large : (text text' : List ℕ) (at middle n : ℕ) → 10 ≤ n → Put text at (decimal (n / 10)) middle text' →
     Put text at (decimal n) (middle + 1) (set text' middle (digit (n % 10)))
-put-large text text' at middle n h p =
+put_large text text' at middle n h p =
     subst (λ (bytes : List ℕ). Put text at bytes (middle + 1) (set text' middle (digit (n % 10)))) (sym (decimal_large n h))
     (put_byte_after (decimal (n / 10)) text text' at middle (digit (n % 10)) p)
 
 -- the room that a number asks: one byte below 10, and else one more than its tenth part asks
-small-room : (n : ℕ) → n < 10 → length (decimal n) ≡ 1
-small-room n h = ap length (decimal-small n h)
+small_room : (n : ℕ) → n < 10 → length (decimal n) ≡ 1
+small_room n h = ap length (decimal-small n h)
 
 pub bounds-text-at : goal.bounds-text-at
 bounds-text-at t c =
-    let room = small-room c.args.value c.if-value-lt10.true in
+    let room = small_room c.args.value c.if-value-lt10.true in
     omega arith
 
 pub returns-then-value-lt10 : goal.returns-then-value-lt10
@@ -52,6 +52,6 @@ overflow_add-result-2 t c =
 pub returns : goal.returns
 returns t c =
     let args = c.args in
-    put-large args.text.now c.put_decimal-last.new.text
+    put_large args.text.now c.put_decimal-last.new.text
     args.at c.put_decimal-last.result args.value
     c.if-value-lt10.false c.put_decimal-last.ensures

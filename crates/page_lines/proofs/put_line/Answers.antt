@@ -31,8 +31,8 @@ unfolding line
 returns c =
     let args = c.args in
     let put-field = c.put_field-after_slot in
-    let put-field2 = c.put_field-after_bidder in
+    let put_field2 = c.put_field-after_bidder in
     put_third (field args.slot space) (field args.bidder space) (field args.price newline)
-    args.text.now put-field.new.text put-field2.new.text c.put_field.new.text
-    args.at put-field.result put-field2.result c.put_field.result
-    put-field.ensures put-field2.ensures c.put_field.ensures
+    args.text.now put-field.new.text put_field2.new.text c.put_field.new.text
+    args.at put-field.result put_field2.result c.put_field.result
+    put-field.ensures put_field2.ensures c.put_field.ensures

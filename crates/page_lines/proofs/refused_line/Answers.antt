@@ -17,8 +17,8 @@ pub returns : goal.returns
 unfolding refused_line
 returns c =
     let args = c.args in
-    let put-bytes = c.put_bytes-after in
+    let put_bytes = c.put_bytes-after in
     let room = refused_short args.number (omega arith) in
     put_in_front (refused_line args.number) args.text.now c.put_field.new.text c.put_field.result (omega arith)
-    (put_after refused_word (field args.number newline) args.text.now put-bytes.new.text c.put_field.new.text
-    0 put-bytes.result c.put_field.result put-bytes.ensures c.put_field.ensures)
+    (put_after refused_word (field args.number newline) args.text.now put_bytes.new.text c.put_field.new.text
+    0 put_bytes.result c.put_field.result put_bytes.ensures c.put_field.ensures)

@@ -25,10 +25,10 @@ unfolding result_lines joined
 no_lines result text = put-nothing text 0
 
 -- the lines of k slots, and the next one where they end
-line-more : (result text₀ text text' bytes : List ℕ) (k at end : ℕ) → bytes ≡ result_line result (suc k) →
+line_more : (result text₀ text text' bytes : List ℕ) (k at end : ℕ) → bytes ≡ result_line result (suc k) →
     Put text₀ 0 (result_lines result k) at text → Put text at bytes end text' → Put text₀ 0 (result_lines result (k + 1)) end text'
 unfolding result_lines joined
-line-more result text₀ text text' bytes k at end e p q =
+line_more result text₀ text text' bytes k at end e p q =
     subst (λ (n : ℕ). Put text₀ 0 (result_lines result n) end text') (sym (add-one k))
     (put_after (result_lines result k) (result_line result (suc k)) text₀ text text' 0 at end p
     (subst (λ (l : List ℕ). Put text at l end text') e q))
@@ -67,7 +67,7 @@ loop-k-preserved c =
       size = c.put_line-at.auto.text ∙ v.size;
       short = omega arith;
       put =
-          line-more args.res.now args.text.now loop.text c.put_line-at.new.text
+          line_more args.res.now args.text.now loop.text c.put_line-at.new.text
           (line (loop.k + 1) wide.result word32.result) loop.k loop.at c.put_line-at.result
           (line_read args.res.now loop.k wide.result word32.result wide.ensures.0 word32.ensures)
           v.put put;

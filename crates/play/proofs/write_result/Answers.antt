@@ -16,12 +16,12 @@ use Rattle.greedy.specs.declared.Outcome.{Outcome}
 use Rattle.play.specs.EngineEntries.{entry_in}
 use Rattle.play.proofs.write_result.Goals as goal
 
-length-entry : (o : Outcome) (k : ℕ) → length (entry_in o k) ≡ 5
+length_entry : (o : Outcome) (k : ℕ) → length (entry_in o k) ≡ 5
 unfolding entry_in
-length-entry o k = ap suc (length-bytes32 (get_or o.prices k 0))
+length_entry o k = ap suc (length-bytes32 (get_or o.prices k 0))
 
 pub loop-k-init : goal.loop-k-init
-loop-k-init c = record { some = omega arith; size = refl; front = joined-none (entry_in c.args.outcome) 5 (length-entry c.args.outcome) _ }
+loop-k-init c = record { some = omega arith; size = refl; front = joined-none (entry_in c.args.outcome) 5 (length_entry c.args.outcome) _ }
 
 pub overflow_cast-res : goal.overflow_cast-res
 unfolding at
@@ -41,6 +41,6 @@ loop-k-preserved c =
           c.put_word32.ensures
           ∙ ap (λ (n : ℕ). sets (set c.loop-k.res (5 * k) (get_or o.page.bidders k (bidder 0)).0) n (bytes32 (get_or o.prices k 0))) (add-one (5 * k))
           ∙ ap (λ (l : List ℕ). sets l (5 * k) (entry_in o k)) v.front
-          ∙ joined-next (entry_in o) 5 (length-entry o) k c.args.res.now room
+          ∙ joined-next (entry_in o) 5 (length_entry o) k c.args.res.now room
           ∙ ap (λ (n : ℕ). joined (entry_in o) n ++ drop (5 * n) c.args.res.now) (sym (add-one k));
     }

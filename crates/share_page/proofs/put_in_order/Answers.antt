@@ -16,18 +16,18 @@ use Rattle.share_page.proofs.put_in_order.Goals.{After-first_in-next, Else-next-
 use Rattle.share_page.proofs.put_in_order.Goals as goal
 
 -- the turn's first is the next one,
-next-is : (c : After-first_in-next) →
+next_is : (c : After-first_in-next) →
     c.first_in-next.result
     ≡ turn_of (in_table c.args.table.now) c.args.members.now (in_word c.args.set.0) c.loop-k.k
-next-is c =
+next_is c =
     c.first_in-next.ensures
     ∙ words-next (in_table c.args.table.now) c.args.members.now c.requires.1 _ _ _ _ c.loop-k.invariant.rest
     c.rivals_of-rivals.ensures
     c.but-free.ensures
 
 -- and a member
-next-inside : (c : Else-next-eq0) → (0 < c.first_in-next.result) × (c.first_in-next.result ≤ 64)
-next-inside c =
+next_inside : (c : Else-next-eq0) → (0 < c.first_in-next.result) × (c.first_in-next.result ≤ 64)
+next_inside c =
     let told = c.first_in-next.ensures in
     let w = first_member c.args.members.now _ (λ e. c.if-next-eq0.false (told ∙ e)) in
     let at = c.requires.1 w.0 w.1 in
@@ -43,11 +43,11 @@ returns-then-next-eq0 c =
     let a = c.args in
     let none =
     none_found (in_table a.table.now) a.members.now (in_word a.set.0) c.loop-k.k (length a.members.now) c.loop-k-test.true
-    (sym (next-is (goal.at.returns-then-next-eq0 c).After-first_in-next) ∙ c.if-next-eq0.true) in
+    (sym (next_is (goal.at.returns-then-next-eq0 c).After-first_in-next) ∙ c.if-next-eq0.true) in
     (sym none, λ e. absurd (false≢true e))
 
 pub without-left-requires : goal.without-left-requires
-without-left-requires c = next-inside (goal.at.without-left-requires c).Else-next-eq0
+without-left-requires c = next_inside (goal.at.without-left-requires c).Else-next-eq0
 
 pub loop-k-preserved : goal.loop-k-preserved
 loop-k-preserved c =
@@ -56,7 +56,7 @@ loop-k-preserved c =
     let rival = in_table a.table.now in
     let members = a.members.now in
     let held = in_word a.set.0 in
-    let next = next-is (goal.at.loop-k-preserved c).After-first_in-next in
+    let next = next_is (goal.at.loop-k-preserved c).After-first_in-next in
     subst (Ordered a.order.now a.table.now members a.set.0 _ _) (sym (add-one turn.k))
     (record {
       within = c.loop-k-test.true;

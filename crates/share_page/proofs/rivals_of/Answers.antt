@@ -10,7 +10,7 @@ use Rattle.basis.proofs.BitLaws.{bit_zero}
 use Rattle.bidder_sets.specs.EngineSets.{in_word}
 use Rattle.bidder_sets.specs.declared.Bidders.{Bidders}
 use Rattle.share_page.specs.EngineShare.{in_table, rival_in}
-use Rattle.share_page.proofs.rivals_of.Invariants.{rivalsTo, naming}
+use Rattle.share_page.proofs.rivals_of.Invariants.{rivals_to, naming}
 use Rattle.share_page.proofs.rivals_of.Goals.{then-has, else-has}
 use Rattle.share_page.proofs.rivals_of.Goals as goal
 
@@ -49,4 +49,4 @@ unfolding rival_in
 returns c =
     let v = c.loop-k.invariant in
     let a = c.args in
-    λ x. v.1 x ∙ ap (λ (n : ℕ). rivalsTo a.table.now a.members.now a.left.0 n x) (le_antisymm v.0 c.loop-k-test.false)
+    λ x. v.1 x ∙ ap (λ (n : ℕ). rivals_to a.table.now a.members.now a.left.0 n x) (le_antisymm v.0 c.loop-k-test.false)

@@ -13,11 +13,11 @@ use Rattle.share_page.proofs.rivals_of.Given as goal
 abbrev pub naming : (table members : List ℕ) (left x j : ℕ) → Bool
 naming table members left x j = in_word left (get_or members j 0) && in_table table (get_or members j 0) x
 
-abbrev pub rivalsTo : (table members : List ℕ) (left k x : ℕ) → Bool
-rivalsTo table members left k x = any_below (naming table members left x) k
+abbrev pub rivals_to : (table members : List ℕ) (left k x : ℕ) → Bool
+rivals_to table members left k x = any_below (naming table members left x) k
 
 abbrev pub invariant-loop-k : goal.invariant-loop-k
-invariant-loop-k l = (l.k ≤ length l.members) × ((x : ℕ) → in_word l.rivals.0 x ≡ rivalsTo l.table l.members l.left.0 l.k x)
+invariant-loop-k l = (l.k ≤ length l.members) × ((x : ℕ) → in_word l.rivals.0 x ≡ rivals_to l.table l.members l.left.0 l.k x)
 
 abbrev pub decreases-loop-k : goal.decreases-loop-k
 decreases-loop-k l = length l.members - l.k

@@ -44,13 +44,13 @@ rising c = take c.list-count.result c.list-count.new.space
 most_bidders : (c : After-list-count) → c.args.n ≤ 64
 most_bidders c = (sized c.args.n c.args.m (sym c.size_refusal-size.ensures ∙ c.if-size-ne0.false)).1
 
-listed-most : (c : After-list-count) → length (rising_members (in_word (word c)) c.args.n) ≤ 64
-listed-most c = let most = members-few (in_word (word c)) c.args.n in let n = most_bidders c in omega arith
+listed_most : (c : After-list-count) → length (rising_members (in_word (word c)) c.args.n) ≤ 64
+listed_most c = let most = members-few (in_word (word c)) c.args.n in let n = most_bidders c in omega arith
 
 rising_is : (c : After-list-count) → rising c ≡ rising_members (in_word (word c)) c.args.n
 rising_is c =
     ap (take c.list-count.result) c.list-count.ensures.1
-    ∙ list_front (replicate 64 0) (rising_members (in_word (word c)) c.args.n) c.list-count.result c.list-count.ensures.0 (listed-most c)
+    ∙ list_front (replicate 64 0) (rising_members (in_word (word c)) c.args.n) c.list-count.result c.list-count.ensures.0 (listed_most c)
 
 words : (c : After-list-count) → Words c.args.n c.args.members.now c.args.sets.now (table c) (word c) (rising c)
 words c =
@@ -62,8 +62,8 @@ words c =
       listing = rising_is c;
     }
 
-rising-many : (c : After-list-count) → length (rising c) ≡ c.list-count.result
-rising-many c = ap length (rising_is c) ∙ sym c.list-count.ensures.0
+rising_many : (c : After-list-count) → length (rising c) ≡ c.list-count.result
+rising_many c = ap length (rising_is c) ∙ sym c.list-count.ensures.0
 
 -- and in the order of the turns, where each finds one
 abbrev order : After-list-count → List ℕ
@@ -72,25 +72,25 @@ order c = turns (in_table (table c)) (rising c) (in_word (word c)) (length (risi
 abbrev Found : After-list-count → Bool → Type 0
 Found c t = t ≡ all_found_to (in_table (table c)) (rising c) (in_word (word c)) (length (rising c))
 
-order-many : (c : After-list-count) → length (order c) ≡ c.list-count.result
-order-many c = turns-many (in_table (table c)) (rising c) (in_word (word c)) (length (rising c)) ∙ rising-many c
+order_many : (c : After-list-count) → length (order c) ≡ c.list-count.result
+order_many c = turns-many (in_table (table c)) (rising c) (in_word (word c)) (length (rising c)) ∙ rising_many c
 
-order-front : (c : After-list-count) (put : List ℕ) → put ≡ sets (replicate 64 0) 0 (order c) → take c.list-count.result put ≡ order c
-order-front c put e =
+order_front : (c : After-list-count) (put : List ℕ) → put ≡ sets (replicate 64 0) 0 (order c) → take c.list-count.result put ≡ order c
+order_front c put e =
     ap (take c.list-count.result) e
-    ∙ list_front (replicate 64 0) (order c) c.list-count.result (sym (order-many c))
-    (let size = order-many c in let count = c.list-count.ensures.0 in let most = listed-most c in omega arith)
+    ∙ list_front (replicate 64 0) (order c) c.list-count.result (sym (order_many c))
+    (let size = order_many c in let count = c.list-count.ensures.0 in let most = listed_most c in omega arith)
 
 -- the answer
 can : (c : After-list-count) (all : Bool) → Found c all → all ≡ true → c.list-count.result ≤ c.args.m →
     can_share c.args.n c.args.m c.args.members.now c.args.sets.now ≡ true
 can c all e found fit =
     let a = c.args in
-    one_passes a.n a.m a.members.now a.sets.now (table c) (word c) (rising c) (words c) (let size = rising-many c in omega arith) (sym e ∙ found)
+    one_passes a.n a.m a.members.now a.sets.now (table c) (word c) (rising c) (words c) (let size = rising_many c in omega arith) (sym e ∙ found)
 
-order-first : (c : After-list-count) (all : Bool) → Found c all → all ≡ true →
+order_first : (c : After-list-count) (all : Bool) → Found c all → all ≡ true →
     order c ≡ first_of (puts_above (names c.args.sets.now)) (member_orders c.args.n c.args.members.now)
-order-first c all e found =
+order_first c all e found =
     let a = c.args in
     turns-first a.n a.m a.members.now a.sets.now (table c) (word c) (rising c) (words c) (sym e ∙ found)
 
@@ -125,14 +125,14 @@ pub slice_bounds-space-end : goal.slice_bounds-space-end
 slice_bounds-space-end c =
     let size = ap length c.list-count.ensures.1 ∙ length-sets (replicate 64 0) 0 (rising_members (in_word (word (goal.at.slice_bounds-space-end c).After-list-count)) c.args.n) in
     let count = c.list-count.ensures.0 in
-    let most = listed-most (goal.at.slice_bounds-space-end c).After-list-count in
+    let most = listed_most (goal.at.slice_bounds-space-end c).After-list-count in
     omega arith
 
 pub slice_bounds-rising-end : goal.slice_bounds-rising-end
-slice_bounds-rising-end c = sym (rising-many (goal.at.slice_bounds-rising-end c).After-list-count)
+slice_bounds-rising-end c = sym (rising_many (goal.at.slice_bounds-rising-end c).After-list-count)
 
 pub overflow_cast-count : goal.overflow_cast-count
-overflow_cast-count c = let count = c.list-count.ensures.0 in let most = listed-most (goal.at.overflow_cast-count c).After-list-count in omega arith
+overflow_cast-count c = let count = c.list-count.ensures.0 in let most = listed_most (goal.at.overflow_cast-count c).After-list-count in omega arith
 
 pub returns-then-m-count : goal.returns-then-m-count
 returns-then-m-count c =
@@ -140,13 +140,13 @@ returns-then-m-count c =
     no_answered a.n a.m a.members.now a.sets.now a.res.now (fits (goal.at.returns-then-m-count c).Else-size-ne0) (right (goal.at.returns-then-m-count c).Else-wrong) (lent (goal.at.returns-then-m-count c).Else-unread-ne0) _
     c.refused-then-m-count.ensures
     (too_many a.n a.m a.members.now a.sets.now (table (goal.at.returns-then-m-count c).After-list-count) (word (goal.at.returns-then-m-count c).After-list-count) (rising (goal.at.returns-then-m-count c).After-list-count) (words (goal.at.returns-then-m-count c).After-list-count)
-    (let size = rising-many (goal.at.returns-then-m-count c).After-list-count in let more = c.if-m-count.true in omega arith))
+    (let size = rising_many (goal.at.returns-then-m-count c).After-list-count in let more = c.if-m-count.true in omega arith))
 
 pub put_in_order-all-requires : goal.put_in_order-all-requires
 put_in_order-all-requires c =
     let n = few (goal.at.put_in_order-all-requires c).Else-size-ne0 in
     let many = ap length (rising_is (goal.at.put_in_order-all-requires c).After-list-count) in
-    let most = listed-most (goal.at.put_in_order-all-requires c).After-list-count in (
+    let most = listed_most (goal.at.put_in_order-all-requires c).After-list-count in (
       omega arith,
       λ k less.
           let at = members-at (in_word (word (goal.at.put_in_order-all-requires c).After-list-count)) c.args.n k (omega arith) in
@@ -170,23 +170,23 @@ returns-then-res-count c =
     buffer_short a.n a.m a.members.now a.sets.now a.res.now (fits (goal.at.returns-then-res-count c).Else-size-ne0) (right (goal.at.returns-then-res-count c).Else-wrong) (lent (goal.at.returns-then-res-count c).Else-unread-ne0)
     (order l)
     (can l _ c.put_in_order-all.ensures.0 c.if-not-all.false c.if-m-count.false)
-    (order-first l _ c.put_in_order-all.ensures.0 c.if-not-all.false)
+    (order_first l _ c.put_in_order-all.ensures.0 c.if-not-all.false)
     _
     c.refused-then-res-count.ensures
-    (let size = order-many l in let less = c.if-res-count.true in omega arith)
+    (let size = order_many l in let less = c.if-res-count.true in omega arith)
 
 pub slice_bounds-order-end : goal.slice_bounds-order-end
 slice_bounds-order-end c =
     let l = (goal.at.slice_bounds-order-end c).After-list-count in
     let size = ap length (c.put_in_order-all.ensures.1 c.if-not-all.false) ∙ length-sets (replicate 64 0) 0 (order l) in
     let count = c.list-count.ensures.0 in
-    let most = listed-most l in
+    let most = listed_most l in
     omega arith
 
 pub slice_bounds-put_bytes-end : goal.slice_bounds-put_bytes-end
 slice_bounds-put_bytes-end c =
     let l = (goal.at.slice_bounds-put_bytes-end c).After-list-count in
-    sym (ap length (order-front l _ (c.put_in_order-all.ensures.1 c.if-not-all.false)) ∙ order-many l)
+    sym (ap length (order_front l _ (c.put_in_order-all.ensures.1 c.if-not-all.false)) ∙ order_many l)
 
 pub returns : goal.returns
 returns c =
@@ -195,7 +195,7 @@ returns c =
     order_written_lem a.n a.m a.members.now a.sets.now a.res.now (fits (goal.at.returns c).Else-size-ne0) (right (goal.at.returns c).Else-wrong) (lent (goal.at.returns c).Else-unread-ne0)
     (order l)
     (can l _ c.put_in_order-all.ensures.0 c.if-not-all.false c.if-m-count.false)
-    (order-first l _ c.put_in_order-all.ensures.0 c.if-not-all.false)
+    (order_first l _ c.put_in_order-all.ensures.0 c.if-not-all.false)
     _
-    (let size = order-many l in let enough = c.if-res-count.false in omega arith)
-    (c.put_bytes.ensures ∙ ap (sets a.res.now 0) (order-front l _ (c.put_in_order-all.ensures.1 c.if-not-all.false)))
+    (let size = order_many l in let enough = c.if-res-count.false in omega arith)
+    (c.put_bytes.ensures ∙ ap (sets a.res.now 0) (order_front l _ (c.put_in_order-all.ensures.1 c.if-not-all.false)))

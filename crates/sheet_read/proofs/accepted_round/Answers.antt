@@ -13,15 +13,15 @@ use Rattle.sheet.specs.Sheet.{bidder_count, slot_count}
 use Rattle.sheet.specs.Round.{blank, constraint_field, round_of}
 use Rattle.sheet_read.proofs.RoomLaws.{room}
 use Rattle.sheet_read.proofs.WordLaws.{word_constraint}
-use Rattle.sheet_read.proofs.accepted_round.Invariants.{readTo, roundWith}
+use Rattle.sheet_read.proofs.accepted_round.Invariants.{read_to, round_with}
 use Rattle.sheet_read.proofs.accepted_round.Goals as goal
 
 -- one more constraint read and stored
 one_more : (s : List ℕ) (k : ℕ) (q : Constraint) → k < 1024 → q ≡ constraint_field s k →
-    roundWith s (set (padded (constraint_field s) k 1024 blank) k q) ≡ readTo s (suc k)
+    round_with s (set (padded (constraint_field s) k 1024 blank) k q) ≡ read_to s (suc k)
 one_more s k q l e =
-    ap (λ (x : Constraint). roundWith s (set (padded (constraint_field s) k 1024 blank) k x)) e
-    ∙ ap (roundWith s) (padded-next (constraint_field s) k 1024 blank l)
+    ap (λ (x : Constraint). round_with s (set (padded (constraint_field s) k 1024 blank) k x)) e
+    ∙ ap (round_with s) (padded-next (constraint_field s) k 1024 blank l)
 
 pub bounds-sheet-5 : goal.bounds-sheet-5
 bounds-sheet-5 c = omega (arith, room _ c.requires)
@@ -96,4 +96,4 @@ unfolding round_of
 returns c =
     let v = c.loop-k.invariant in
     let s = c.args.sheet.now in
-    v.1 ∙ ap (readTo s) (le_antisymm v.0 c.loop-k-test.false ∙ c.word16-used.ensures.0)
+    v.1 ∙ ap (read_to s) (le_antisymm v.0 c.loop-k-test.false ∙ c.word16-used.ensures.0)

@@ -12,8 +12,8 @@ use Rattle.sheet.specs.Round.{blank, constraint_field}
 use Rattle.sheet_read.proofs.accepted_round.Given as goal
 
 -- the sheet's round but for its constraints
-abbrev pub roundWith : List ℕ → List Constraint → Round
-roundWith s constraints =
+abbrev pub round_with : List ℕ → List Constraint → Round
+round_with s constraints =
     record {
       bidders = bidder_count s;
       slots = slot_count s;
@@ -27,12 +27,12 @@ roundWith s constraints =
     }
 
 -- the round whose first k constraints are read
-abbrev pub readTo : List ℕ → ℕ → Round
-readTo s k = roundWith s (padded (constraint_field s) k 1024 blank)
+abbrev pub read_to : List ℕ → ℕ → Round
+read_to s k = round_with s (padded (constraint_field s) k 1024 blank)
 
 abbrev pub invariant-loop-k : goal.invariant-loop-k
 invariant-loop-k l =
-    (l.k ≤ l.used) × (l.round ≡ readTo l.sheet l.k)
+    (l.k ≤ l.used) × (l.round ≡ read_to l.sheet l.k)
 
 abbrev pub decreases-loop-k : goal.decreases-loop-k
 decreases-loop-k l = l.used - l.k

@@ -11,10 +11,10 @@ use Rattle.sheet_read.proofs.RoomLaws.{room}
 use Rattle.sheet_read.proofs.effect_at.Goals as goal
 
 -- the effect of a slot is the word of its number less 1
-word-effect : (s : List ℕ) (k : ℕ) → 0 < k → word32_at s (effects_start s + 4 * (k - 1)) ≡ effect_field s k
+word_effect : (s : List ℕ) (k : ℕ) → 0 < k → word32_at s (effects_start s + 4 * (k - 1)) ≡ effect_field s k
 unfolding effect_field
-word-effect s zero l = absurd (not-suc-le-zero l)
-word-effect s (suc k) l = ap (λ (n : ℕ). word32_at s (effects_start s + 4 * n)) (let e : suc k - 1 ≡ k = omega arith in e)
+word_effect s zero l = absurd (not-suc-le-zero l)
+word_effect s (suc k) l = ap (λ (n : ℕ). word32_at s (effects_start s + 4 * n)) (let e : suc k - 1 ≡ k = omega arith in e)
 
 pub effects_start-requires : goal.effects_start-requires
 effects_start-requires c = omega (arith, room _ c.requires.0)
@@ -31,4 +31,4 @@ returns c =
     let k = c.args.slot.0 in
     c.word32.ensures
     ∙ ap (λ (start : ℕ). word32_at s (start + 4 * (k - 1))) c.effects_start.ensures
-    ∙ word-effect s k c.requires.1
+    ∙ word_effect s k c.requires.1

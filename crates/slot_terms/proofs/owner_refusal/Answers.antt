@@ -12,10 +12,10 @@ use Rattle.slot_terms.proofs.owner_refusal.Goals.{Else-size-ne0}
 use Rattle.slot_terms.proofs.owner_refusal.Goals as goal
 
 -- past 4 and 5 the owner decides
-size-passed : (c : Else-size-ne0) → let a = c.args in
+size_passed : (c : Else-size-ne0) → let a = c.args in
     owner_refusal a.n a.m a.owner ≡ (16 when eqb a.owner 0 || ltb a.n a.owner otherwise 0)
 unfolding owner_refusal
-size-passed c =
+size_passed c =
     let a = c.args in
     or_else_right (size_refusal a.n a.m) _ (sym c.size_refusal-size.ensures ∙ c.if-size-ne0.false)
 
@@ -29,14 +29,14 @@ returns-then-size-ne0 c =
 pub returns-then-owner-eq0 : goal.returns-then-owner-eq0
 returns-then-owner-eq0 c =
     let a = c.args in
-    sym (size-passed (goal.at.returns-then-owner-eq0 c).Else-size-ne0 ∙ simp (eq-eqb a.owner 0 (omega arith)))
+    sym (size_passed (goal.at.returns-then-owner-eq0 c).Else-size-ne0 ∙ simp (eq-eqb a.owner 0 (omega arith)))
 
 pub returns-then-n-owner : goal.returns-then-n-owner
 returns-then-n-owner c =
     let a = c.args in
-    sym (size-passed (goal.at.returns-then-n-owner c).Else-size-ne0 ∙ simp (ne_eqb a.owner 0 (omega arith), lt-ltb a.n a.owner (omega arith)))
+    sym (size_passed (goal.at.returns-then-n-owner c).Else-size-ne0 ∙ simp (ne_eqb a.owner 0 (omega arith), lt-ltb a.n a.owner (omega arith)))
 
 pub returns : goal.returns
 returns c =
     let a = c.args in
-    sym (size-passed (goal.at.returns c).Else-size-ne0 ∙ simp (ne_eqb a.owner 0 (omega arith), le-ltb a.n a.owner (omega arith)))
+    sym (size_passed (goal.at.returns c).Else-size-ne0 ∙ simp (ne_eqb a.owner 0 (omega arith), le-ltb a.n a.owner (omega arith)))

@@ -14,12 +14,12 @@ use Rattle.slot_terms.proofs.put_all_barred.Goals.{In-loop-i}
 use Rattle.slot_terms.proofs.put_all_barred.Goals as goal
 
 -- the bars up to the next are no more than all
-next-within : (bars : List ℕ) (i : ℕ) → i < length bars → bars_to bars i + get_or bars i 0 ≤ bars_to bars (length bars)
-next-within bars i l = omega (arith, bars-next bars i, bars-within bars (suc i) (length bars) l)
+next_within : (bars : List ℕ) (i : ℕ) → i < length bars → bars_to bars i + get_or bars i 0 ≤ bars_to bars (length bars)
+next_within bars i l = omega (arith, bars-next bars i, bars-within bars (suc i) (length bars) l)
 
 -- the bar of a turn
-low-bar : (c : In-loop-i) → get_or c.args.bars.now c.loop-i.i 0 ≤ 16
-low-bar c = c.requires.2 c.loop-i.i c.loop-i-test.true
+low_bar : (c : In-loop-i) → get_or c.args.bars.now c.loop-i.i 0 ≤ 16
+low_bar c = c.requires.2 c.loop-i.i c.loop-i-test.true
 
 pub loop-i-init : goal.loop-i-init
 unfolding bars_to joined quads
@@ -27,8 +27,8 @@ loop-i-init c = record { some = omega arith; size = refl; end = omega arith; run
 
 pub put_run-requires : goal.put_run-requires
 put_run-requires c =
-    let more = next-within c.args.bars.now c.loop-i.i c.loop-i-test.true in
-    let low = low-bar (goal.at.put_run-requires c).In-loop-i in
+    let more = next_within c.args.bars.now c.loop-i.i c.loop-i-test.true in
+    let low = low_bar (goal.at.put_run-requires c).In-loop-i in
     let few = c.requires.0 in
     let own = c.requires.1 in
     let size = c.loop-i.invariant.size in
@@ -39,7 +39,7 @@ put_run-requires c =
 
 pub overflow_add-at : goal.overflow_add-at
 overflow_add-at c =
-    let more = next-within c.args.bars.now c.loop-i.i c.loop-i-test.true in
+    let more = next_within c.args.bars.now c.loop-i.i c.loop-i-test.true in
     let end = c.loop-i.invariant.end in
     let room = c.requires.3 in
     omega arith
@@ -63,6 +63,6 @@ loop-i-preserved c =
           c.put_run.ensures
           ∙ ap₂ (λ (l : List ℕ) (w : ℕ). sets l turn.at (joined (λ k. bytes32 (w + 16777216 * k)) bar)) turn.invariant.run c.word_of-top.ensures
           ∙ ap (sets (sets a.res.now a.start (quads (all_barred a.owner.0 bars turn.i))) turn.at)
-          (barred-words a.owner.0 (turn.i + 1) bar c.requires.1 (omega arith) (low-bar (goal.at.loop-i-preserved c).In-loop-i))
+          (barred-words a.owner.0 (turn.i + 1) bar c.requires.1 (omega arith) (low_bar (goal.at.loop-i-preserved c).In-loop-i))
           ∙ barred-next a.owner.0 bars a.res.now a.start turn.at turn.i turn.invariant.end;
     }

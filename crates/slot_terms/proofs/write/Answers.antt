@@ -15,23 +15,23 @@ use Rattle.slot_terms.proofs.write.Goals as goal
 known : (c : Else-nobody-ne0) → OwnerFits c.args.n c.args.m c.args.owner
 known c = fits_owner _ _ _ (sym c.owner_refusal-nobody.ensures ∙ c.if-nobody-ne0.false)
 
-known-on : (c : Else-wrong-ne0) → OwnerFits c.args.n c.args.m c.args.owner
-known-on c = fits_owner _ _ _ (sym c.owner_refusal-nobody.ensures ∙ c.if-nobody-ne0.false)
+known_on : (c : Else-wrong-ne0) → OwnerFits c.args.n c.args.m c.args.owner
+known_on c = fits_owner _ _ _ (sym c.owner_refusal-nobody.ensures ∙ c.if-nobody-ne0.false)
 
 given : (c : Else-wrong-ne0) → TermsFit c.args.n c.args.m c.args.owner c.args.limit c.args.bars.now
-given c = fits_terms _ _ c.args.owner _ _ (known-on c) (sym c.profile_refusal-wrong.ensures ∙ c.if-wrong-ne0.false)
+given c = fits_terms _ _ c.args.owner _ _ (known_on c) (sym c.profile_refusal-wrong.ensures ∙ c.if-wrong-ne0.false)
 
 low : (c : Else-wrong-ne0) (i : ℕ) → i < length c.args.bars.now → get_or c.args.bars.now i 0 ≤ 16
 unfolding bar_for
 low c i l =
-    let slots = (known-on c).most_slots in
+    let slots = (known_on c).most_slots in
     let all = (given c).as_many in
     let here = (given c).none_above (suc i) (omega arith) (omega arith) in
     omega arith
 
 few : (c : Else-wrong-ne0) → bars_to c.args.bars.now (length c.args.bars.now) ≤ 1024
 few c =
-    let bidders = (known-on c).most_bidders in
+    let bidders = (known_on c).most_bidders in
     let all = (given c).as_many in
     let most = bars-most c.args.bars.now _ (low c) in
     omega arith

@@ -22,9 +22,9 @@ header c =
     header_two _ (c.requires form) form (sym c.counts_refusal-counts.ensures ∙ c.if-counts-ne0.false)
 
 -- the bids of the slice made anew are the sheet's
-ticks-of-whole : (s : List ℕ) →
+ticks_of_whole : (s : List ℕ) →
     first_over (λ i. tick_refusal (take (length s - 0) s) (suc i)) (bidder_count s) ≡ first_over (λ i. tick_refusal s (suc i)) (bidder_count s)
-ticks-of-whole s = ap (λ (l : List ℕ). first_over (λ i. tick_refusal l (suc i)) (bidder_count s)) (whole-sheet s)
+ticks_of_whole s = ap (λ (l : List ℕ). first_over (λ i. tick_refusal l (suc i)) (bidder_count s)) (whole-sheet s)
 
 pub returns-then-form-ne0 : goal.returns-then-form-ne0
 returns-then-form-ne0 c = by_form _ _ c.form_refusal-form.ensures c.if-form-ne0.true
@@ -84,7 +84,7 @@ returns-then-ticks-ne0 c =
     by_ticks _ known.form known.none
     (sym c.effects_refusal-effects.ensures ∙ c.if-effects-ne0.false)
     (sym c.bids_refusal-bids.ensures ∙ c.if-bids-ne0.false)
-    _ (c.ticks_refusal-ticks.ensures ∙ ticks-of-whole _) c.if-ticks-ne0.true
+    _ (c.ticks_refusal-ticks.ensures ∙ ticks_of_whole _) c.if-ticks-ne0.true
 
 pub rising_refusal-requires-clause-start_value : goal.rising_refusal-requires-clause-start_value
 rising_refusal-requires-clause-start_value c =
@@ -97,7 +97,7 @@ returns c =
     by_constraints _ known.form known.none
     (sym c.effects_refusal-effects.ensures ∙ c.if-effects-ne0.false)
     (sym c.bids_refusal-bids.ensures ∙ c.if-bids-ne0.false)
-    (sym (c.ticks_refusal-ticks.ensures ∙ ticks-of-whole _) ∙ c.if-ticks-ne0.false)
+    (sym (c.ticks_refusal-ticks.ensures ∙ ticks_of_whole _) ∙ c.if-ticks-ne0.false)
     _
     (c.rising_refusal.ensures
     ∙ ap₂ (λ (l : List ℕ) (n : ℕ). first_over (constraint_refusal l) n) (whole-sheet _) c.word16-constraints.ensures.0)
