@@ -1,0 +1,4 @@
+use Rattle.test_both_engines.proofs.pages.has_raised_price.Given as goal
+
+abbrev pub decreases-loop-left : goal.decreases-loop-left
+decreases-loop-left l = l.left
