@@ -19,7 +19,7 @@ use Rattle.choice.specs.Critical.{floor_asks, InTicks, Awarded}
 use Rattle.choice.specs.EngineBids.{bid_in}
 use Rattle.choice.proofs.WinnerLaws.{winner-same}
 use Rattle.choice.proofs.CriticalLaws.{critical_same}
-use Rattle.auction.specs.Page.{at, put, empty_page}
+use Rattle.auction.specs.Page.{put, empty_page}
 use Rattle.auction.specs.Eligible.{eligible}
 use Rattle.auction.specs.Greedy.{winner_at, page_up_to}
 use Rattle.auction.specs.Price.{price}

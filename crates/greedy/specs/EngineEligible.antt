@@ -1,6 +1,6 @@
 -- The engine's own: nothing here need be believed.
 -- What the engine's marks know of a page so far, and what the functions that fill it are lent and leave.
-use Rattle.std.specs.Prelude.{ℕ, suc, ◌<◌, ◌≤◌, Bool, false, ◌&&◌, ◌||◌, List, ◌≡◌, eqb, length, get_or}
+use Rattle.std.specs.Prelude.{ℕ, suc, ◌<◌, ◌≤◌, false, ◌&&◌, ◌||◌, List, ◌≡◌, eqb, length, get_or}
 use Rattle.basis.specs.Tests.{any_below}
 use Rattle.sheet.specs.declared.Constraint.{Constraint}
 use Rattle.sheet.specs.declared.Page.{Page}

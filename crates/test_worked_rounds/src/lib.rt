@@ -2,4 +2,3 @@
 // candidates, parts of single bidders, sheets written anew, top-of-page terms, named rivals and sharing, and what the quick page can lose (specs/Worked.antt,
 // proofs/Rounds.antt).
 #![tactic(auto)]
-

@@ -1,6 +1,5 @@
 -- `greedy::award_slot` meets its contract: the first two eligible bidders in the ranking. Assumes nothing.
 use Prim.Native.Nat.{ℕ, suc}
-use mathlib.Core.Logic.{⊎_elim}
 use mathlib.Core.Path.{sym, ◌∙◌, ap, subst}
 use native.Mathlib.Numerals.{add-one}
 use native.Mathlib.Omega.{arith}
@@ -21,9 +20,9 @@ returns c = λ q p same far.
     (c.next_eligible-first.ensures.next_at q p far)
     (λ below.
     elim c.if-first-bidders.branch [
-      then-first-bidders w ↦
-        subst (λ (k : ℕ). NextAt (eligible q p a.slot.0) a.ranked.now a.bidders (suc first) k) (sym w.second-is)
-        (subst (λ (s : ℕ). NextAt (eligible q p a.slot.0) a.ranked.now a.bidders s w.next_eligible-second.result) (add-one first)
-        (w.next_eligible-second.ensures.next_at q p far))
+      | then-first-bidders w ↦
+          subst (λ (k : ℕ). NextAt (eligible q p a.slot.0) a.ranked.now a.bidders (suc first) k) (sym w.second-is)
+          (subst (λ (s : ℕ). NextAt (eligible q p a.slot.0) a.ranked.now a.bidders s w.next_eligible-second.result) (add-one first)
+          (w.next_eligible-second.ensures.next_at q p far))
       | else-first-bidders w ↦ absurd (omega arith)
     ])

@@ -55,7 +55,7 @@ not_eligible c q p far =
     let told : (a : Eligibility) → c.eligibility-answer.result ≡ a → failed_test a ≡ first_failed q p c.args.slot.0 (get_or c.args.ranked.now c.loop-i.i 0)
     = λ a e. ap failed_test (sym e) ∙ c.eligibility-answer.ensures q p far ∙ ap (first_failed q p c.args.slot.0) c.ranked_at-bidder.ensures in
     elim c.match-answer.branch [
-      in-Placed w ↦ ap (λ (x : ℕ). eqb x 0) (sym (told Placed w.in-Placed.is))
+      | in-Placed w ↦ ap (λ (x : ℕ). eqb x 0) (sym (told Placed w.in-Placed.is))
       | in-EarlierWinners w ↦ ap (λ (x : ℕ). eqb x 0) (sym (told EarlierWinners w.in-EarlierWinners.is))
       | in-Own w ↦ ap (λ (x : ℕ). eqb x 0) (sym (told Own w.in-Own.is))
     ]

@@ -50,7 +50,7 @@ write_result-requires-clause-slots_bound c =
 pub write_result-requires-clause-bidders_len : goal.write_result-requires-clause-bidders_len
 write_result-requires-clause-bidders_len c =
     let known = (accepted-sheet _ c.requires.0).counts in outcome_fits _ c.played.result (floors-proper _ _ (round_proper _ c.requires.0) (rw (round_slots c.args.sheet.now) c.requires.1.1.proper))
-          (c.played.ensures c.requires.1.0 c.requires.1.1)
+    (c.played.ensures c.requires.1.0 c.requires.1.1)
 
 pub returns : goal.returns
 unfolding round_of with_floors played_buffer

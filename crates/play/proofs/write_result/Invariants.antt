@@ -4,7 +4,6 @@ use mathlib.Core.List.{List, ◌++◌}
 use mathlib.Core.Path.{◌≡◌}
 use lib.ListN.{length, drop}
 use Rattle.basis.specs.Rows.{joined}
-use Rattle.auction.specs.Page.{at}
 use Rattle.greedy.specs.declared.Outcome.{Outcome}
 use Rattle.play.specs.EngineEntries.{entry_in}
 use Rattle.play.proofs.write_result.Given as goal

@@ -1,0 +1,16 @@
+-- `pas::pas_gain_floors` meets its contract: the gain call's number decides whether the gain is written. Assumes nothing.
+use mir.Facts.{to_z-of_z}
+use mir.Syntax.{w64}
+use Rattle.pas.proofs.AnswerLaws.{floors-gain-refused, floors-gain-answered}
+use Rattle.pas.proofs.pas_gain_floors.Goals as goal
+
+pub returns-then-refusal-ne0 : goal.returns-then-refusal-ne0
+returns-then-refusal-ne0 c =
+    let start = c.args in
+    floors-gain-refused start.floors.now start.played.now start.truth.now start.bidder start.worth start.gain.now c.gain_floors-gained.result c.gain_floors-gained.ensures c.if-refusal-ne0.true
+
+pub returns : goal.returns
+returns c =
+    let start = c.args in
+    let gained = c.gain_floors-gained in
+    floors-gain-answered start.floors.now start.played.now start.truth.now start.bidder start.worth start.gain.now gained.result gained.ensures c.if-refusal-ne0.false _ (to_z-of_z {w = w64} {z = gained.result.gain} (record { sfits = gained.type-inv.1.1.1.0.1 }))

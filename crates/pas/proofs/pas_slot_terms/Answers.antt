@@ -1,0 +1,20 @@
+-- `pas::pas_slot_terms` meets its contract: the writer's number decides whether the count is written; the buffer is what the writer left.
+-- Assumes nothing.
+use Rattle.pas.proofs.AnswerLaws.{slot_terms-refused, slot_terms-answered}
+use Rattle.pas.proofs.pas_slot_terms.Goals as goal
+
+pub returns-then-refusal-ne0 : goal.returns-then-refusal-ne0
+returns-then-refusal-ne0 c =
+    let start = c.args in
+    let given = c.write-given in
+    slot_terms-refused start.n start.m start.owner start.limit start.bars.now start.result.now start.count.now given.result _
+    given.ensures
+    c.if-refusal-ne0.true
+
+pub returns : goal.returns
+returns c =
+    let start = c.args in
+    let given = c.write-given in
+    slot_terms-answered start.n start.m start.owner start.limit start.bars.now start.result.now start.count.now given.result _
+    given.ensures
+    c.if-refusal-ne0.false
