@@ -45,10 +45,10 @@ loop-i-preserved c =
     let next = add-one c.loop-i.i in (
       omega arith,
       elim c.if-owner-bidder.branch [
-        then-owner-bidder w ↦
-          rw (w.listed-is, next)
-          (own_listed _ _ _ _ v.1 _ w.list.ensures.0 (omega (arith, w.if-owner-bidder.true))
-          (rw same at w.list.ensures.1))
+        | then-owner-bidder w ↦
+            rw (w.listed-is, next)
+            (own_listed _ _ _ _ v.1 _ w.list.ensures.0 (omega (arith, w.if-owner-bidder.true))
+            (rw same at w.list.ensures.1))
         | else-owner-bidder w ↦ rw (w.listed-is, next) (other-passed _ _ _ _ v.1 (λ own. omega (arith, w.if-owner-bidder.false)))
       ],
     )

@@ -7,10 +7,10 @@ pub returns-then-refusal-ne0 : goal.returns-then-refusal-ne0
 returns-then-refusal-ne0 c =
     let start = c.args in
     let chosen = c.best-chosen in
-    best-refused start.sheet.now start.result.now start.total.now chosen.result _ chosen.ensures c.if-refusal-ne0.true
+    best-refused start.sheet.now start.res.now start.total.now chosen.result _ chosen.ensures c.if-refusal-ne0.true
 
 pub returns : goal.returns
 returns c =
     let start = c.args in
     let chosen = c.best-chosen in
-    best-answered start.sheet.now start.result.now start.total.now chosen.result _ chosen.ensures c.if-refusal-ne0.false
+    best-answered start.sheet.now start.res.now start.total.now chosen.result _ chosen.ensures c.if-refusal-ne0.false

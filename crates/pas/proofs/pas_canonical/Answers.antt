@@ -7,10 +7,10 @@ pub returns-then-refusal-ne0 : goal.returns-then-refusal-ne0
 returns-then-refusal-ne0 c =
     let start = c.args in
     let given = c.write-given in
-    canonical-refused start.sheet.now start.result.now start.written.now given.result _ given.ensures c.if-refusal-ne0.true
+    canonical-refused start.sheet.now start.res.now start.written.now given.result _ given.ensures c.if-refusal-ne0.true
 
 pub returns : goal.returns
 returns c =
     let start = c.args in
     let given = c.write-given in
-    canonical-answered start.sheet.now start.result.now start.written.now given.result _ given.ensures c.if-refusal-ne0.false
+    canonical-answered start.sheet.now start.res.now start.written.now given.result _ given.ensures c.if-refusal-ne0.false

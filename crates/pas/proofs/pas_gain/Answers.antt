@@ -13,4 +13,4 @@ pub returns : goal.returns
 returns c =
     let start = c.args in
     let gained = c.gain-gained in
-    gain-answered start.played.now start.truth.now start.bidder start.worth start.gain.now gained.result gained.ensures c.if-refusal-ne0.false _ (to_z-of_z {w = w64} {z = gained.result.gain} (record { sfits = gained.type-inv.1.1.1.0.1 }))
+    gain-answered start.played.now start.truth.now start.bidder start.worth start.gain.now gained.result gained.ensures c.if-refusal-ne0.false _ (to_z-of_z {w = w64} {z = gained.result.gain} (record { sfits = gained.type_inv.1.1.1.0.1 }))

@@ -6,7 +6,7 @@ pub returns-then-refusal-ne0 : goal.returns-then-refusal-ne0
 returns-then-refusal-ne0 c =
     let start = c.args in
     let given = c.share-given in
-    share_refused start.n start.m start.members.now start.sets.now start.result.now start.answer.now given.result _
+    share_refused start.n start.m start.members.now start.sets.now start.res.now start.answer.now given.result _
     given.ensures
     c.if-refusal-ne0.true
 
@@ -14,6 +14,6 @@ pub returns : goal.returns
 returns c =
     let start = c.args in
     let given = c.share-given in
-    share_answered start.n start.m start.members.now start.sets.now start.result.now start.answer.now given.result _
+    share_answered start.n start.m start.members.now start.sets.now start.res.now start.answer.now given.result _
     given.ensures
     c.if-refusal-ne0.false c.yes_number.result c.yes_number.ensures

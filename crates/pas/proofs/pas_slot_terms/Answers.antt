@@ -7,7 +7,7 @@ pub returns-then-refusal-ne0 : goal.returns-then-refusal-ne0
 returns-then-refusal-ne0 c =
     let start = c.args in
     let given = c.write-given in
-    slot_terms-refused start.n start.m start.owner start.limit start.bars.now start.result.now start.count.now given.result _
+    slot_terms-refused start.n start.m start.owner start.limit start.bars.now start.res.now start.count.now given.result _
     given.ensures
     c.if-refusal-ne0.true
 
@@ -15,6 +15,6 @@ pub returns : goal.returns
 returns c =
     let start = c.args in
     let given = c.write-given in
-    slot_terms-answered start.n start.m start.owner start.limit start.bars.now start.result.now start.count.now given.result _
+    slot_terms-answered start.n start.m start.owner start.limit start.bars.now start.res.now start.count.now given.result _
     given.ensures
     c.if-refusal-ne0.false
