@@ -38,7 +38,7 @@ use Rattle.sheet.specs.Refusal.{marked, effect_before, Accepted}
 use Rattle.sheet.specs.Accepted.{Counts, EffectAccepted, BidAccepted, ConstraintAccepted, number_of, order_number, AcceptedSheet}
 use Rattle.sheet.specs.declared.Constraint.{Constraint}
 use Rattle.sheet.specs.Round.{constraint_field, SheetHas}
-use Rattle.sheet.specs.Encoded.{Condition, on, words, quads, count_bytes, body_bytes, sheet_in_ticks, condition_field}
+use Rattle.sheet.specs.Encoded.{Condition, words, quads, count_bytes, body_bytes, sheet_in_ticks, condition_field}
 use Rattle.sheet.proofs.HeaderLaws.{start_two, tick_two, start_other, tick_other}
 use Rattle.sheet.proofs.AcceptedLaws.{accepted-sheet, sheet-accepted}
 use Rattle.canonical.specs.Canonical.{has_condition, conditions_in_order, canonical_sheet, SameRound}

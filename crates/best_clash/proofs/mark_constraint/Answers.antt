@@ -24,16 +24,15 @@ by_kind s x y e =
 
 pub returns-in-OwnSlot : goal.returns-in-OwnSlot
 unfolding shuts
-returns-in-OwnSlot c =
-    (
-      c.mark.ensures.0,
-      λ x y inside.
-          c.mark.ensures.1 x y inside
-          ∙ ap (λ (u : Bool). bit_of (get_or c.args.table.now x 0) y || u)
-          (ap₂ ◌&&◌ (ap (eqb x) c.always.ensures)
-          (c.only.ensures y inside ∙ ap (eqb y) c.seat_of-own.ensures.0))
-          ∙ by_kind (goal.at.returns-in-OwnSlot c).Start x y c.in-OwnSlot.is,
-    )
+returns-in-OwnSlot c = (
+  c.mark.ensures.0,
+  λ x y inside.
+      c.mark.ensures.1 x y inside
+      ∙ ap (λ (u : Bool). bit_of (get_or c.args.table.now x 0) y || u)
+      (ap₂ ◌&&◌ (ap (eqb x) c.always.ensures)
+      (c.only.ensures y inside ∙ ap (eqb y) c.seat_of-own.ensures.0))
+      ∙ by_kind (goal.at.returns-in-OwnSlot c).Start x y c.in-OwnSlot.is,
+)
 
 pub returns-in-OtherSlot : goal.returns-in-OtherSlot
 unfolding shuts

@@ -1,7 +1,6 @@
 use Prim.Native.Nat.{ℕ, suc, ◌*◌, ◌-◌, ◌^◌, ◌<◌, ◌≤◌}
 use mathlib.Core.Bool.{true, not, ◌&&◌}
 use mathlib.Core.List.{List}
-use mathlib.Core.Logic.{⊎_elim}
 use mathlib.Core.Path.{◌≡◌, sym, subst}
 use native.Mathlib.Omega.{arith}
 use lib.Dec.{eqb}
@@ -113,13 +112,13 @@ loop-left-preserved t c =
     let leads = c.look_ahead-ahead.ensures in
     let told = c.after_first-left.ensures.1 t' first in
     elim c.if-highest-ahead.branch [
-      then-highest-ahead x ↦
-        subst (λ (n : ℕ). Rising a.shut.now a.gains.now a.slot.0 a.free.0 a.had a.known n c.after_first-left.result.0) (sym x.highest-is)
-        (turned a.shut.now a.gains.now a.slot.0 a.free.0 a.had a.known _ _ v some t' first next leads c.after_first-left.result.0 x.raise-highest.result c.after_first-left.ensures.0 told
-        (searched a.shut.now a.gains.now a.slot.0 a.free.0 a.had a.known _ _ v some t' first next leads c.next_slot-next.result.0 x.raise-highest.result c.next_slot-next.ensures x.raise-highest.ensures))
-    | else-highest-ahead x ↦
-        subst (λ (n : ℕ). Rising a.shut.now a.gains.now a.slot.0 a.free.0 a.had a.known n c.after_first-left.result.0) (sym x.highest-is)
-        (turned a.shut.now a.gains.now a.slot.0 a.free.0 a.had a.known _ _ v some t' first next leads c.after_first-left.result.0 _ c.after_first-left.ensures.0 told (left_out a.shut.now a.gains.now a.slot.0 a.free.0 a.had a.known _ _ v some t' first next leads x.if-highest-ahead.false))
+      | then-highest-ahead x ↦
+          subst (λ (n : ℕ). Rising a.shut.now a.gains.now a.slot.0 a.free.0 a.had a.known n c.after_first-left.result.0) (sym x.highest-is)
+          (turned a.shut.now a.gains.now a.slot.0 a.free.0 a.had a.known _ _ v some t' first next leads c.after_first-left.result.0 x.raise-highest.result c.after_first-left.ensures.0 told
+          (searched a.shut.now a.gains.now a.slot.0 a.free.0 a.had a.known _ _ v some t' first next leads c.next_slot-next.result.0 x.raise-highest.result c.next_slot-next.ensures x.raise-highest.ensures))
+      | else-highest-ahead x ↦
+          subst (λ (n : ℕ). Rising a.shut.now a.gains.now a.slot.0 a.free.0 a.had a.known n c.after_first-left.result.0) (sym x.highest-is)
+          (turned a.shut.now a.gains.now a.slot.0 a.free.0 a.had a.known _ _ v some t' first next leads c.after_first-left.result.0 _ c.after_first-left.ensures.0 told (left_out a.shut.now a.gains.now a.slot.0 a.free.0 a.had a.known _ _ v some t' first next leads x.if-highest-ahead.false))
     ]
 
 pub raise-highest-requires-then-highest-passed : goal.raise-highest-requires-then-highest-passed

@@ -1,7 +1,7 @@
 -- `best_search::raise` meets its contract, by induction on the slots left. Where nothing is free the page is all. Else, after some turns of the loop, the ranks
 -- that have had their turn are those below some start, and the highest is the largest total with one of them at the next slot, or what was known; what cannot
 -- lead to more was left out. Assumes nothing.
-use Prim.Native.Nat.{ℕ, suc, ◌-◌, ◌<◌, ◌≤◌}
+use Prim.Native.Nat.{ℕ, suc, ◌-◌}
 use mathlib.Core.List.{List}
 use mathlib.Core.Path.{◌≡◌}
 use Rattle.sheet.specs.declared.Page.{Page}

@@ -1,7 +1,6 @@
 use Prim.Native.Nat.{ℕ, suc, ◌*◌, ◌-◌, ◌^◌, ◌<◌, ◌≤◌}
 use mathlib.Core.Bool.{Bool, true, false}
 use mathlib.Core.List.{List}
-use mathlib.Core.Logic.{⊎_elim}
 use mathlib.Core.Path.{◌≡◌, sym, ◌∙◌, ap, subst}
 use native.Mathlib.Nat.{not-suc-le-zero}
 use native.Mathlib.Numerals.{add-one}
@@ -12,7 +11,7 @@ use Rattle.basis.proofs.TestLaws.{not_both}
 use Rattle.sheet.specs.declared.Page.{Page}
 use Rattle.sheet.specs.declared.Round.{Round}
 use Rattle.auction.specs.Allowed.{Allowed, total}
-use Rattle.auction.specs.Page.{at, put}
+use Rattle.auction.specs.Page.{put}
 use Rattle.auction.proofs.PageLaws.{put-nobody}
 use Rattle.best_page.specs.EngineSearch.{Agrees}
 use Rattle.best_clash.specs.EngineClash.{FreeFor, RanksOf}
@@ -169,8 +168,8 @@ loop-bidder-init t c =
       most = omega arith;
       so_far =
           elim c.if-total-passed.branch [
-            then-total-passed+else-below x ↦ nobody_none a.shut.now a.gains.now a.ranks.now a.bidders a.slot.0 a.page a.free.0 a.had a.total some next passes c.next_slot-next.result.0 c.next_slot-next.ensures _ _ x.search-below.ensures x.if-below.false
-          | else-total-passed x ↦ nobody_small a.shut.now a.gains.now a.ranks.now a.bidders a.slot.0 a.page a.free.0 a.had a.total some next passes x.if-total-passed.false
+            | then-total-passed+else-below x ↦ nobody_none a.shut.now a.gains.now a.ranks.now a.bidders a.slot.0 a.page a.free.0 a.had a.total some next passes c.next_slot-next.result.0 c.next_slot-next.ensures _ _ x.search-below.ensures x.if-below.false
+            | else-total-passed x ↦ nobody_small a.shut.now a.gains.now a.ranks.now a.bidders a.slot.0 a.page a.free.0 a.had a.total some next passes x.if-total-passed.false
           ];
     }
 
@@ -221,10 +220,10 @@ loop-bidder-preserved t c =
     let told = c.is_free.ensures in
     rw (add-one b)
     (elim c.if-is_free.branch [
-      then-is_free+then-total-ahead+else-below-2 x ↦
-        none_there a.shut.now a.gains.now a.ranks.now a.bidders a.slot.0 a.page a.free.0 a.had a.total some b inv turn i i_is i_low (sym told ∙ x.if-is_free.true) x.look_ahead-ahead.result x.look_ahead-ahead.ensures c.next_slot-next.result.0 c.next_slot-next.ensures
-        x.with_bidder.result x.with_bidder.ensures _ _ x.search-below-then-total-ahead.ensures x.if-below-2.false
-    | then-is_free+else-total-ahead x ↦
-        too_small a.shut.now a.gains.now a.ranks.now a.bidders a.slot.0 a.page a.free.0 a.had a.total some b inv turn i i_is i_low (sym told ∙ x.if-is_free.true) x.look_ahead-ahead.result x.look_ahead-ahead.ensures x.if-total-ahead.false
-    | else-is_free x ↦ not_free a.shut.now a.gains.now a.ranks.now a.bidders a.slot.0 a.page a.free.0 a.had a.total some b inv turn i i_is i_low (sym told ∙ x.if-is_free.false)
+      | then-is_free+then-total-ahead+else-below-2 x ↦
+          none_there a.shut.now a.gains.now a.ranks.now a.bidders a.slot.0 a.page a.free.0 a.had a.total some b inv turn i i_is i_low (sym told ∙ x.if-is_free.true) x.look_ahead-ahead.result x.look_ahead-ahead.ensures c.next_slot-next.result.0 c.next_slot-next.ensures
+          x.with_bidder.result x.with_bidder.ensures _ _ x.search-below-then-total-ahead.ensures x.if-below-2.false
+      | then-is_free+else-total-ahead x ↦
+          too_small a.shut.now a.gains.now a.ranks.now a.bidders a.slot.0 a.page a.free.0 a.had a.total some b inv turn i i_is i_low (sym told ∙ x.if-is_free.true) x.look_ahead-ahead.result x.look_ahead-ahead.ensures x.if-total-ahead.false
+      | else-is_free x ↦ not_free a.shut.now a.gains.now a.ranks.now a.bidders a.slot.0 a.page a.free.0 a.had a.total some b inv turn i i_is i_low (sym told ∙ x.if-is_free.false)
     ])

@@ -6,7 +6,6 @@ use mathlib.Core.List.{List}
 use mathlib.Core.Path.{◌≡◌}
 use Rattle.sheet.specs.declared.Page.{Page}
 use Rattle.sheet.specs.declared.Round.{Round}
-use Rattle.auction.specs.Allowed.{total}
 use Rattle.best_clash.specs.EngineClash.{FreeFor, RanksOf}
 use Rattle.best_node.specs.EngineNode.{TablesOf, Node}
 use Rattle.best_search.proofs.SeekLaws.{NoneBelow}

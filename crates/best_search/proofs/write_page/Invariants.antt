@@ -6,7 +6,6 @@ use mathlib.Core.Path.{◌≡◌}
 use lib.ListN.{length, drop}
 use Rattle.basis.specs.Rows.{row}
 use Rattle.sheet.specs.declared.Page.{Page}
-use Rattle.sheet.specs.Round.{bidder}
 use Rattle.auction.specs.Page.{at}
 use Rattle.best_search.proofs.write_page.Given as goal
 

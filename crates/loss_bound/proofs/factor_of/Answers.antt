@@ -1,16 +1,13 @@
 -- `loss_bound::factor_of` meets its contract, by what each of its calls tells. Assumes nothing.
 use Prim.Native.Nat.{ℕ}
-use mathlib.Core.Bool.{true}
-use mathlib.Core.Path.{◌≡◌, sym, ◌∙◌}
+use mathlib.Core.Path.{sym, ◌∙◌}
 use native.Mathlib.Nat.{mul-le-mul}
 use native.Mathlib.Omega.{arith}
 use lib.ListN.{length-replicate}
-use Rattle.basis.specs.Tests.{all_below}
 use Rattle.basis.proofs.RowLaws.{zeros}
-use Rattle.sheet.specs.Sheet.{slot_count, constraint_count}
+use Rattle.sheet.specs.Sheet.{slot_count}
 use Rattle.sheet.proofs.AcceptedLaws.{accepted-sheet}
 use Rattle.above_terms.proofs.AboveLaws.{slots-most}
-use Rattle.loss_bound.specs.LossBound.{rival_above}
 use Rattle.loss_bound.proofs.NamingLaws.{named-few}
 use Rattle.loss_bound.proofs.FactorLaws.{other_kinds, some_missing_lem, none_missing}
 use Rattle.loss_bound.proofs.factor_of.Goals as goal

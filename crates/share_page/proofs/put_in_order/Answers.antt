@@ -1,5 +1,5 @@
 use Prim.Native.Nat.{ℕ, ◌<◌, ◌≤◌}
-use mathlib.Core.Bool.{true, not, ◌&&◌, false≢true}
+use mathlib.Core.Bool.{not, ◌&&◌, false≢true}
 use mathlib.Core.List.{List}
 use mathlib.Core.Path.{◌≡◌, refl, sym, ◌∙◌, ap₂, subst}
 use native.Mathlib.Numerals.{add-one}

@@ -31,7 +31,7 @@ loop-k-preserved c =
       omega arith,
       λ x.
           elim c.if-has.branch [
-            then-has w ↦
+            | then-has w ↦
                 ap (λ (r : Bidders). in_word r.0 x) w.rivals-is
                 ∙ w.either-rivals.ensures x
                 ∙ one_more (naming table members a.left.0 x) turn.k _ _ (turn.invariant.1 x)

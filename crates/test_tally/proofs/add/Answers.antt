@@ -8,7 +8,7 @@ pub returns-then-at-tally : goal.returns-then-at-tally
 unfolding counted
 returns-then-at-tally c =
     ap (λ n. slice_set c.args.tally.now c.args.which n)
-      (c.wrapping_add_u64-more.ensures.value ∙ ap (λ count. (count + 1) % 2 ^ 64) c.of.ensures)
+    (c.wrapping_add_u64-more.ensures.value ∙ ap (λ count. (count + 1) % 2 ^ 64) c.of.ensures)
 
 pub returns-else-at-tally : goal.returns-else-at-tally
 unfolding counted
