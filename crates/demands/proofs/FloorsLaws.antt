@@ -1,15 +1,14 @@
 -- Request S-7: the calls with floors and those without, the first numbers, and the page, its prices and the best page with floors. Assumes nothing.
 use Prim.Native.Nat.{ℕ, zero, suc, ◌*◌, ◌%◌, ◌<◌, ◌≤◌}
-use mathlib.Core.Bool.{Bool, true, false, not, ◌&&◌, ◌||◌}
-use mathlib.Core.List.{List, ◌++◌}
+use mathlib.Core.Bool.{true, false, not, ◌&&◌, ◌||◌}
+use mathlib.Core.List.{List}
 use mathlib.Core.Logic.{⊎_elim}
-use mathlib.Core.Path.{◌≡◌, refl, sym, ◌∙◌, ap, ap₂, subst}
+use mathlib.Core.Path.{◌≡◌, refl, sym, ◌∙◌, ap, subst}
 use native.Mathlib.Omega.{arith}
 use borrow.Author.Tests.{le-ltb}
 use lib.IntN.{ℤ}
-use lib.ListN.{length, get_or, replicate, drop, length-replicate}
+use lib.ListN.{length, get_or, replicate, length-replicate}
 use Rattle.basis.specs.First.{or_else, unless_refused}
-use Rattle.basis.specs.Rows.{row}
 use Rattle.basis.proofs.FirstLaws.{or_else-none, or_else_left, or_else_right, answered-gives}
 use Rattle.basis.proofs.NumberLaws.{same_or_not}
 use Rattle.basis.proofs.RowLaws.{zeros}
@@ -20,7 +19,7 @@ use Rattle.sheet.specs.Refusal.{refusal_of, Accepted}
 use Rattle.sheet.specs.Round.{round_of, with_floors, bid_of, floor_of}
 use Rattle.sheet.proofs.AcceptedLaws.{accepted-sheet}
 use Rattle.sheet.proofs.RoundLaws.{round_bidders, round_slots, round_tick, no_floor}
-use Rattle.sheet.proofs.FloorLaws.{floor_under, floors-slots, floors-bidders, floors_tick, without-floors}
+use Rattle.sheet.proofs.FloorLaws.{floor_under, floors-bidders, floors_tick, without-floors}
 use Rattle.floors.specs.Floors.{floors_refusal}
 use Rattle.floors.proofs.FloorLaws as floors
 use Rattle.auction.specs.Page.{at, put, placed}

@@ -1,7 +1,7 @@
 -- Request S-8. A sheet whose lists all come from the profile is a round whose constraints are just the pairs with a rival above, so the theorem of greedy_loss is
 -- about it; what a result says is the greedy page, so its total is that page's. And the factor that is told: it is not 0 exactly where there are such rival sets,
 -- since these can be read from the lists; and from two places on the lists tell all who are named. Assumes nothing.
-use Prim.Native.Nat.{ℕ, zero, suc, ◌+◌, ◌*◌, ◌-◌, ◌<◌, ◌≤◌}
+use Prim.Native.Nat.{ℕ, zero, suc, ◌+◌, ◌*◌, ◌<◌, ◌≤◌}
 use borrow.Author.Tests.{eq-eqb}
 use mathlib.Core.Bool.{true, false}
 use mathlib.Core.List.{List, ◌∷◌}
