@@ -159,7 +159,8 @@ extern "C" {
  *
  * These are measured and not proved: nothing in the toolchain bounds a stack. examples/c/stack measures them, on the
  * largest sheets, terms and sets, on refused ones and on random ones, and fails where a call takes more than its
- * figure. The table is for the archive that rattle-kit-5b makes of this version, with glibc 2.36. "First call" has what
+ * figure. The table is for the archive that rattle-kit-5b made of this version, with glibc 2.36; for another kit run
+ * examples/c/stack again. "First call" has what
  * the dynamic linker takes where it looks up memcpy and memset in that call. The figures of the calls that use these
  * two leave 4 KB and more above "measured", for that and for another C library.
  *

@@ -1,7 +1,6 @@
 // The page program's whole job, once for every program that runs it: a sheet's bytes in, the text that it prints out.
 //
-// A program has no exit status here: where standard input cannot be read, or the text cannot be written, a sentence on standard
-// error says so.
+// Where standard input cannot be read, or the text cannot be written, a sentence on standard error says so.
 #![tactic(auto)]
 
 ghost use Rattle.std.specs.Io.{ReadsAtMost};
