@@ -153,6 +153,20 @@ pub fn before_constraint(sheet: &[u8], index: usize) -> usize
     header(sheet) + 4 * (wide(slot_count(sheet)) + wide(bidder_count(sheet)) + index)
 }
 
+// The bytes of all constraints, four for each; of a sheet that is shorter than its counts say, those that it has.
+pub fn constraints(sheet: &[u8]) -> &[u8] {
+    let start = before_constraint(sheet, 0);
+    if sheet.len() <= start {
+        return &sheet[..0];
+    }
+    let rest = &sheet[start..];
+    let length = 4 * constraint_count(sheet);
+    if rest.len() <= length {
+        return rest;
+    }
+    &rest[..length]
+}
+
 // The four bytes of a constraint, counted from 0.
 pub fn constraint(sheet: &[u8], index: usize) -> [u8; 4] {
     if sheet.len() <= index {

@@ -1,5 +1,7 @@
 // Pages, and when a constraint ("condition") is broken on one: document 01's sentence, asked from the constraint's four bytes.
 // A page holds a bidder number for each slot ("place"), 0 for an empty one; slots are counted from 1.
+ghost use Rattle.std.specs.Prelude.{◌≡◌, length};
+
 use crate::fields;
 
 pub fn empty() -> [u8; 16] {
@@ -42,24 +44,48 @@ pub fn slot_of(page: [u8; 16], bidder: u8) -> u8 {
     0
 }
 
-// "the owner is at the own place (or that is 0)", where "a condition binds only if its owner has a place".
-fn own_part_holds(page: [u8; 16], owner: u8, own_slot: u8) -> bool {
-    if own_slot == 0 {
-        return slot_of(page, owner) != 0;
+// The bidder at a slot of a lent page, 0 for none.
+fn bidder_at(page: &[u8; 16], slot: u8) -> u8 {
+    let place = fields::wide(slot);
+    if place == 0 {
+        return 0;
     }
-    at(page, own_slot) == owner
+    if 16 < place {
+        return 0;
+    }
+    page[place - 1]
+}
+
+// Whether a bidder has any slot of a lent page.
+fn has_slot(page: &[u8; 16], bidder: u8) -> bool {
+    for standing in page {
+        if *standing == bidder {
+            return true;
+        }
+    }
+    false
+}
+
+// "the owner is at the own place (or that is 0)", where "a condition binds only if its owner has a place".
+fn own_part_holds(page: &[u8; 16], owner: u8, own_slot: u8) -> bool {
+    if own_slot == 0 {
+        return has_slot(page, owner);
+    }
+    bidder_at(page, own_slot) == owner
 }
 
 // "the other bidder is at the other's place (or there is no other)"
-fn other_part_holds(page: [u8; 16], other: u8, other_slot: u8) -> bool {
+fn other_part_holds(page: &[u8; 16], other: u8, other_slot: u8) -> bool {
     if other == 0 {
         return true;
     }
-    at(page, other_slot) == other
+    bidder_at(page, other_slot) == other
 }
 
 // "It is broken when both its parts are true." The other's part comes first, since it never looks at more than one slot.
-pub fn breaks(page: [u8; 16], constraint: [u8; 4]) -> bool {
+fn breaks_lent(page: &[u8; 16], constraint: &[u8]) -> bool
+    requires { length constraint.now ≡ 4 }
+{
     other_part_holds(
         page,
         constraint[fields::OTHER],
@@ -71,12 +97,19 @@ pub fn breaks(page: [u8; 16], constraint: [u8; 4]) -> bool {
     )
 }
 
+// The same of a page and a constraint by value.
+pub fn breaks(page: [u8; 16], constraint: [u8; 4]) -> bool {
+    breaks_lent(&page, &constraint)
+}
+
 // Whether any constraint of the sheet is broken.
 pub fn breaks_any(page: [u8; 16], sheet: &[u8]) -> bool {
-    let count = fields::constraint_count(sheet);
+    let constraints = fields::constraints(sheet);
+    let count = constraints.len() / 4;
     let mut index: usize = 0;
     while index < count {
-        if breaks(page, fields::constraint(sheet, index)) {
+        let at = 4 * index;
+        if breaks_lent(&page, &constraints[at..at + 4]) {
             return true;
         }
         index += 1;

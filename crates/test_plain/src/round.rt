@@ -20,7 +20,7 @@ pub fn bids(sheet: &[u8]) -> [u32; 64] {
     copied
 }
 
-fn bid_of(bids: [u32; 64], bidder: u8) -> u32 {
+fn bid_of(bids: &[u32; 64], bidder: u8) -> u32 {
     if bidder == 0 {
         return 0;
     }
@@ -57,7 +57,7 @@ fn may_stand(sheet: &[u8], filled: [u8; 16], slot: u8, bidder: u8) -> bool {
 fn is_eligible(
     sheet: &[u8],
     floors: &[u32],
-    bids: [u32; 64],
+    bids: &[u32; 64],
     filled: [u8; 16],
     slot: u8,
     bidder: u8,
@@ -69,7 +69,7 @@ fn is_eligible(
 }
 
 // Whether the leader, 0 for none, has to give way: the bidders come in order of number, so that an equal bid is not enough.
-fn outbids(bids: [u32; 64], bidder: u8, leader: u8) -> bool {
+fn outbids(bids: &[u32; 64], bidder: u8, leader: u8) -> bool {
     if leader == 0 {
         return true;
     }
@@ -77,7 +77,7 @@ fn outbids(bids: [u32; 64], bidder: u8, leader: u8) -> bool {
 }
 
 // "The eligible bidder with the highest bid wins; equal bids go to the lower number."
-fn winner(sheet: &[u8], floors: &[u32], bids: [u32; 64], filled: [u8; 16], slot: u8) -> u8 {
+fn winner(sheet: &[u8], floors: &[u32], bids: &[u32; 64], filled: [u8; 16], slot: u8) -> u8 {
     let bidders = fields::bidder_count(sheet);
     let mut leader: u8 = 0;
     let mut bidder: u8 = 0;
@@ -96,7 +96,7 @@ pub fn fill(sheet: &[u8], floors: &[u32], bids: [u32; 64], slots: u8) -> [u8; 16
     let mut slot: u8 = 0;
     while slot < slots {
         slot += 1;
-        let next = page::put(filled, slot, winner(sheet, floors, bids, filled, slot));
+        let next = page::put(filled, slot, winner(sheet, floors, &bids, filled, slot));
         filled = next;
     }
     filled
@@ -144,7 +144,7 @@ pub fn price(sheet: &[u8], floors: &[u32], bids: [u32; 64], winner: u8, slot: u8
     if winner == 0 {
         return 0;
     }
-    if is_small(bid_of(bids, winner), step_of(sheet)) {
+    if is_small(bid_of(&bids, winner), step_of(sheet)) {
         return least_of_all(sheet, floors, bids, winner, slot);
     }
     least_by_rivals(sheet, floors, bids, winner, slot)
@@ -152,7 +152,7 @@ pub fn price(sheet: &[u8], floors: &[u32], bids: [u32; 64], winner: u8, slot: u8
 
 // The price by every legal bid from 0 up to the winner's own.
 fn least_of_all(sheet: &[u8], floors: &[u32], bids: [u32; 64], winner: u8, slot: u8) -> u32 {
-    let own = bid_of(bids, winner);
+    let own = bid_of(&bids, winner);
     let step = step_of(sheet);
     let mut bid: u32 = 0;
     while bid < own {
@@ -176,12 +176,12 @@ fn legal_below(floor: u32, step: u32) -> u32
 fn least_by_rivals(sheet: &[u8], floors: &[u32], bids: [u32; 64], winner: u8, slot: u8) -> u32 {
     let bidders = fields::bidder_count(sheet);
     let low = legal_below(fields::floor(floors, slot), step_of(sheet));
-    let most = tried(sheet, floors, bids, winner, slot, 0, bid_of(bids, winner));
+    let most = tried(sheet, floors, bids, winner, slot, 0, bid_of(&bids, winner));
     let mut least = tried_both(sheet, floors, bids, winner, slot, low, most);
     let mut rival: u8 = 0;
     while rival < bidders {
         rival += 1;
-        let bid = bid_of(bids, rival);
+        let bid = bid_of(&bids, rival);
         least = tried_both(sheet, floors, bids, winner, slot, bid, least);
     }
     least
