@@ -52,8 +52,8 @@ use Rattle.share_page.specs.SharePage.{
 use Rattle.share_page.proofs.GoodLaws.{without-parts, Good, order_good, good_order}
 use Rattle.share_page.proofs.SharingLaws.{first-order, order-some, good_many}
 use Rattle.share_page.proofs.RefusalLaws as numbers
-use Rattle.pas.specs.Calls.{yes_number, SharePageGiven}
-use Rattle.demands.specs.Demands.{Exactly, Numbered, Lent, SharedRight, AllFromProfile, WrittenFor, HasAll, HasJust}
+use Rattle.pas.specs.Calls.{yes_number, AboveTermsGiven, SharePageGiven}
+use Rattle.demands.specs.Demands.{Exactly, Numbered, Lent, SharedRight, AllFromProfile, HasAll, HasJust, ListSent}
 use Rattle.demands.proofs.AboveTermsLaws.{above-written}
 
 yes-parts : (n m : ℕ) (members sets : List ℕ) → can_share n m members sets ≡ true →
@@ -439,7 +439,7 @@ no_page n m members sets out out' before given s ok bidders slots all p page non
 
 -- Lists written by the profile's call with the rival sets are such lists.
 pub all_written : (n m : ℕ) (s sets : List ℕ) → Accepted s → bidder_count s ≡ n → slot_count s ≡ m →
-    ((i : ℕ) → 0 < i → i ≤ n → WrittenFor n m s i (rivals_of sets i)) →
+    ((i : ℕ) → 0 < i → i ≤ n → (out out' : List ℕ) × (before count : ℕ) × AboveTermsGiven n m i (rivals_of sets i) out before 0 out' count × ListSent s i out' count) →
     AllFromProfile s sets
 unfolding condition_field
 all_written n m s sets ok bidders slots given =
