@@ -1,5 +1,6 @@
-// The edges of document 01's calls and of document 02's owner part, floors, one sheet for one round, top-of-page terms, named rivals, sharing and what the greedy
-// page can lose, on sheets of both versions, and the rounds worked by hand: a script comes in, and goes out again with the answer of each call.
+// The edges of document 01's calls and of document 02's owner part, floors, one sheet for one round, top-of-page terms, named rivals and sharing, on
+// sheets of both versions, and the rounds worked by hand: a script comes in, and goes out again with the answer of each call. The script may also ask
+// what the greedy page can lose.
 //
 // The file `stdin` is the script. A line whose first word is one of `sheets` writes on the sheet in hand, "floors" writes the list of floors in
 // hand, a line that begins with words of `calls` or with "terms", "rivals" or "share" makes a call, and any other is there for the reader. Of the rest of
