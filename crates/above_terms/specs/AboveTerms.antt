@@ -4,8 +4,7 @@ use Rattle.std.specs.Prelude.{ℕ, suc, ◌-◌, ◌*◌, ◌<◌, ◌≤◌, tr
 use Rattle.basis.specs.First.{◌when◌otherwise◌, or_else, unless_refused}
 use Rattle.basis.specs.Rows.{row, joined}
 use Rattle.sheet.specs.Encoded.{Condition, on}
-use Rattle.slot_terms.specs.SlotTerms.{owner_refusal, conditions_buffer}
-use Rattle.slot_terms.specs.declared.Written.{Written}
+use Rattle.slot_terms.specs.SlotTerms.{Written, owner_refusal, conditions_buffer}
 use Rattle.bidder_sets.specs.BidderSets.{in_set, numbers_wrong}
 
 -- that a condition is one of "all pairs in which the rival's place is above the owner's"

@@ -221,20 +221,6 @@ module _ (p : Page) (owner : Bidder) where
   here-placed : (k : ℕ) → 0 < k → k ≤ 16 → eqb (at p k) owner.0 ≡ true → placed p owner.0 ≡ true
   here-placed k s m e = placed_at p owner.0 k s m (eqb-true (at p k) owner.0 e)
 
-  pub own_slot-broken : (k : Slot) → 0 < k.0 → k.0 ≤ 16 → eqb (at p k.0) owner.0 ≡ broken p (with_kind (OwnSlot k))
-  unfolding own_holds other_holds
-  own_slot-broken k s m =
-      same_tests (eqb (at p k.0) owner.0) (broken p (with_kind (OwnSlot k)))
-      (λ e. parts-broken p (with_kind (OwnSlot k)) e refl (here-placed k.0 s m e))
-      (λ e. (broken-parts p (with_kind (OwnSlot k)) e).0)
-
-  pub other-slot-broken : (j : Bidder) (l : Slot) → placed p owner.0 ≡ true → eqb (at p l.0) j.0 ≡ broken p (with_kind (OtherSlot j l))
-  unfolding own_holds other_holds
-  other-slot-broken j l here =
-      same_tests (eqb (at p l.0) j.0) (broken p (with_kind (OtherSlot j l)))
-      (λ t. parts-broken p (with_kind (OtherSlot j l)) refl t here)
-      (λ t. (broken-parts p (with_kind (OtherSlot j l)) t).1)
-
   pub pair_broken : (k : Slot) (j : Bidder) (l : Slot) → 0 < k.0 → k.0 ≤ 16 → eqb (at p k.0) owner.0 ≡ true →
       eqb (at p l.0) j.0 ≡ broken p (with_kind (Pair k j l))
   unfolding own_holds other_holds
@@ -242,10 +228,6 @@ module _ (p : Page) (owner : Bidder) where
       same_tests (eqb (at p l.0) j.0) (broken p (with_kind (Pair k j l)))
       (λ t. parts-broken p (with_kind (Pair k j l)) e t (here-placed k.0 s m e))
       (λ t. (broken-parts p (with_kind (Pair k j l)) t).1)
-
-  pub pair_elsewhere : (k : Slot) (j : Bidder) (l : Slot) → eqb (at p k.0) owner.0 ≡ false → broken p (with_kind (Pair k j l)) ≡ false
-  unfolding own_holds
-  pair_elsewhere k j l e = fails (broken p (with_kind (Pair k j l))) (λ t. not_both (broken-parts p (with_kind (Pair k j l)) t).0 e)
 
 -- A condition that is a pair is broken exactly where both stand at their places.
 pub pair_where : (p : Page) (owner own other others : ℕ) → 0 < own → 0 < other → broken p (as_constraint (on owner own other others)) ≡ true →

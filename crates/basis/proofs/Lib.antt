@@ -6,5 +6,6 @@ pub mod NumberLaws
 pub mod RowLaws
 pub mod TestLaws
 pub mod BytesLaws
+pub mod SliceLaws
 pub mod RisingLaws
 pub mod SumLaws

@@ -9,21 +9,21 @@ use best_seats::{Rank, Seat, Seats};
 use sheet::Slot;
 
 // The bids in the order in which bidders win, with 0 after them.
+#[tactic(auto, unfolding(crate::specs::EngineBound::bid_at_rank, choice::specs::EngineBids::bid_in))]
 fn bids_by_rank(ranked: &[u8], bids: &[u32], bidders: usize) -> [u32; 8]
     requires { (bidders ≤ 8) × (bidders ≤ length ranked.now) × ((i : ℕ) → i < bidders → (0 < get_or ranked.now i 0) × (get_or ranked.now i 0 ≤ length bids.now)) }
     ensures { (i : ℕ) → get_or result i 0 ≡ bid_at_rank ranked.now bids.now bidders i }
 {
     let mut by_rank = [0u32; 8];
-    let mut rank = Rank(0);
-    while (rank.0 as usize) < bidders {
-        let bidder = choice::ranked_at(ranked, rank.0 as usize);
-        by_rank[rank.0 as usize] = bids[bidder.0 as usize - 1];
-        rank = best_seats::next_rank(rank);
+    for rank in 0..bidders {
+        let bidder = choice::ranked_at(ranked, rank);
+        by_rank[rank] = bids[bidder.0 as usize - 1];
     }
     by_rank
 }
 
 // What each seat adds: its bid times its effect. The rows after the last slot are 0, so that the bound need not stop there.
+#[tactic(auto, using(best_seats::proofs::TakeLaws::taken_is))]
 pub fn gains_of(
     ranked: &[u8],
     bids: &[u32],
@@ -38,16 +38,12 @@ pub fn gains_of(
 {
     let by_rank = bids_by_rank(ranked, bids, bidders);
     let mut gains = [0u64; 128];
-    let mut slot = Slot(1);
-    while slot.0 as usize <= slots {
-        let effect = effects[slot.0 as usize - 1] as u64;
-        let mut rank = Rank(0);
-        while rank.0 < 8 {
-            let seat = best_seats::seat_at(slot, rank);
-            gains[seat.0 as usize] = by_rank[rank.0 as usize] as u64 * effect;
-            rank = best_seats::next_rank(rank);
+    for (k, effect) in effects[..slots].iter().enumerate() {
+        let slot = Slot(k as u8 + 1);
+        for (rank, bid) in by_rank.iter().enumerate() {
+            let seat = best_seats::seat_at(slot, Rank(rank as u8));
+            gains[seat.0 as usize] = u64::from(*bid) * u64::from(*effect);
         }
-        slot = best_seats::next_slot(slot);
     }
     gains
 }

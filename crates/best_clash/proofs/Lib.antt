@@ -4,3 +4,4 @@ pub mod MarkLaws
 pub mod TableLaws
 pub mod RowLaws
 pub mod ShutLaws
+pub mod Sets

@@ -3,16 +3,13 @@
 use Prim.Native.Nat.{ℕ, zero, suc, ◌+◌, ◌*◌, ◌%◌, ◌<◌, ◌≤◌}
 use mathlib.Core.Bool.{◌||◌}
 use mathlib.Core.List.{List}
-use mathlib.Core.Logic.{⊎_elim}
-use mathlib.Core.Path.{◌≡◌, refl, sym, ◌∙◌, ap, ap₂, subst}
+use mathlib.Core.Path.{◌≡◌, refl, sym, ◌∙◌, ap, subst}
 use native.Mathlib.Omega.{arith}
 use lib.Dec.{eqb}
-use lib.ListN.{length, get_or, set, length-set}
-use lib.Seq.{get_or-set_same, get_or-set_other}
+use lib.ListN.{length, get_or}
 use Rattle.basis.specs.Bits.{bit_of}
 use Rattle.basis.specs.Tests.{any_below}
 use Rattle.basis.proofs.BitLaws.{bit_zero}
-use Rattle.basis.proofs.NumberLaws.{below_or_not}
 use Rattle.sheet.specs.declared.Kind.{Kind}
 use Rattle.sheet.specs.declared.Kind.TheVariants.{OwnSlot, OtherSlot, Pair}
 use Rattle.sheet.specs.declared.Constraint.{Constraint}
@@ -35,27 +32,6 @@ ShutWord table word k i =
 pub record WordsTo (table shut : List ℕ) (n : ℕ) : Type 0 where
   pub size : length shut ≡ 64
   pub told : (k i : ℕ) → i < 8 → 8 * k + i < n → ShutWord table (get_or shut (8 * k + i) 0) k i
-
--- and one more after a store
-pub words_more : (table shut : List ℕ) (k i word : ℕ) → k < 8 → i < 8 → WordsTo table shut (8 * k + i) → ShutWord table word k i →
-    WordsTo table (set shut (8 * k + i) word) (suc (8 * k + i))
-words_more table shut k i word k-low i-low v new =
-    let size = v.size in
-    record {
-      size = length-set shut (8 * k + i) word ∙ size;
-      told = λ m j j-low inside.
-          ⊎_elim
-          (λ (before : 8 * m + j < 8 * k + i).
-          subst (λ (w : ℕ). ShutWord table w m j) (sym (get_or-set_other shut (8 * k + i) (8 * m + j) word 0 (λ e. absurd (omega arith)))) (v.told m j j-low before))
-          (λ (past : 8 * k + i ≤ 8 * m + j).
-          let same-k : m ≡ k = omega arith in
-          let same-i : j ≡ i = omega arith in
-          subst (λ (w : ℕ). ShutWord table w m j)
-          (sym
-          (ap₂ (λ (x y : ℕ). get_or (set shut (8 * k + i) word) (8 * x + y) 0) same-k same-i ∙ get_or-set_same shut (8 * k + i) word 0 (omega arith)))
-          (subst (λ (x : ℕ). ShutWord table word x j) (sym same-k) (subst (λ (y : ℕ). ShutWord table word k y) (sym same-i) new)))
-          (below_or_not (8 * m + j) (8 * k + i));
-    }
 
 -- no constraint shuts anything in a table of 0, and each adds what it shuts
 module _ (ranks : List ℕ) (r : Round) where

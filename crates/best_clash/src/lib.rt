@@ -12,7 +12,7 @@ use best_seats::{Rank, Seat, Seats};
 use sheet::{Bidder, Constraint, Kind, Slot};
 
 // A line of the table: what is shut once a seat is taken, 0 to 63; from the start, 64; and once a rank stands at any slot, 65 to 72.
-#[derive(Clone, Copy)]
+#[derive(Clone, Copy, Debug, PartialEq, Eq)]
 struct Line(u8);
 
 // A bidder's rank.
@@ -58,19 +58,18 @@ fn mark(table: &mut [u64; 73], line: Line, shut: Seats)
     requires { (length table.old ≡ 73) × (line.0 < 73) }
     ensures { (length table.new ≡ 73) × ((x y : ℕ) → y < 64 → bit_of (get_or table.new x 0) y ≡ (bit_of (get_or table.old x 0) y || (eqb x line.0 && bit_of shut.0 y))) }
 {
-    let at = line.0 as usize;
-    table[at] = table[at] | shut.0;
+    table[line.0 as usize] |= shut.0;
 }
 
 // What one constraint shuts: its owner's seat from the start; or the owner everywhere once the other has its seat, and that seat once the owner
 // stands anywhere; or of two seats each once the other is taken.
+#[tactic(auto, unfolding(crate::specs::EngineMarks::shuts))]
 fn mark_constraint(table: &mut [u64; 73], ranks: &[u8; 16], constraint: Constraint)
     requires { (length table.old ≡ 73) × Small constraint × ((b : ℕ) → get_or ranks.now b 0 < 8) }
     ensures { (length table.new ≡ 73) × ((x y : ℕ) → y < 64 → bit_of (get_or table.new x 0) y ≡ (bit_of (get_or table.old x 0) y || shuts ranks.now constraint.kind constraint.owner.0 x y)) }
 {
     let owner = constraint.owner;
-    let kind = constraint.kind;
-    match kind {
+    match constraint.kind {
         Kind::OwnSlot(slot) => {
             let own = seat_of(ranks, owner, slot);
             mark(table, always(), best_seats::only(own));
@@ -91,6 +90,7 @@ fn mark_constraint(table: &mut [u64; 73], ranks: &[u8; 16], constraint: Constrai
 }
 
 // What all constraints of an accepted sheet shut, in a table of 0. They are read one by one.
+#[tactic(auto, using(crate::proofs::Sets::tables), unfolding(sheet::specs::Round::round_of))]
 pub fn fill_table(table: &mut [u64; 73], ranks: &[u8; 16], sheet: &[u8])
     requires table_len { (length table.old ≡ 73) × ((x : ℕ) → get_or table.old x 0 ≡ 0) × ((b : ℕ) → get_or ranks.now b 0 < 8) }
     requires accepted { Accepted sheet.now × (bidder_count sheet.now ≤ 8) × (slot_count sheet.now ≤ 8) }
@@ -98,15 +98,14 @@ pub fn fill_table(table: &mut [u64; 73], ranks: &[u8; 16], sheet: &[u8])
 {
     let used = sheet_read::constraint_count(sheet);
     let start = sheet_read::constraints_start(sheet);
-    let mut i = 0;
-    while i < used {
+    for i in 0..used {
         mark_constraint(table, ranks, sheet_read::constraint_at(sheet, start, i));
-        i += 1;
     }
 }
 
 // All that a seat shuts once it is taken: what its line tells, what its rank's line tells, and all the rank's own seats. The slot's own byte comes
 // first and those of the slots above are gone, as in what is free when the slot is the next.
+#[tactic(auto, using(crate::proofs::Sets::words))]
 fn shut_at(table: &[u64; 73], slot: Slot, rank: Rank) -> Seats
     requires { (0 < slot.0) × (slot.0 ≤ 8) × (rank.0 < 8) }
     ensures { (z : ℕ) → 8 * (slot.0 - 1) + z < 64 → bit_of result.0 z ≡ ((bit_of (get_or table.now (8 * (slot.0 - 1) + rank.0) 0) (8 * (slot.0 - 1) + z) || bit_of (get_or table.now (65 + rank.0) 0) (8 * (slot.0 - 1) + z)) || eqb (z % 8) rank.0) }
@@ -126,16 +125,12 @@ pub fn shut_words(table: &[u64; 73]) -> [u64; 64]
     ensures { WordsOf table.now result }
 {
     let mut shut = [0u64; 64];
-    let mut slot = Slot(1);
-    while slot.0 <= 8 {
-        let mut rank = Rank(0);
-        while rank.0 < 8 {
+    for slot in 1..=8u8 {
+        for rank in 0..8u8 {
+            let (slot, rank) = (Slot(slot), Rank(rank));
             let seat = best_seats::seat_at(slot, rank);
-            let all = shut_at(table, slot, rank);
-            shut[seat.0 as usize] = all.0;
-            rank = best_seats::next_rank(rank);
+            shut[seat.0 as usize] = shut_at(table, slot, rank).0;
         }
-        slot = best_seats::next_slot(slot);
     }
     shut
 }
@@ -149,6 +144,7 @@ pub fn shut_by(shut: &[u64; 64], seat: Seat) -> Seats
 }
 
 // How many of the first ranks bid at least a floor: bids fall from rank to rank, so these are the first so many.
+#[tactic(auto, using(choice::proofs::PlacingLaws::bid_index))]
 fn reaching(ranked: &[u8], bids: &[u32], bidders: usize, floor: u32) -> usize
     requires { (bidders ≤ 8) × RankedBids bids.now bidders ranked.now }
     ensures { (result ≤ bidders) × ((i : ℕ) → ltb i result ≡ reaches bids.now ranked.now bidders floor i) }
@@ -156,13 +152,11 @@ fn reaching(ranked: &[u8], bids: &[u32], bidders: usize, floor: u32) -> usize
     if floor == 0 {
         return bidders;
     }
-    let mut count = bidders;
-    while count != 0 {
-        let bidder = choice::ranked_at(ranked, count - 1);
+    for rank in (0..bidders).rev() {
+        let bidder = choice::ranked_at(ranked, rank);
         if floor <= bids[bidder.0 as usize - 1] {
-            return count;
+            return rank + 1;
         }
-        count -= 1;
     }
     0
 }
@@ -173,16 +167,9 @@ fn reached_seats(ranked: &[u8], bids: &[u32], floors: &[u32], bidders: usize, sl
     ensures { (result.0 < 2 ^ (8 * slots)) × ((l i : ℕ) → l < 8 → i < 8 → bit_of result.0 (8 * l + i) ≡ (ltb l slots && reaches bids.now ranked.now bidders (get_or floors.now l 0) i)) }
 {
     let mut all = Seats(0);
-    let mut slot = Slot(1);
-    while slot.0 as usize <= slots {
-        let ranks = best_seats::first_ranks(reaching(
-            ranked,
-            bids,
-            bidders,
-            floors[slot.0 as usize - 1],
-        ));
-        all = best_seats::either(all, best_seats::at_slot(ranks, slot));
-        slot = best_seats::next_slot(slot);
+    for (k, floor) in floors[..slots].iter().enumerate() {
+        let ranks = best_seats::first_ranks(reaching(ranked, bids, bidders, *floor));
+        all = best_seats::either(all, best_seats::at_slot(ranks, Slot(k as u8 + 1)));
     }
     all
 }

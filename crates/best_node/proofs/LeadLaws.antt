@@ -86,10 +86,10 @@ pub byte_low : (x w : ℕ) → x < 2 ^ (8 + w) → x / 256 < 2 ^ w
 byte_low x w l = shr_lt w 8 (subst (λ (n : ℕ). x < 2 ^ n) (let e : 8 + w ≡ w + 8 = omega arith in e) l)
 
 -- and what the slots left can add is small enough for 64 bits.
-pub most-low : (gains : List ℕ) → ((x : ℕ) → get_or gains x 0 ≤ 1_000_000_000_000_000) → (eligible : ℕ → Bool) (k : ℕ) →
+pub most_low : (gains : List ℕ) → ((x : ℕ) → get_or gains x 0 ≤ 1_000_000_000_000_000) → (eligible : ℕ → Bool) (k : ℕ) →
     add_after eligible (gain_in gains) k 16 8 ≤ 8 * 1_000_000_000_000_000
 unfolding gain_in
-most-low gains low eligible k = added_low eligible (gain_in gains) k 16 8 1_000_000_000_000_000 (λ i j. low (8 * j + i))
+most_low gains low eligible k = added_low eligible (gain_in gains) k 16 8 1_000_000_000_000_000 (λ i j. low (8 * j + i))
 
 pub gain-low : (gains : List ℕ) → ((x : ℕ) → get_or gains x 0 ≤ 1_000_000_000_000_000) → (i k : ℕ) → gain_in gains i k ≤ 1_000_000_000_000_000
 unfolding gain_in

@@ -8,7 +8,7 @@ use best_seats::{Rank, Seats};
 use sheet::Slot;
 
 // What a choice for a slot leads to: what is free then, what is had then, and the most that can be had.
-#[derive(Clone, Copy)]
+#[derive(Clone, Copy, Debug, PartialEq, Eq)]
 pub struct Ahead {
     pub free: Seats,
     pub had: u64,
@@ -16,6 +16,7 @@ pub struct Ahead {
 }
 
 // What a rank at the next slot leads to.
+#[tactic(auto, using(crate::proofs::LeadLaws::most_low))]
 pub fn look_ahead(
     shut: &[u64; 64],
     gains: &[u64; 128],
@@ -40,6 +41,7 @@ pub fn look_ahead(
 }
 
 // What nobody at the next slot leads to.
+#[tactic(auto, using(crate::proofs::LeadLaws::most_low))]
 pub fn pass_over(gains: &[u64; 128], slot: Slot, free: Seats, had: u64) -> Ahead
     requires slot_nonzero { (0 < slot.0) × (slot.0 ≤ 8) × (had ≤ (slot.0 - 1) * 1000000000000000) }
     requires by_index { (x : ℕ) → get_or gains.now x 0 ≤ 1000000000000000 }

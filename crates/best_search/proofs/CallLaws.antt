@@ -2,6 +2,7 @@
 use Prim.Native.Nat.{ℕ, zero, suc, ◌<◌, ◌≤◌}
 use borrow.Author.Tests.{lt-ltb, le-ltb}
 use mathlib.Core.List.{List, ◌++◌}
+use mathlib.Core.Logic.{◌⊎◌, ⊎_elim}
 use mathlib.Core.Path.{◌≡◌, refl, sym, ◌∙◌, ap, ap₂}
 use native.Mathlib.Omega.{arith}
 use lib.ListN.{length, drop}
@@ -17,8 +18,12 @@ use Rattle.floors.specs.Floors.{floors_refusal}
 use Rattle.auction.specs.Page.{at}
 use Rattle.auction.specs.Allowed.{total}
 use Rattle.best_page.specs.BestPage.{best_page_of}
-use Rattle.best_search.specs.declared.Chosen.{Chosen}
-use Rattle.best_search.specs.Call.{bounds_refusal, best_refusal, best_floors_refusal, best_buffer, chosen_for, BestGiven, BestFloorsGiven}
+use Rattle.refusal.specs.declared.Refusal.{Refusal}
+use Rattle.refusal.specs.Numbers.{number_of}
+use Rattle.std.specs.Prelude.{Result}
+use Rattle.std.specs.Result.{IsErrAnd}
+use Rattle.std.proofs.lemmas.Result.{err_from_is_err_and}
+use Rattle.best_search.specs.Call.{bounds_refusal, best_refusal, best_floors_refusal, best_buffer, Chosen, chosen_in, chosen_for, BestGiven, BestFloorsGiven}
 
 -- what a call gives that has this number, 0 for none, and seeks the best page of this round
 abbrev pub Gives : ℕ → Round → (out : List ℕ) → Chosen → (out' : List ℕ) → Type 0
@@ -33,27 +38,31 @@ chosen_refused (suc k) r h = refl
 abbrev Alone : ℕ → Chosen → Type 0
 Alone k given = given ≡ record { refusal = k; total = 0 }
 
+-- as `?` passes it on
+pub alone : (r : Result ℕ Refusal) (refusal : Refusal) → IsErrAnd r (λ y. y ≡ refusal) → Alone (number_of refusal) (chosen_in r)
+alone r refusal is = let p = err_from_is_err_and r is in rw (p.1, p.2)
+
 refused : (r : Round) (out : List ℕ) (number k : ℕ) (given : Chosen) → Alone k given → k ≡ number → (k ≡ 0 → ⊥) → Gives number r out given out
-refused r out number k given alone e h =
-    (alone ∙ chosen_refused k r h ∙ ap (λ (n : ℕ). chosen_for n r) e, refused_leaves number k (best_buffer r out) out e h)
+refused r out number k given only e h =
+    (only ∙ chosen_refused k r h ∙ ap (λ (n : ℕ). chosen_for n r) e, refused_leaves number k (best_buffer r out) out e h)
 
 pub sheet-refused : (s out : List ℕ) (k : ℕ) (given : Chosen) → Alone k given → k ≡ refusal_of s → (k ≡ 0 → ⊥) → BestGiven s out given out
 unfolding best_refusal
-sheet-refused s out k given alone e h =
-    let gives = refused (round_of s) out (best_refusal s out) k given alone (e ∙ sym (or_else_left (refusal_of s) _ (λ z. h (e ∙ z)))) h in
+sheet-refused s out k given only e h =
+    let gives = refused (round_of s) out (best_refusal s out) k given only (e ∙ sym (or_else_left (refusal_of s) _ (λ z. h (e ∙ z)))) h in
     record { returned = gives.0; buffer = gives.1 }
 
 pub floors-sheet-refused : (f s out : List ℕ) (k : ℕ) (given : Chosen) → Alone k given → k ≡ refusal_of s → (k ≡ 0 → ⊥) → BestFloorsGiven f s out given out
 unfolding best_floors_refusal
-floors-sheet-refused f s out k given alone e h =
-    let gives = refused (with_floors (round_of s) f) out (best_floors_refusal f s out) k given alone (e ∙ sym (or_else_left (refusal_of s) _ (λ z. h (e ∙ z)))) h in
+floors-sheet-refused f s out k given only e h =
+    let gives = refused (with_floors (round_of s) f) out (best_floors_refusal f s out) k given only (e ∙ sym (or_else_left (refusal_of s) _ (λ z. h (e ∙ z)))) h in
     record { returned = gives.0; buffer = gives.1 }
 
 pub floors-refused : (f s out : List ℕ) (k : ℕ) (given : Chosen) → Alone k given → Accepted s → k ≡ floors_refusal (slot_count s) f → (k ≡ 0 → ⊥) →
     BestFloorsGiven f s out given out
 unfolding best_floors_refusal
-floors-refused f s out k given alone ok e h =
-    let gives = refused (with_floors (round_of s) f) out (best_floors_refusal f s out) k given alone (e ∙ sym (or_else_right (refusal_of s) _ ok ∙ or_else_left (floors_refusal (slot_count s) f) _ (λ z. h (e ∙ z)))) h in
+floors-refused f s out k given only ok e h =
+    let gives = refused (with_floors (round_of s) f) out (best_floors_refusal f s out) k given only (e ∙ sym (or_else_right (refusal_of s) _ ok ∙ or_else_left (floors_refusal (slot_count s) f) _ (λ z. h (e ∙ z)))) h in
     record { returned = gives.0; buffer = gives.1 }
 
 -- the two that are left of an accepted sheet, with a list of floors that is right
@@ -86,19 +95,20 @@ floored-gives f s out out' given ok none gives =
 
 -- 18 and 19, and a round within the bounds with room in the buffer
 module _ (r : Round) (s out : List ℕ) where
-  pub bidders-many : (given : Chosen) → Alone 18 given → 8 < bidder_count s → Gives (bounds_refusal s out) r out given out
+  pub too_large : (8 < bidder_count s) ⊎ ((bidder_count s ≤ 8) × (8 < slot_count s)) → Gives (bounds_refusal s out) r out (record { refusal = 18; total = 0 }) out
   unfolding bounds_refusal
-  bidders-many given alone l = refused r out (bounds_refusal s out) 18 given alone (sym (simp (lt-ltb 8 (bidder_count s) l))) (λ z. absurd (omega arith))
+  too_large many =
+      refused r out (bounds_refusal s out) 18 _ refl
+      (⊎_elim
+      (λ (l : 8 < bidder_count s). sym (simp (lt-ltb 8 (bidder_count s) l)))
+      (λ (l : (bidder_count s ≤ 8) × (8 < slot_count s)). sym (simp (le-ltb 8 (bidder_count s) l.0, lt-ltb 8 (slot_count s) l.1)))
+      many)
+      (λ z. absurd (omega arith))
 
-  pub slots-many : (given : Chosen) → Alone 18 given → bidder_count s ≤ 8 → 8 < slot_count s → Gives (bounds_refusal s out) r out given out
+  pub buffer_short : bidder_count s ≤ 8 → slot_count s ≤ 8 → length out < slot_count s → Gives (bounds_refusal s out) r out (record { refusal = 19; total = 0 }) out
   unfolding bounds_refusal
-  slots-many given alone m l =
-      refused r out (bounds_refusal s out) 18 given alone (sym (simp (le-ltb 8 (bidder_count s) m, lt-ltb 8 (slot_count s) l))) (λ z. absurd (omega arith))
-
-  pub buffer_short : (given : Chosen) → Alone 19 given → bidder_count s ≤ 8 → slot_count s ≤ 8 → length out < slot_count s → Gives (bounds_refusal s out) r out given out
-  unfolding bounds_refusal
-  buffer_short given alone m n l =
-      refused r out (bounds_refusal s out) 19 given alone
+  buffer_short m n l =
+      refused r out (bounds_refusal s out) 19 _ refl
       (sym (simp (le-ltb 8 (bidder_count s) m, le-ltb 8 (slot_count s) n, lt-ltb (length out) (slot_count s) l)))
       (λ z. absurd (omega arith))
 

@@ -3,3 +3,4 @@ pub mod RaiseLaws
 pub mod SeekLaws
 pub mod StartLaws
 pub mod CallLaws
+pub mod NextLaws

@@ -1,5 +1,5 @@
 -- The call: the best page of a lent sheet, in a lent buffer.
-use Rattle.std.specs.Prelude.{ℕ, zero, suc, ◌||◌, List, ◌++◌, ◌≡◌, ltb, length, drop}
+use Rattle.std.specs.Prelude.{ℕ, zero, suc, ◌||◌, List, Result, Ok, Err, ◌++◌, ◌≡◌, ltb, length, drop}
 use Rattle.basis.specs.First.{◌when◌otherwise◌, or_else, unless_refused}
 use Rattle.basis.specs.Rows.{row}
 use Rattle.sheet.specs.declared.Round.{Round}
@@ -10,7 +10,8 @@ use Rattle.floors.specs.Floors.{floors_refusal}
 use Rattle.auction.specs.Page.{at}
 use Rattle.best_page.specs.BestPage.{best_page_of}
 use Rattle.auction.specs.Allowed.{total}
-use Rattle.best_search.specs.declared.Chosen.{Chosen}
+use Rattle.refusal.specs.declared.Refusal.{Refusal}
+use Rattle.refusal.specs.Numbers.{number_of}
 
 -- 18. The best page is sought with n above 8 or m above 8.  19. The result buffer is shorter than the bytes to be written.
 unfoldable pub bounds_refusal : List ℕ → List ℕ → ℕ
@@ -30,6 +31,15 @@ best_floors_refusal floors s out = or_else (refusal_of s) (or_else (floors_refus
 -- "It writes m bytes of bidder numbers, later bytes untouched, and returns the total."
 unfoldable pub best_buffer : Round → List ℕ → List ℕ
 best_buffer r out = row (λ k. at (best_page_of r) (suc k)) r.slots ++ drop r.slots out
+
+-- what a call tells: a refusal's number, or 0 and the best page's total
+pub record Chosen : Type 0 where
+  pub refusal : ℕ
+  pub total : ℕ
+
+abbrev pub chosen_in : Result ℕ Refusal → Chosen
+chosen_in (Ok total) = record { refusal = 0; total = total }
+chosen_in (Err refusal) = record { refusal = number_of refusal; total = 0 }
 
 unfoldable pub chosen_for : ℕ → Round → Chosen
 chosen_for zero r = record { refusal = 0; total = total r (best_page_of r) }

@@ -1,6 +1,6 @@
 -- The engine's own: nothing here need be believed.
 -- What the two searches give: the largest total, and the first page in dictionary order that has it.
-use Rattle.std.specs.Prelude.{ℕ, suc, ◌≤◌, Bool, true, false, List, ◌⊎◌, ◌≡◌}
+use Rattle.std.specs.Prelude.{ℕ, suc, ◌≤◌, Option, Some, None, Bool, true, false, List, ◌⊎◌, ◌≡◌}
 use Rattle.sheet.specs.declared.Page.{Page}
 use Rattle.sheet.specs.declared.Round.{Round}
 use Rattle.auction.specs.Allowed.{Allowed, total}
@@ -34,3 +34,8 @@ abbrev pub Sought : (shut gains ranks : List ℕ) (bidders slot : ℕ) (p : Page
 Sought shut gains ranks bidders slot p free had sum found page =
     (r : Round) (ranked : List ℕ) (k : ℕ) → suc k ≡ slot → r.bidders ≡ bidders → TablesOf r ranked shut gains → RanksOf r.bidders ranked ranks →
     Node r p k had → FreeFor r ranked p k free → FirstWith r (Agrees p k) sum found page
+
+-- the first such page, or none
+abbrev pub SoughtIn : (shut gains ranks : List ℕ) (bidders slot : ℕ) (p : Page) (free had sum : ℕ) → Option Page → Type 0
+SoughtIn shut gains ranks bidders slot p free had sum (Some page) = Sought shut gains ranks bidders slot p free had sum true page
+SoughtIn shut gains ranks bidders slot p free had sum None = Sought shut gains ranks bidders slot p free had sum false p

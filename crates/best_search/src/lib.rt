@@ -14,30 +14,17 @@ ghost use Rattle.auction.specs.Allowed.{total};
 ghost use Rattle.auction.specs.Page.{at};
 ghost use Rattle.best_page.specs.Best.{Best};
 ghost use Rattle.best_clash.specs.EngineClash.{RanksOf};
-ghost use Rattle.best_search.specs.Call.{bounds_refusal, best_buffer, chosen_for, BestGiven, BestFloorsGiven};
-ghost use Rattle.best_search.specs.EngineFound.{Raised, Sought};
+ghost use Rattle.best_search.specs.Call.{bounds_refusal, best_buffer, chosen_for, chosen_in, BestGiven, BestFloorsGiven};
+ghost use Rattle.best_search.specs.EngineFound.{Raised, SoughtIn};
 
-use best_seats::{Rank, Seats};
+use best_seats::Seats;
+use refusal::Refusal;
 use sheet::{Bidder, Page, Slot};
 
-// What the second search gives: whether there is a page with the total, and the first of them.
-#[derive(Clone, Copy)]
-pub struct FirstPage {
-    pub found: bool,
-    pub page: Page,
-}
-
 // The best page and its total.
-#[derive(Clone, Copy)]
+#[derive(Clone, Copy, Debug, PartialEq, Eq)]
 pub struct BestFound {
     pub page: Page,
-    pub total: u64,
-}
-
-// The call's answer: a refusal's number, or 0 and the best page's total.
-#[derive(Clone, Copy)]
-pub struct Chosen {
-    pub refusal: u32,
     pub total: u64,
 }
 
@@ -47,11 +34,9 @@ fn ranks_of(ranked: &[u8], bidders: usize) -> [u8; 16]
     ensures { RanksOf bidders ranked.now result × ((b : ℕ) → get_or result b 0 < 8) }
 {
     let mut ranks = [0u8; 16];
-    let mut rank = Rank(0);
-    while (rank.0 as usize) < bidders {
-        let bidder = choice::ranked_at(ranked, rank.0 as usize);
-        ranks[bidder.0 as usize] = rank.0;
-        rank = best_seats::next_rank(rank);
+    for rank in 0..bidders {
+        let bidder = choice::ranked_at(ranked, rank);
+        ranks[bidder.0 as usize] = rank as u8;
     }
     ranks
 }
@@ -99,21 +84,18 @@ fn search(
     free: Seats,
     had: u64,
     total: u64,
-) -> FirstPage
+) -> Option<Page>
     requires slot_nonzero { (0 < slot.0) × (slot.0 ≤ 9) × (free.0 < 2 ^ (8 * (9 - slot.0))) × (had ≤ (slot.0 - 1) * 1000000000000000) }
     requires by_index { ((x : ℕ) → get_or gains.now x 0 ≤ 1000000000000000) × (bidders ≤ 8) × ((b : ℕ) → get_or ranks.now b 0 < 8) }
-    ensures { Sought shut.now gains.now ranks.now bidders slot.0 page free.0 had total result.found result.page }
+    ensures { SoughtIn shut.now gains.now ranks.now bidders slot.0 page free.0 had total result }
 {
     if free.0 == 0 {
-        return FirstPage {
-            found: had == total,
-            page,
-        };
+        return if had == total { Some(page) } else { None };
     }
     let next = best_seats::next_slot(slot);
     let passed = best_node::pass_over(gains, slot, free, had);
     if total <= passed.most {
-        let below = search(
+        if let Some(first) = search(
             shut,
             gains,
             ranks,
@@ -123,18 +105,17 @@ fn search(
             passed.free,
             passed.had,
             total,
-        );
-        if below.found {
-            return below;
+        ) {
+            return Some(first);
         }
     }
-    let mut bidder = Bidder(1);
-    while bidder.0 as usize <= bidders {
+    for bidder in 1..=bidders as u16 {
+        let bidder = Bidder(bidder);
         let rank = best_clash::rank_of(ranks, bidder);
         if best_seats::is_free(free, rank) {
             let ahead = best_node::look_ahead(shut, gains, slot, free, had, rank);
             if total <= ahead.most {
-                let below = search(
+                if let Some(first) = search(
                     shut,
                     gains,
                     ranks,
@@ -144,15 +125,13 @@ fn search(
                     ahead.free,
                     ahead.had,
                     total,
-                );
-                if below.found {
-                    return below;
+                ) {
+                    return Some(first);
                 }
             }
         }
-        bidder = Bidder(bidder.0 + 1);
     }
-    FirstPage { found: false, page }
+    None
 }
 
 // The best page of a small round with a floor under each slot. Bids and effects are read and the constraints gone through once, and no round is made
@@ -174,7 +153,7 @@ fn best_page(sheet: &[u8], floors: &[u32]) -> BestFound
     let free = best_clash::first_free(&table, &ranked, &bids, floors, bidders, slots);
     let page = auction::empty_page();
     let largest = raise(&shut, &gains, Slot(1), free, 0, 0);
-    let first = search(
+    let best = search(
         &shut,
         &gains,
         &ranks,
@@ -185,9 +164,8 @@ fn best_page(sheet: &[u8], floors: &[u32]) -> BestFound
         0,
         largest,
     );
-    let best = first.page;
     BestFound {
-        page: best,
+        page: best.unwrap_or(page),
         total: largest,
     }
 }
@@ -197,73 +175,43 @@ fn write_page(page: Page, slots: usize, res: &mut [u8])
     requires { (slots ≤ 16) × (slots ≤ length res.old) × ((k : ℕ) → at page k < 256) }
     ensures { res.new ≡ row (λ k. at page (suc k)) slots ++ drop slots res.old }
 {
-    let mut k: usize = 0;
-    while k < slots {
-        let bidder = page.bidders[k];
+    for (k, bidder) in page.bidders[..slots].iter().enumerate() {
         res[k] = bidder.0 as u8;
-        k += 1;
     }
 }
 
-// 18 or 19, or 0 and the total of the best page, which goes to the buffer: of an accepted sheet with a floor under each slot.
-fn best_accepted(sheet: &[u8], floors: &[u32], res: &mut [u8]) -> Chosen
+// The total of the best page, which goes to the buffer, or 18 or 19: of an accepted sheet with a floor under each slot.
+fn best_accepted(sheet: &[u8], floors: &[u32], res: &mut [u8]) -> Result<u64, Refusal>
     requires { Accepted sheet.now × ProperFloors (slot_count sheet.now) floors.now }
-    ensures { (result ≡ chosen_for (bounds_refusal sheet.now res.old) (with_floors (round_of sheet.now) floors.now)) × (res.new ≡ unless_refused (bounds_refusal sheet.now res.old) (best_buffer (with_floors (round_of sheet.now) floors.now) res.old) res.old) }
+    ensures { (chosen_in result ≡ chosen_for (bounds_refusal sheet.now res.old) (with_floors (round_of sheet.now) floors.now)) × (res.new ≡ unless_refused (bounds_refusal sheet.now res.old) (best_buffer (with_floors (round_of sheet.now) floors.now) res.old) res.old) }
 {
     let bidders = sheet[5] as usize;
     let slots = sheet[6] as usize;
-    if 8 < bidders {
-        return refused(18);
-    }
-    if 8 < slots {
-        return refused(18);
+    if 8 < bidders || 8 < slots {
+        return Err(Refusal::TooLargeForBest);
     }
     if res.len() < slots {
-        return refused(19);
+        return Err(Refusal::ResultTooShort);
     }
     let answer = best_page(sheet, floors);
     write_page(answer.page, slots, res);
-    Chosen {
-        refusal: 0,
-        total: answer.total,
-    }
+    Ok(answer.total)
 }
 
-// A refusal's number alone.
-fn refused(number: u32) -> Chosen
-    ensures { result ≡ record { refusal = number; total = 0 } }
+// The total of the best page, with the page's bidder numbers in the buffer, one byte a slot, and every later byte as it was; or the first rule that the
+// call breaks, one of the check's, 18 or 19, with every byte of the buffer as it was.
+pub fn best(sheet: &[u8], res: &mut [u8]) -> Result<u64, Refusal>
+    ensures { BestGiven sheet.now res.old (chosen_in result) res.new }
 {
-    Chosen {
-        refusal: number,
-        total: 0,
-    }
+    sheet_check::check(sheet)?;
+    best_accepted(sheet, &[0; 16], res)
 }
 
-// The number of the first rule that the call breaks, the check's, 18 or 19, with every byte of the buffer as it was; or 0 and the total of the
-// best page, with the page's bidder numbers in the buffer, one byte a slot, and every later byte as it was.
-pub fn best(sheet: &[u8], res: &mut [u8]) -> Chosen
-    ensures { BestGiven sheet.now res.old result res.new }
+// The same with a floor under each slot, and 30 and 31 after the check's rules.
+pub fn best_floors(sheet: &[u8], floors: &[u32], res: &mut [u8]) -> Result<u64, Refusal>
+    ensures { BestFloorsGiven floors.now sheet.now res.old (chosen_in result) res.new }
 {
-    let refusal = sheet_check::check(sheet);
-    if refusal != 0 {
-        return refused(refusal);
-    }
-    let none = [0u32; 16];
-    best_accepted(sheet, &none, res)
-}
-
-// The same with a floor under each slot, and 30 and 31 after the check's numbers.
-pub fn best_floors(sheet: &[u8], floors: &[u32], res: &mut [u8]) -> Chosen
-    ensures { BestFloorsGiven floors.now sheet.now res.old result res.new }
-{
-    let refusal = sheet_check::check(sheet);
-    if refusal != 0 {
-        return refused(refusal);
-    }
-    let slots = sheet[6] as usize;
-    let wrong = floors::check_floors(floors, slots);
-    if wrong != 0 {
-        return refused(wrong);
-    }
+    sheet_check::check(sheet)?;
+    floors::check_floors(floors, sheet[6] as usize)?;
     best_accepted(sheet, floors, res)
 }

@@ -1,2 +1,3 @@
 pub mod SeatLaws
 pub mod WordLaws
+pub mod TakeLaws

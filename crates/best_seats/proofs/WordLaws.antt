@@ -1,15 +1,19 @@
 -- The words of one rank and of all bytes together: each rank and each bit is tried; and the or of a word's eight bytes has a bit where one of them
 -- has it, since each half's or tells it for the slots of that half. Assumes nothing.
-use Prim.Native.Nat.{ℕ, ◌+◌, ◌*◌, ◌/◌, ◌%◌, ◌^◌, ◌<◌, ◌≤◌}
+use Prim.Native.Nat.{ℕ, ◌+◌, ◌-◌, ◌*◌, ◌/◌, ◌%◌, ◌^◌, ◌<◌, ◌≤◌}
 use borrow.Author.Tests.{leb-true}
-use mathlib.Core.Bool.{Bool, ◌||◌}
+use mathlib.Core.Bool.{Bool, true, false, cond, not, ◌&&◌, ◌||◌}
+use mathlib.Core.Logic.{⊎_elim}
 use mathlib.Core.Path.{◌≡◌, refl, sym, ◌∙◌, ap}
 use native.Mathlib.Omega.{arith}
-use lib.Bits.{bit_or}
+use lib.Bits.{bit_and, bit_or}
+use mir.Syntax.{w64}
+use Rattle.std.proofs.lemmas.Nat.Bits.{bit_at_not}
+use Rattle.basis.proofs.NumberLaws.{below_or_not}
 use lib.Dec.{eqb, leb}
 use Rattle.basis.specs.Bits.{bit_of}
 use Rattle.basis.specs.Tests.{any_below, all_below}
-use Rattle.basis.proofs.BitLaws.{bit_of-bit_or, bit_shr, bit_kept}
+use Rattle.basis.proofs.BitLaws.{bit_digit, bit_of-bit_and, bit_of-bit_or, bit_shr, bit_kept, bit_above}
 use Rattle.basis.proofs.TestLaws.{all-at, any_pairs, tried}
 use Rattle.best_seats.specs.EngineSeats.{somewhere}
 
@@ -49,3 +53,20 @@ bytes_or free i l =
 pub one_left : (count : ℕ) → count < 9 → 1 ≤ 1 * 2 ^ count % 2 ^ 64
 unfolding all_below
 one_left count few = leb-true 1 (1 * 2 ^ count % 2 ^ 64) (all-at (λ n. leb 1 (1 * 2 ^ n % 2 ^ 64)) 9 refl count few)
+
+-- what is in one word and not in another
+pub bit_and_not : (a b i : ℕ) → a < 2 ^ 64 → b < 2 ^ 64 → bit_of (bit_and a (2 ^ 64 - 1 - b)) i ≡ (bit_of a i && not (bit_of b i))
+unfolding bit_of
+bit_and_not a b i a-low b-low =
+    bit_of-bit_and a (2 ^ 64 - 1 - b) i
+    ∙ ⊎_elim
+    (λ (l : i < 64). ap (λ (t : Bool). bit_of a i && t) (flipped l))
+    (λ (l : 64 ≤ i). let none = bit_above 64 a i a-low l in simp none)
+    (below_or_not i 64)
+  where
+    by_tests : (t : Bool) → eqb (1 - cond t 1 0) 1 ≡ not t
+    by_tests true = refl
+    by_tests false = refl
+
+    flipped : i < 64 → bit_of (2 ^ 64 - 1 - b) i ≡ not (bit_of b i)
+    flipped l = ap (λ (x : ℕ). eqb x 1) (bit_at_not w64 b i b-low l ∙ ap (λ (x : ℕ). 1 - x) (bit_digit b i)) ∙ by_tests (bit_of b i)

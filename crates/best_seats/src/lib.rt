@@ -10,19 +10,19 @@ ghost use Rattle.best_seats.specs.EngineSeats.{somewhere, First};
 use sheet::Slot;
 
 // A bidder's index in the order in which bidders win, from 0.
-#[derive(Clone, Copy)]
+#[derive(Clone, Copy, Debug, PartialEq, Eq)]
 pub struct Rank(pub u8);
 
 // A rank at a slot in one number, 8 a slot.
-#[derive(Clone, Copy)]
+#[derive(Clone, Copy, Debug, PartialEq, Eq)]
 pub struct Seat(pub u8);
 
 // A set of ranks, a bit each.
-#[derive(Clone, Copy)]
+#[derive(Clone, Copy, Debug, PartialEq, Eq)]
 pub struct Ranks(pub u64);
 
 // A set of seats, a bit each. Where it tells which are free, the lowest byte is that of the next slot.
-#[derive(Clone, Copy)]
+#[derive(Clone, Copy, Debug, PartialEq, Eq)]
 pub struct Seats(pub u64);
 
 // The seat of a rank at a slot. Slots up to 16 have a number, so that a table by seat can have rows of 0 after the last slot.
@@ -42,6 +42,7 @@ pub fn only(seat: Seat) -> Seats
 }
 
 // A rank at every slot.
+#[tactic(auto, using(crate::proofs::WordLaws::bits_everywhere))]
 pub fn everywhere(rank: Rank) -> Seats
     requires { rank.0 < 8 }
     ensures { (i : ℕ) → i < 64 → bit_of result.0 i ≡ eqb (i % 8) rank.0 }
@@ -84,7 +85,7 @@ pub fn from_slot(seats: Seats, slot: Slot) -> Seats
 pub fn without(free: Seats, shut: Seats) -> Seats
     ensures { ((i : ℕ) → bit_of result.0 i ≡ (bit_of free.0 i && not (bit_of shut.0 i))) × ((w : ℕ) → free.0 < 2 ^ w → result.0 < 2 ^ w) }
 {
-    Seats((free.0 | shut.0) ^ shut.0)
+    Seats(free.0 & !shut.0)
 }
 
 // What is free after the next slot.
@@ -102,6 +103,7 @@ pub fn here(free: Seats) -> Ranks
 }
 
 // Who may stand somewhere.
+#[tactic(auto, using(crate::proofs::WordLaws::bytes_or))]
 pub fn somewhere(free: Seats) -> Ranks
     ensures { (result.0 < 256) × ((i : ℕ) → i < 8 → bit_of result.0 i ≡ somewhere free.0 i) }
 {
@@ -111,6 +113,7 @@ pub fn somewhere(free: Seats) -> Ranks
 }
 
 // Whether a rank may stand at the next slot.
+#[tactic(auto, using(basis::proofs::BitLaws::bit_set))]
 pub fn is_free(free: Seats, rank: Rank) -> bool
     requires { rank.0 < 8 }
     ensures { result ≡ bit_of free.0 rank.0 }
@@ -123,7 +126,7 @@ pub fn first_rank(ranks: Ranks) -> Rank
     requires { (ranks.0 ≡ 0 → ⊥) × (ranks.0 < 256) }
     ensures { First ranks.0 result.0 }
 {
-    Rank(u64::trailing_zeros(ranks.0) as u8)
+    Rank(ranks.0.trailing_zeros() as u8)
 }
 
 // The others.
@@ -140,12 +143,4 @@ pub fn next_slot(slot: Slot) -> Slot
     ensures { result.0 ≡ suc slot.0 }
 {
     Slot(slot.0 + 1)
-}
-
-// The rank after.
-pub fn next_rank(rank: Rank) -> Rank
-    requires { rank.0 < 255 }
-    ensures { result.0 ≡ suc rank.0 }
-{
-    Rank(rank.0 + 1)
 }

@@ -1,14 +1,14 @@
 -- The numbers of a set: wrong where one is 0 or above n, and else every member is a bidder. And lists with the same members are one set. Assumes nothing.
 use Prim.Native.Nat.{ℕ, ◌<◌, ◌≤◌}
 use borrow.Author.Tests.{eq-eqb, eqb-true}
-use mathlib.Core.Bool.{Bool, true, false, ◌||◌}
+use mathlib.Core.Bool.{Bool, true, false, ◌||◌, true≢false}
 use mathlib.Core.List.{List}
 use mathlib.Core.Logic.{◌⊎◌}
 use mathlib.Core.Path.{◌≡◌, refl, sym, ◌∙◌, ap, subst, fun_ext}
 use lib.Dec.{eqb, ltb}
 use lib.ListN.{length, get_or}
 use Rattle.basis.proofs.NumberLaws.{outside, inside, from_inside}
-use Rattle.basis.proofs.TestLaws.{same_tests, any_at, any_where, any_none, none_any}
+use Rattle.basis.proofs.TestLaws.{same_tests, fails, any_at, any_where, any_none, none_any}
 use Rattle.bidder_sets.specs.BidderSets.{in_set, numbers_wrong}
 
 module _ (n : ℕ) (set : List ℕ) where
@@ -33,6 +33,10 @@ module _ (n : ℕ) (set : List ℕ) where
   in_numbered e b t =
       let w = any_where (λ k. eqb (get_or set k 0) b) (length set) t in
       subst (λ (x : ℕ). (0 < x) × (x ≤ n)) (eqb-true (get_or set w.0 0) b w.2) (right_numbered e w.0 w.1)
+
+-- where an answer is there, nothing was wrong
+pub told_right : {wrong : Bool} → (wrong ≡ true → true ≡ false) → wrong ≡ false
+told_right h = fails _ (λ t. true≢false (h t))
 
 pub same_set : (set set' : List ℕ) → ((b : ℕ) → in_set set b ≡ in_set set' b) → in_set set ≡ in_set set'
 same_set set set' same = fun_ext same

@@ -1,18 +1,22 @@
 -- The parts of the written sheet: a condition's bytes are those of its number turned round, and each part is stored where the one before it ends.
 -- Assumes nothing.
-use Prim.Native.Nat.{ℕ, suc, ◌+◌, ◌*◌, ◌/◌, ◌%◌, ◌^◌, ◌<◌, ◌≤◌}
-use mathlib.Core.List.{List, [], ◌∷◌, ◌++◌}
+use Prim.Native.Nat.{ℕ, suc, ◌+◌, ◌-◌, ◌*◌, ◌/◌, ◌%◌, ◌^◌, ◌<◌, ◌≤◌}
+use mathlib.Core.List.{List, ◌++◌, append_assoc}
 use mathlib.Core.Logic.{⊎_elim}
-use mathlib.Core.Path.{◌≡◌, refl, sym, ◌∙◌, ap, ap₂, subst}
+use mathlib.Core.Path.{◌≡◌, refl, sym, ◌∙◌, ap, subst}
 use borrow.Author.Tests.{lt-ltb, le-ltb}
-use native.Mathlib.Nat.{mod-eq_of_lt, eq-or-lt_of_le, le_of_suc-le-suc}
+use borrow.Rule.Slice.PartMut.{put_mid}
+use native.Mathlib.Nat.{mod-eq_of_lt}
 use native.Mathlib.Omega.{arith}
-use lib.ListN.{length, get_or, set, take, drop, length-drop}
-use lib.Seq.{sets, length-take-le, take-suc, get_or-drop, get_or-set_same, get_or-set_other}
+use lib.ListN.{length, get_or, take, drop, length-drop, length-append, get_or-append}
+use lib.Seq.{sets, length-take-le, get_or-take}
+use Rattle.std.proofs.lemmas.List.Edits.{sets-eq}
 use Rattle.basis.specs.Bytes.{byte_at, bytes32}
 use Rattle.basis.proofs.BytesLaws.{word_bytes}
 use Rattle.basis.proofs.FirstLaws.{or_else_left, or_else_right, refused_leaves, answered-gives}
-use Rattle.basis.proofs.RowLaws.{length-joined, sets_then, joined_stored, sets_front}
+use Rattle.basis.proofs.SliceLaws.{put_mid-sets}
+use Rattle.basis.specs.Rows.{joined}
+use Rattle.basis.proofs.RowLaws.{joined_same, sets_then, joined_stored, sets_front}
 use Rattle.sheet.specs.Sheet.{version, bidder_count, slot_count, constraint_count, constraints_start}
 use Rattle.sheet.specs.Refusal.{refusal_of, Accepted}
 use Rattle.sheet.specs.Accepted.{fields_number, order_number}
@@ -23,15 +27,6 @@ use Rattle.canonical.specs.Canonical.{canonical_sheet, canonical_refusal, canoni
 use Rattle.canonical.specs.EngineParts.{header_of, number_bytes, numbers_bytes, InSheetOrder}
 use Rattle.canonical.proofs.OrderedLaws.{digits_low, numbers_some, ordered_numbers}
 use Rattle.canonical.proofs.WrittenLaws.{written-length, written-parts}
-
--- a store after the first k, which are f's, of f's next
-pub stored_next : (l : List ℕ) (f : ℕ → ℕ) (k v : ℕ) → k < length l → v ≡ f k → ((i : ℕ) → i < k → get_or l i 0 ≡ f i) →
-    (i : ℕ) → i < suc k → get_or (set l k v) i 0 ≡ f i
-stored_next l f k v room e there i less =
-    ⊎_elim
-    (λ (q : i ≡ k). ap (λ (n : ℕ). get_or (set l k v) n 0) q ∙ get_or-set_same l k v 0 room ∙ e ∙ ap f (sym q))
-    (λ (b : i < k). get_or-set_other l k i v 0 (omega arith) ∙ there i b)
-    (eq-or-lt_of_le (le_of_suc-le-suc less))
 
 -- the number turned round has the number's bytes, the highest first
 pub turned_bytes : (x : ℕ) → x < 2 ^ 32 → bytes32 (fields_number (x % 256) (x / 256 % 256) (x / 65536 % 256) (x / 16777216)) ≡ number_bytes x
@@ -51,27 +46,53 @@ length-number : (x : ℕ) → length (number_bytes x) ≡ 4
 unfolding number_bytes
 length-number x = refl
 
-pub length_numbers : (numbers : List ℕ) (k : ℕ) → length (numbers_bytes numbers k) ≡ 4 * k
-unfolding numbers_bytes
-length_numbers numbers k = length-joined (λ i. number_bytes (get_or numbers i 0)) 4 (λ i. length-number (get_or numbers i 0)) k
-
 -- one number more is stored after the first k
 pub numbers_next : (numbers out : List ℕ) (at k : ℕ) →
     sets (sets out at (numbers_bytes numbers k)) (at + 4 * k) (number_bytes (get_or numbers k 0)) ≡ sets out at (numbers_bytes numbers (suc k))
 unfolding numbers_bytes
 numbers_next numbers out at k = joined_stored (λ i. number_bytes (get_or numbers i 0)) 4 (λ i. length-number (get_or numbers i 0)) out at k
 
--- and one byte more of the sheet after the first k
-pub copied_next : (s out : List ℕ) (at start k : ℕ) → start + k < length s →
-    set (sets out at (take k (drop start s))) (at + k) (byte_at s (start + k)) ≡ sets out at (take (suc k) (drop start s))
-copied_next s out at start k room =
-    let rest = drop start s in
-    let left = length-drop start s in
-    let front = take k rest in
-    let e : at + k ≡ at + length front = (let size = length-take-le k rest (omega arith) in omega arith) in
-    ap₂ (λ (n x : ℕ). sets (sets out at front) n (x ∷ [])) e (sym (get_or-drop start s k 0))
-    ∙ sets_then front (get_or rest k 0 ∷ []) out at
-    ∙ ap (sets out at) (sym (take-suc rest k 0 (omega arith)))
+-- the first k numbers by themselves have the same bytes
+pub numbers_front : (numbers : List ℕ) (k : ℕ) → k ≤ length numbers → numbers_bytes (take k numbers) (length (take k numbers)) ≡ numbers_bytes numbers k
+unfolding numbers_bytes
+numbers_front numbers k room =
+    ap (joined (λ i. number_bytes (get_or (take k numbers) i 0))) (length-take-le k numbers room)
+    ∙ joined_same (λ i. number_bytes (get_or (take k numbers) i 0)) (λ i. number_bytes (get_or numbers i 0)) k
+    (λ i l. ap number_bytes (get_or-take k numbers i 0 l))
+
+-- bytes copied to a part of a buffer are a run of stores
+pub copied : (out bytes : List ℕ) (at end : ℕ) → end ≡ at + length bytes → end ≤ length out → take at out ++ (bytes ++ drop end out) ≡ sets out at bytes
+copied out bytes at end e room = rw (e, ← append_assoc) (sym (sets-eq bytes out at (omega arith)))
+
+pub copied_from : (out bytes s : List ℕ) (at from n : ℕ) → bytes ≡ take (from + n - from) (drop from s) → from + n ≤ length s → at + n ≤ length out →
+    put_mid at (at + n - at) out bytes ≡ sets out at (take n (drop from s))
+copied_from out bytes s at from n e there here =
+    let front : from + n - from ≡ n = omega arith in
+    let same : bytes ≡ take n (drop from s) = rw front at e in
+    let left = length-drop from s in
+    let size : length bytes ≡ n = ap length same ∙ length-take-le n (drop from s) (omega arith) in
+    put_mid-sets out bytes at (at + n - at) (omega arith) (omega arith) ∙ ap (sets out at) same
+
+-- Numbers are read to the front of a room for 1,024.
+module _ (room : List ℕ) (count : ℕ) (sized : length room ≡ 1024) (few : count ≤ 1024) where
+  pub front-size : length (take count room) ≡ count
+  front-size = length-take-le count room (omega arith)
+
+  pub front_within : (start end : ℕ) → start + 4 * count ≤ end → start + 4 * length (take count room) ≤ end
+  front_within start end l = let size = front-size in omega arith
+
+  module _ (front : List ℕ) (kept : length front ≡ length (take count room)) where
+    pub read_sized : length (front ++ drop count room) ≡ 1024
+    read_sized =
+        let size = front-size in
+        let rest = length-drop count room in
+        length-append front (drop count room) ∙ (let e : length front + length (drop count room) ≡ 1024 = omega arith in e)
+
+    pub read_front : (s : List ℕ) → ((k : ℕ) → k < length (take count room) → get_or front k 0 ≡ order_number s k) →
+        (k : ℕ) → k < count → get_or (front ++ drop count room) k 0 ≡ order_number s k
+    read_front s read k l =
+        let size = front-size in
+        get_or-append front (drop count room) 0 k (omega arith) ∙ read k (omega arith)
 
 -- Numbers read from an accepted sheet, sorted, and each once, where the count is a number that the code has read:
 module _ (s read : List ℕ) (count : ℕ) (ok : Accepted s) (many : count ≡ constraint_count s)

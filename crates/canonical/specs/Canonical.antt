@@ -1,6 +1,6 @@
 -- Request S-6: "Add a writer that takes any accepted sheet and writes version 2, with the conditions in order and repeats dropped. It returns the length
 -- written, and later bytes stay."
-use Rattle.std.specs.Prelude.{ℕ, suc, ◌≤◌, ◌<◌, Bool, cond, ◌&&◌, List, [], ◌∷◌, ◌++◌, ◌≡◌, eqb, ltb, length, drop}
+use Rattle.std.specs.Prelude.{ℕ, suc, ◌≤◌, ◌<◌, Bool, cond, ◌&&◌, List, [], ◌∷◌, ◌++◌, ◌≡◌, eqb, ltb, length, drop, Result, Ok, Err}
 use Rattle.basis.specs.First.{◌when◌otherwise◌, or_else, unless_refused}
 use Rattle.basis.specs.Rows.{row, joined}
 use Rattle.basis.specs.Tests.{any_below}
@@ -20,7 +20,8 @@ use Rattle.sheet.specs.Sheet.{
 use Rattle.sheet.specs.Refusal.{refusal_of}
 use Rattle.sheet.specs.Round.{SheetHas}
 use Rattle.sheet.specs.Encoded.{Condition, on, sheet_in_ticks}
-use Rattle.canonical.specs.declared.Rewritten.{Rewritten}
+use Rattle.refusal.specs.declared.Refusal.{Refusal}
+use Rattle.refusal.specs.Numbers.{number_of}
 
 -- the sheet has the condition (owner, own place, other bidder, other's place)
 unfoldable pub has_condition : List ℕ → (owner own other others : ℕ) → Bool
@@ -59,6 +60,15 @@ canonical_refusal s out = or_else (refusal_of s) (19 when ltb (length out) (leng
 -- "later bytes stay"
 unfoldable pub canonical_buffer : List ℕ → List ℕ → List ℕ
 canonical_buffer s out = canonical_sheet s ++ drop (length (canonical_sheet s)) out
+
+-- What the call answers, as numbers: a refusal's number and no length, or 0 and the length of the sheet that is written.
+pub record Rewritten : Type 0 where
+  pub refusal : ℕ
+  pub length : ℕ
+
+abbrev pub rewritten_in : Result ℕ Refusal → Rewritten
+rewritten_in (Ok size) = record { refusal = 0; length = size }
+rewritten_in (Err refusal) = record { refusal = number_of refusal; length = 0 }
 
 -- All that the call returns and leaves: the first number that applies and no length, or 0 and the length written, and each byte of the buffer.
 pub record CanonicalWritten (s out : List ℕ) (returned : Rewritten) (out' : List ℕ) : Type 0 where

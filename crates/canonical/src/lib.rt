@@ -10,28 +10,20 @@ ghost use Rattle.std.proofs.lemmas.List.Edits.{sets};
 ghost use Rattle.sheet.specs.Sheet.{version, constraints_start};
 ghost use Rattle.sheet.specs.Refusal.{Accepted};
 ghost use Rattle.sheet.specs.Accepted.{order_number};
-ghost use Rattle.canonical.specs.Canonical.{CanonicalWritten};
+ghost use Rattle.canonical.specs.Canonical.{CanonicalWritten, rewritten_in};
 ghost use Rattle.canonical.specs.EngineParts.{header_of, numbers_bytes, InSheetOrder};
 
 use basis::{word16, word32};
 use check_constraints::order_number;
-
-// What the call answers: a refusal's number, or 0 and the length of the sheet that is written.
-#[derive(Clone, Copy)]
-pub struct Rewritten {
-    pub refusal: u32,
-    pub length: usize,
-}
+use refusal::Refusal;
 
 // The constraints of a sheet as numbers, in sheet order.
-fn read_numbers(numbers: &mut [u32; 1024], sheet: &[u8], start: usize, count: usize)
-    requires { (length numbers.old ≡ 1024) × (count ≤ 1024) × (start ≡ constraints_start sheet.now) × (start + 4 * count ≤ length sheet.now) }
-    ensures { (length numbers.new ≡ 1024) × ((k : ℕ) → k < count → get_or numbers.new k 0 ≡ order_number sheet.now k) }
+fn read_numbers(numbers: &mut [u32], sheet: &[u8], start: usize)
+    requires { (start ≡ constraints_start sheet.now) × (start + 4 * length numbers.old ≤ length sheet.now) }
+    ensures { (k : ℕ) → k < length numbers.old → get_or numbers.new k 0 ≡ order_number sheet.now k }
 {
-    let mut k: usize = 0;
-    while k < count {
-        numbers[k] = order_number(word32(sheet, start + 4 * k));
-        k += 1;
+    for (k, number) in numbers.iter_mut().enumerate() {
+        *number = order_number(word32(sheet, start + 4 * k));
     }
 }
 
@@ -42,7 +34,7 @@ pub fn order_constraints(ordered: &mut [u32; 1024], sheet: &[u8], start: usize) 
 {
     let count = word16(sheet, 7) as usize;
     let mut numbers = [0u32; 1024];
-    read_numbers(&mut numbers, sheet, start, count);
+    read_numbers(&mut numbers[..count], sheet, start);
     canonical_sort::sort(
         &mut numbers,
         ordered,
@@ -55,26 +47,12 @@ pub fn order_constraints(ordered: &mut [u32; 1024], sheet: &[u8], start: usize) 
 
 // Numbers are written at an offset one after another, the highest byte of each first: turned round, a constraint's number is its four bytes as they are
 // read.
-fn put_numbers(res: &mut [u8], at: usize, numbers: &[u32], count: usize)
-    requires { (length numbers.now ≡ 1024) × (count ≤ 1024) × (at + 4 * count ≤ length res.old) }
-    ensures { res.new ≡ sets res.old at (numbers_bytes numbers.now count) }
+fn put_numbers(res: &mut [u8], at: usize, numbers: &[u32])
+    requires { (length numbers.now ≤ 1024) × (at + 4 * length numbers.now ≤ length res.old) }
+    ensures { res.new ≡ sets res.old at (numbers_bytes numbers.now (length numbers.now)) }
 {
-    let mut k: usize = 0;
-    while k < count {
-        basis::put_word32(res, at + 4 * k, order_number(numbers[k]));
-        k += 1;
-    }
-}
-
-// Bytes of the sheet are written at an offset as they stand.
-fn copy(res: &mut [u8], at: usize, sheet: &[u8], start: usize, count: usize)
-    requires { (start + count ≤ length sheet.now) × (at + count ≤ length res.old) }
-    ensures { res.new ≡ sets res.old at (take count (drop start sheet.now)) }
-{
-    let mut k: usize = 0;
-    while k < count {
-        res[at + k] = sheet[start + k];
-        k += 1;
+    for (k, &number) in numbers.iter().enumerate() {
+        basis::put_word32(res, at + 4 * k, order_number(number));
     }
 }
 
@@ -83,67 +61,60 @@ fn put_header(res: &mut [u8], bidders: u8, slots: u8, constraints: usize)
     requires { (13 ≤ length res.old) × (constraints ≤ 1024) }
     ensures { res.new ≡ sets res.old 0 (header_of 1 bidders slots constraints) }
 {
-    res[0] = 0x50;
-    res[1] = 0x41;
-    res[2] = 0x53;
-    res[3] = 2;
-    res[4] = 0;
-    res[5] = bidders;
-    res[6] = slots;
-    res[7] = (constraints % 256) as u8;
-    res[8] = (constraints / 256) as u8;
+    let low = (constraints % 256) as u8;
+    let high = (constraints / 256) as u8;
+    res[..9].copy_from_slice(&[b'P', b'A', b'S', 2, 0, bidders, slots, low, high]);
     basis::put_word32(res, 9, 1);
 }
 
-// An accepted sheet of version 1 is written anew where the buffer has room: 19, or 0.
-fn write_ordered(sheet: &[u8], res: &mut [u8]) -> Rewritten
+// Bytes are copied as they stand.
+// Kept: between two lent slices `copy_from_slice` calls memmove, and the library promises to call memcpy and memset alone (README, include/pas.h).
+fn copy(part: &mut [u8], bytes: &[u8])
+    requires { length part.old ≡ length bytes.now }
+    ensures { part.new ≡ bytes.now }
+{
+    for (k, byte) in bytes.iter().enumerate() {
+        part[k] = *byte;
+    }
+}
+
+// An accepted sheet of version 1 is written anew where the buffer has room; the length written.
+fn write_ordered(sheet: &[u8], res: &mut [u8]) -> Result<usize, Refusal>
     requires { Accepted sheet.now × (version sheet.now ≡ 1) }
-    ensures { CanonicalWritten sheet.now res.old result res.new }
+    ensures { CanonicalWritten sheet.now res.old (rewritten_in result) res.new }
 {
     let body = 4 * (sheet[5] as usize + sheet[6] as usize);
     let mut ordered = [0u32; 1024];
     let constraints = order_constraints(&mut ordered, sheet, 9 + body);
     let length = 13 + body + 4 * constraints;
     if res.len() < length {
-        return Rewritten {
-            refusal: 19,
-            length: 0,
-        };
+        return Err(Refusal::ResultTooShort);
     }
     put_header(res, sheet[5], sheet[6], constraints);
-    copy(res, 13, sheet, 9, body);
-    put_numbers(res, 13 + body, &ordered, constraints);
-    Rewritten { refusal: 0, length }
+    copy(&mut res[13..13 + body], &sheet[9..9 + body]);
+    put_numbers(res, 13 + body, &ordered[..constraints]);
+    Ok(length)
 }
 
-// An accepted sheet of version 2 is copied where the buffer has room: 19, or 0.
-fn copy_whole(sheet: &[u8], res: &mut [u8]) -> Rewritten
+// An accepted sheet of version 2 is copied where the buffer has room; its length.
+fn copy_whole(sheet: &[u8], res: &mut [u8]) -> Result<usize, Refusal>
     requires { Accepted sheet.now × (version sheet.now ≡ 2) }
-    ensures { CanonicalWritten sheet.now res.old result res.new }
+    ensures { CanonicalWritten sheet.now res.old (rewritten_in result) res.new }
 {
     let size = sheet.len();
     if res.len() < size {
-        return Rewritten {
-            refusal: 19,
-            length: 0,
-        };
+        return Err(Refusal::ResultTooShort);
     }
-    copy(res, 0, sheet, 0, size);
-    Rewritten {
-        refusal: 0,
-        length: size,
-    }
+    copy(&mut res[..size], sheet);
+    Ok(size)
 }
 
-// The number of the first rule that the call breaks, the check's or 19, with every byte of the buffer as it was; or 0 and the length of the one sheet
-// for the round, which stands at the front of the buffer, with every later byte as it was.
-pub fn write(sheet: &[u8], res: &mut [u8]) -> Rewritten
-    ensures { CanonicalWritten sheet.now res.old result res.new }
+// The one sheet for the round is written to the front of the buffer, with every later byte as it was, and the answer is its length; or the first rule
+// that the call breaks, one of the check's or 19, with every byte of the buffer as it was.
+pub fn write(sheet: &[u8], res: &mut [u8]) -> Result<usize, Refusal>
+    ensures { CanonicalWritten sheet.now res.old (rewritten_in result) res.new }
 {
-    let refusal = sheet_check::check(sheet);
-    if refusal != 0 {
-        return Rewritten { refusal, length: 0 };
-    }
+    sheet_check::check(sheet)?;
     if word16(sheet, 3) == 2 {
         return copy_whole(sheet, res);
     }

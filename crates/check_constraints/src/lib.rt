@@ -3,11 +3,13 @@
 
 ghost use Rattle.std.specs.Prelude.{◌≡◌, false, ◌+◌, ◌*◌, ◌/◌, ◌%◌, ◌<◌, ◌≤◌, eqb, length};
 ghost use Rattle.basis.specs.First.{first_over};
+ghost use Rattle.refusal.specs.Numbers.{number_in};
 ghost use Rattle.sheet.specs.Sheet.{version, bidder_count, slot_count, constraints_start};
 ghost use Rattle.sheet.specs.Refusal.{in_range, fields_refusal, terms_refusal, constraint_refusal};
 ghost use Rattle.sheet.specs.Accepted.{fields_number};
 
-use basis::{wide, word32};
+use basis::word32;
+use refusal::Refusal;
 
 // Whether a constraint's numbers are in range: owner 1 to n, the other bidder at most n, both slots at most m.
 fn in_range(bidders: u8, slots: u8, owner: u8, own: u8, other: u8, others: u8) -> bool
@@ -32,28 +34,35 @@ fn in_range(bidders: u8, slots: u8, owner: u8, own: u8, other: u8, others: u8) -
 }
 
 // 10 to 13: one constraint's four bytes.
-fn constraint_refusal(bidders: u8, slots: u8, owner: u8, own: u8, other: u8, others: u8) -> u32
-    ensures { result ≡ fields_refusal bidders slots owner own other others }
+fn check_terms(
+    bidders: u8,
+    slots: u8,
+    owner: u8,
+    own: u8,
+    other: u8,
+    others: u8,
+) -> Result<(), Refusal>
+    ensures { number_in result ≡ fields_refusal bidders slots owner own other others }
 {
     if !in_range(bidders, slots, owner, own, other, others) {
-        return 10;
+        return Err(Refusal::OutOfRange);
     }
     if other == owner {
-        return 11;
+        return Err(Refusal::OtherIsOwner);
     }
     if other == 0 {
         if others != 0 {
-            return 12;
+            return Err(Refusal::HalfAnOther);
         }
         if own == 0 {
-            return 13;
+            return Err(Refusal::EmptyConstraint);
         }
-        return 0;
+        return Ok(());
     }
     if others == 0 {
-        return 12;
+        return Err(Refusal::HalfAnOther);
     }
-    0
+    Ok(())
 }
 
 // A constraint's four bytes, read as one number, turned round so that the owner's counts most: of two constraints the one above has the larger
@@ -69,42 +78,37 @@ pub fn order_number(constraint: u32) -> u32
 }
 
 // The first number over the constraints in sheet order: each through 10 to 13 and, where they must rise, 28.
-fn first_refusal(
+fn check_each(
     sheet: &[u8],
     start: usize,
     bidders: u8,
     slots: u8,
     constraints: usize,
     rising: bool,
-) -> u32
+) -> Result<(), Refusal>
     requires start_value { (start ≡ constraints_start sheet.now) × (start + 4 * constraints ≤ length sheet.now) }
     requires bidders_value { (bidders ≡ bidder_count sheet.now) × (slots ≡ slot_count sheet.now) × (rising ≡ eqb (version sheet.now) 2) }
-    ensures { result ≡ first_over (constraint_refusal sheet.now) constraints }
+    ensures { number_in result ≡ first_over (constraint_refusal sheet.now) constraints }
 {
     // The number of the constraint before, which has an owner, so 0 stands for none.
     let mut before: u32 = 0;
-    let mut k = 0;
-    while k < constraints {
+    for k in 0..constraints {
         let at = start + 4 * k;
-        let refusal = constraint_refusal(
+        check_terms(
             bidders,
             slots,
             sheet[at],
             sheet[at + 1],
             sheet[at + 2],
             sheet[at + 3],
-        );
-        if refusal != 0 {
-            return refusal;
-        }
+        )?;
         let number = order_number(word32(sheet, at));
         if rising & (number <= before) {
-            return 28;
+            return Err(Refusal::OutOfOrder);
         }
         before = number;
-        k += 1;
     }
-    0
+    Ok(())
 }
 
 // Whether a constraint, its four bytes as one number, breaks any of 10 to 13. Every rule is tested and none ends the test early:
@@ -133,14 +137,12 @@ fn any_faulty(sheet: &[u8], start: usize, bidders: u8, slots: u8, constraints: u
     requires bidders_value { (bidders ≡ bidder_count sheet.now) × (slots ≡ slot_count sheet.now) }
     ensures { result ≡ false → first_over (terms_refusal sheet.now) constraints ≡ 0 }
 {
-    let most_bidder = wide(bidders);
-    let most_slot = wide(slots);
+    let most_bidder = u32::from(bidders);
+    let most_slot = u32::from(slots);
     let mut found = false;
-    let mut seen = 0;
-    while seen < constraints {
+    for seen in 0..constraints {
         let constraint = word32(sheet, start + 4 * seen);
-        found = found | is_faulty(most_bidder, most_slot, constraint);
-        seen += 1;
+        found |= is_faulty(most_bidder, most_slot, constraint);
     }
     found
 }
@@ -152,42 +154,52 @@ fn any_unfit(sheet: &[u8], start: usize, bidders: u8, slots: u8, constraints: us
     requires bidders_value { (bidders ≡ bidder_count sheet.now) × (slots ≡ slot_count sheet.now) }
     ensures { result ≡ false → first_over (constraint_refusal sheet.now) constraints ≡ 0 }
 {
-    let most_bidder = wide(bidders);
-    let most_slot = wide(slots);
+    let most_bidder = u32::from(bidders);
+    let most_slot = u32::from(slots);
     let mut found = false;
     let mut before: u32 = 0;
-    let mut seen = 0;
-    while seen < constraints {
+    for seen in 0..constraints {
         let constraint = word32(sheet, start + 4 * seen);
         let number = order_number(constraint);
-        found = found | (is_faulty(most_bidder, most_slot, constraint) | (number <= before));
+        found |= is_faulty(most_bidder, most_slot, constraint) | (number <= before);
         before = number;
-        seen += 1;
     }
     found
 }
 
 // The constraints of version 1, which stand in any order: 10 to 13, each constraint in sheet order. An accepted sheet costs the quick pass
 // alone; only a fault has its number looked for.
-pub fn free_refusal(sheet: &[u8], start: usize, bidders: u8, slots: u8, constraints: usize) -> u32
+pub fn check_free(
+    sheet: &[u8],
+    start: usize,
+    bidders: u8,
+    slots: u8,
+    constraints: usize,
+) -> Result<(), Refusal>
     requires start_value { (start ≡ constraints_start sheet.now) × (start + 4 * constraints ≤ length sheet.now) }
     requires bidders_value { (bidders ≡ bidder_count sheet.now) × (slots ≡ slot_count sheet.now) × (version sheet.now ≡ 1) }
-    ensures { result ≡ first_over (constraint_refusal sheet.now) constraints }
+    ensures { number_in result ≡ first_over (constraint_refusal sheet.now) constraints }
 {
     if any_faulty(sheet, start, bidders, slots, constraints) {
-        return first_refusal(sheet, start, bidders, slots, constraints, false);
+        return check_each(sheet, start, bidders, slots, constraints, false);
     }
-    0
+    Ok(())
 }
 
 // The constraints of version 2, which rise: 10 to 13 and 28, again with the number looked for only where there is one.
-pub fn rising_refusal(sheet: &[u8], start: usize, bidders: u8, slots: u8, constraints: usize) -> u32
+pub fn check_rising(
+    sheet: &[u8],
+    start: usize,
+    bidders: u8,
+    slots: u8,
+    constraints: usize,
+) -> Result<(), Refusal>
     requires start_value { (start ≡ constraints_start sheet.now) × (start + 4 * constraints ≤ length sheet.now) }
     requires bidders_value { (bidders ≡ bidder_count sheet.now) × (slots ≡ slot_count sheet.now) × (version sheet.now ≡ 2) }
-    ensures { result ≡ first_over (constraint_refusal sheet.now) constraints }
+    ensures { number_in result ≡ first_over (constraint_refusal sheet.now) constraints }
 {
     if any_unfit(sheet, start, bidders, slots, constraints) {
-        return first_refusal(sheet, start, bidders, slots, constraints, true);
+        return check_each(sheet, start, bidders, slots, constraints, true);
     }
-    0
+    Ok(())
 }

@@ -5,9 +5,11 @@ ghost use Rattle.std.specs.Prelude.{◌≡◌, not, ◌||◌, suc, ◌+◌, ◌*
 ghost use Rattle.basis.specs.First.{first_over};
 ghost use Rattle.basis.specs.Tests.{any_below};
 ghost use Rattle.sheet.specs.Sheet.{tick_field, effects_start, bids_start, effect_field, bid_field};
+ghost use Rattle.refusal.specs.Numbers.{number_in};
 ghost use Rattle.sheet.specs.Refusal.{form_refusal, counts_refusal, effect_before, effect_refusal, bid_refusal, tick_refusal};
 
-use basis::{wide, word16, word32};
+use basis::{word16, word32};
+use refusal::Refusal;
 use sheet::{MAX_BIDDERS, MAX_CONSTRAINTS, MAX_SLOTS};
 
 // "1 to 1,000,000"
@@ -18,65 +20,65 @@ const MAX_BID: u32 = 1000000000;
 const MAX_TICK: u32 = 1000000000;
 
 // 1 to 3, and 1 again: the header's length, the mark and the version.
-pub fn form_refusal(sheet: &[u8]) -> u32
-    ensures { result ≡ form_refusal sheet.now }
+pub fn check_form(sheet: &[u8]) -> Result<(), Refusal>
+    ensures { number_in result ≡ form_refusal sheet.now }
 {
     if sheet.len() < 9 {
-        return 1;
+        return Err(Refusal::SheetTooShort);
     }
     if sheet[0] != b'P' {
-        return 2;
+        return Err(Refusal::WrongMark);
     }
     if sheet[1] != b'A' {
-        return 2;
+        return Err(Refusal::WrongMark);
     }
     if sheet[2] != b'S' {
-        return 2;
+        return Err(Refusal::WrongMark);
     }
     let version = word16(sheet, 3);
     if version == 1 {
-        return 0;
+        return Ok(());
     }
     if version != 2 {
-        return 3;
+        return Err(Refusal::WrongVersion);
     }
     if sheet.len() < 13 {
-        return 1;
+        return Err(Refusal::SheetTooShort);
     }
-    0
+    Ok(())
 }
 
 // 4 to 6, 26 and 7: the counts, the tick and the length.
-pub fn counts_refusal(sheet: &[u8], start: usize, tick: u32) -> u32
+pub fn check_counts(sheet: &[u8], start: usize, tick: u32) -> Result<(), Refusal>
     requires { (9 ≤ length sheet.now) × (start ≡ effects_start sheet.now) × (tick ≡ tick_field sheet.now) }
-    ensures { result ≡ counts_refusal sheet.now }
+    ensures { number_in result ≡ counts_refusal sheet.now }
 {
-    let bidders = wide(sheet[5]) as usize;
-    let slots = wide(sheet[6]) as usize;
+    let bidders = usize::from(sheet[5]);
+    let slots = usize::from(sheet[6]);
     let constraints = word16(sheet, 7) as usize;
     if bidders == 0 {
-        return 4;
+        return Err(Refusal::WrongBidders);
     }
     if MAX_BIDDERS < bidders {
-        return 4;
+        return Err(Refusal::WrongBidders);
     }
     if slots == 0 {
-        return 5;
+        return Err(Refusal::WrongSlots);
     }
     if MAX_SLOTS < slots {
-        return 5;
+        return Err(Refusal::WrongSlots);
     }
     if MAX_CONSTRAINTS < constraints {
-        return 6;
+        return Err(Refusal::TooManyConstraints);
     }
     let length = start + 4 * (slots + bidders + constraints);
     if (tick == 0) | (MAX_TICK < tick) {
-        return 26;
+        return Err(Refusal::WrongTick);
     }
     if sheet.len() != length {
-        return 7;
+        return Err(Refusal::WrongLength);
     }
-    0
+    Ok(())
 }
 
 // Whether any effect is 0 or above the one before it, the first against the largest that any may have. No fault ends the pass, so that
@@ -87,25 +89,23 @@ fn any_effect_faulty(sheet: &[u8], start: usize, slots: usize) -> bool
 {
     let mut before = MAX_EFFECT;
     let mut found = false;
-    let mut k = 0;
-    while k < slots {
+    for k in 0..slots {
         let effect = word32(sheet, start + 4 * k);
-        found = found | ((effect == 0) | (before < effect));
+        found |= (effect == 0) | (before < effect);
         before = effect;
-        k += 1;
     }
     found
 }
 
 // 8: the effects.
-pub fn effects_refusal(sheet: &[u8], start: usize, slots: usize) -> u32
+pub fn check_effects(sheet: &[u8], start: usize, slots: usize) -> Result<(), Refusal>
     requires { (start ≡ effects_start sheet.now) × (start + 4 * slots ≤ length sheet.now) }
-    ensures { result ≡ first_over (λ k. effect_refusal sheet.now (suc k)) slots }
+    ensures { number_in result ≡ first_over (λ k. effect_refusal sheet.now (suc k)) slots }
 {
     if any_effect_faulty(sheet, start, slots) {
-        return 8;
+        return Err(Refusal::WrongEffect);
     }
-    0
+    Ok(())
 }
 
 // Whether any bid is above the limit, again in a pass that no bid ends.
@@ -114,24 +114,22 @@ fn any_bid_high(sheet: &[u8], start: usize, bidders: usize) -> bool
     ensures { result ≡ any_below (λ i. ltb 1_000_000_000 (bid_field sheet.now (suc i))) bidders }
 {
     let mut found = false;
-    let mut i = 0;
-    while i < bidders {
+    for i in 0..bidders {
         let bid = word32(sheet, start + 4 * i);
-        found = found | (MAX_BID < bid);
-        i += 1;
+        found |= MAX_BID < bid;
     }
     found
 }
 
 // 9: the bids.
-pub fn bids_refusal(sheet: &[u8], start: usize, bidders: usize) -> u32
+pub fn check_bids(sheet: &[u8], start: usize, bidders: usize) -> Result<(), Refusal>
     requires { (start ≡ bids_start sheet.now) × (start + 4 * bidders ≤ length sheet.now) }
-    ensures { result ≡ first_over (λ i. bid_refusal sheet.now (suc i)) bidders }
+    ensures { number_in result ≡ first_over (λ i. bid_refusal sheet.now (suc i)) bidders }
 {
     if any_bid_high(sheet, start, bidders) {
-        return 9;
+        return Err(Refusal::WrongBid);
     }
-    0
+    Ok(())
 }
 
 // Whether a bid is no multiple of the tick. The share is 2^32 cut in as many parts as the tick has units, and 1: a multiple times the share is so many
@@ -151,25 +149,23 @@ fn any_bid_off_tick(sheet: &[u8], start: usize, bidders: usize, tick: u32) -> bo
 {
     let share = 4294967296 / (tick as u64) + 1;
     let mut found = false;
-    let mut tested = 0;
-    while tested < bidders {
+    for tested in 0..bidders {
         let bid = word32(sheet, start + 4 * tested);
-        found = found | is_off_tick(bid, tick, share);
-        tested += 1;
+        found |= is_off_tick(bid, tick, share);
     }
     found
 }
 
 // 27: the bids again, which no division is spent on where the tick is 1.
-pub fn ticks_refusal(sheet: &[u8], start: usize, bidders: usize, tick: u32) -> u32
+pub fn check_ticks(sheet: &[u8], start: usize, bidders: usize, tick: u32) -> Result<(), Refusal>
     requires { (start ≡ bids_start sheet.now) × (start + 4 * bidders ≤ length sheet.now) × (tick ≡ tick_field sheet.now) × (0 < tick) }
-    ensures { result ≡ first_over (λ i. tick_refusal sheet.now (suc i)) bidders }
+    ensures { number_in result ≡ first_over (λ i. tick_refusal sheet.now (suc i)) bidders }
 {
     if tick == 1 {
-        return 0;
+        return Ok(());
     }
     if any_bid_off_tick(sheet, start, bidders, tick) {
-        return 27;
+        return Err(Refusal::BidOffTick);
     }
-    0
+    Ok(())
 }

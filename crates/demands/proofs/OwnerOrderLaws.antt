@@ -18,9 +18,9 @@ use Rattle.sheet.specs.Refusal.{constraint_below, above_before, terms_refusal, o
 use Rattle.sheet.proofs.AcceptedLaws.{accepted-sheet, constraints-rise}
 use Rattle.sheet.proofs.OrderLaws.{order-free}
 use Rattle.sheet.proofs.RoundLaws.{round_proper}
-use Rattle.owner_part.specs.declared.Bounds.{Bounds}
-use Rattle.owner_part.specs.declared.Before.{Before}
 use Rattle.owner_part.specs.OwnerPart.{
+  Before,
+  Bounds,
   call_refusal,
   part_refusal,
   first_from,

@@ -30,8 +30,7 @@ use Rattle.best_page.specs.Best.{Best}
 use Rattle.best_page.specs.BestPage.{best_page_of}
 use Rattle.best_search.specs.Call.{best_refusal, best_floors_refusal, best_buffer}
 use Rattle.honesty.specs.Honesty.{DifferOnlyInList}
-use Rattle.owner_part.specs.declared.Before.{Before}
-use Rattle.owner_part.specs.OwnerPart.{part_refusal, bytes_before, constraints_of, part_length, before_of, PartHanded}
+use Rattle.owner_part.specs.OwnerPart.{Before, part_refusal, bytes_before, constraints_of, part_length, before_of, PartHanded}
 use Rattle.canonical.specs.Canonical.{canonical_sheet, canonical_refusal, canonical_buffer, SameRound}
 use Rattle.slot_terms.specs.SlotTerms.{bar_for, ByLimit, ByBar, slot_terms_of, slot_terms_refusal, conditions_buffer, OwnerFits, TermsFit}
 use Rattle.bidder_sets.specs.BidderSets.{in_set, member_count, rivals_of}

@@ -8,11 +8,20 @@ use lib.Dec.{eqb, ltb}
 use Rattle.basis.specs.First.{◌when◌otherwise◌}
 use Rattle.basis.proofs.FirstLaws.{or_else_left, or_else_right}
 use Rattle.basis.proofs.TestLaws.{or_left, or_right, or_fails}
+use Rattle.refusal.specs.declared.Refusal.{Refusal}
+use Rattle.refusal.specs.Numbers.{number_of}
+use Rattle.std.specs.Prelude.{Result}
+use Rattle.std.specs.Result.{IsErrAnd}
+use Rattle.std.proofs.lemmas.Result.{err_from_is_err_and}
 use Rattle.sheet.specs.Refusal.{refusal_of, Accepted}
 use Rattle.sheet.specs.Sheet.{bidder_count}
 use Rattle.sheet.specs.Round.{round_of}
 use Rattle.downward.specs.Downward.{downward}
-use Rattle.downward.specs.Call.{test_refusal, tested_for, tested_of}
+use Rattle.downward.specs.Call.{tested_in, test_refusal, tested_for, tested_of}
+
+-- what `?` passes on is the number alone
+pub alone : (r : Result Bool Refusal) (refusal : Refusal) → IsErrAnd r (λ y. y ≡ refusal) → tested_in r ≡ record { refusal = number_of refusal; yes = false }
+alone r refusal is = let p = err_from_is_err_and r is in rw (p.1, p.2)
 
 -- a number above 0 is returned alone
 number-alone : (k : ℕ) (s : List ℕ) (i : ℕ) → (k ≡ 0 → ⊥) → tested_for k s i ≡ record { refusal = k; yes = false }

@@ -19,8 +19,7 @@ use Rattle.sheet.specs.Sheet.{bidder_count}
 use Rattle.sheet.specs.Round.{bidder, slot, round_of, constraint_at, Has}
 use Rattle.sheet.proofs.RoundLaws.{any_of_set, all_of_set}
 use Rattle.downward.specs.Downward.{own_slot, one_lower, same_kind, list_has, asks_lower, downward}
-use Rattle.downward.specs.Call.{test_refusal, tested_for, tested_of}
-use Rattle.downward.specs.declared.Tested.{Tested}
+use Rattle.downward.specs.Call.{Tested, test_refusal, tested_for, tested_of}
 
 -- kinds that pass the test are equal,
 pub same_kind_lem : (a b : Kind) → same_kind a b ≡ true → a ≡ b

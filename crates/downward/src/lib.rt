@@ -11,27 +11,22 @@ ghost use Rattle.sheet.specs.Refusal.{Accepted};
 ghost use Rattle.sheet.specs.Round.{round_of};
 ghost use Rattle.downward.specs.Downward.{own_slot, downward};
 ghost use Rattle.downward.specs.EngineListed.{other_part, KindInRange, Listed, misses_next, some_missing};
-ghost use Rattle.downward.specs.Call.{tested_of};
+ghost use Rattle.downward.specs.Call.{tested_in, tested_of};
 
+use refusal::Refusal;
 use sheet::{Bidder, Kind, Slot};
-
-// The answer: a refusal's number, or 0 and whether the list is downward monotonic.
-#[derive(Clone, Copy)]
-pub struct Tested {
-    pub refusal: u32,
-    pub yes: bool,
-}
 
 // An other part of a constraint in one number: 16 × the other bidder and its slot, and 0 for no other. A slot of another is never 0, so slot 16
 // of one bidder and slot 0 of the next do not meet.
-#[derive(Clone, Copy)]
+#[derive(Clone, Copy, Debug, PartialEq, Eq)]
 struct OtherPart(u16);
 
 // A set of own slots, slot 1 in the lowest bit. Own slot 0, any slot, is in no set: it asks for nothing.
-#[derive(Clone, Copy)]
+#[derive(Clone, Copy, Debug, PartialEq, Eq)]
 struct OwnSlots(u16);
 
 // The own slot of a kind, 0 for any.
+#[tactic(auto, unfolding(crate::specs::Downward::own_slot))]
 fn own_slot(kind: Kind) -> Slot
     ensures { result.0 ≡ own_slot kind }
 {
@@ -43,6 +38,7 @@ fn own_slot(kind: Kind) -> Slot
 }
 
 // The set of one slot, and of none for slot 0.
+#[tactic(auto, using(crate::proofs::ListedLaws::slot_bits))]
 fn slot_set(slot: Slot) -> OwnSlots
     requires { slot.0 ≤ 16 }
     ensures { (k : ℕ) → k < 16 → bit_of result.0 k ≡ eqb slot.0 (suc k) }
@@ -51,6 +47,7 @@ fn slot_set(slot: Slot) -> OwnSlots
 }
 
 // The other part of a kind.
+#[tactic(auto, unfolding(crate::specs::EngineListed::other_part))]
 fn other_part(kind: Kind) -> OtherPart
     requires { KindInRange kind }
     ensures { (result.0 ≡ other_part kind) × (result.0 < 1041) }
@@ -67,8 +64,7 @@ fn part_of(other: Bidder, slot: Slot) -> OtherPart
     requires { (other.0 ≤ 64) × (slot.0 ≤ 16) }
     ensures { result.0 ≡ 16 * other.0 + slot.0 }
 {
-    let part = 16 * other.0 + slot.0 as u16;
-    OtherPart(part)
+    OtherPart(16 * other.0 + u16::from(slot.0))
 }
 
 // One of the bidder's constraints is entered: its own slot joins the set of its other part.
@@ -78,8 +74,7 @@ fn list(listed: &mut [u16; 1041], kind: Kind)
 {
     let part = other_part(kind);
     let own = slot_set(own_slot(kind));
-    let at = part.0 as usize;
-    listed[at] = listed[at] | own.0;
+    listed[part.0 as usize] |= own.0;
 }
 
 // All of a bidder's constraints are entered in sets that were empty. They are read one by one, and no round is made of them.
@@ -89,15 +84,11 @@ fn list_all(listed: &mut [u16; 1041], sheet: &[u8], bidder: Bidder)
 {
     let used = sheet_read::constraint_count(sheet);
     let start = sheet_read::constraints_start(sheet);
-    let mut i: usize = 0;
-    while i < used {
+    for i in 0..used {
         let constraint = sheet_read::constraint_at(sheet, start, i);
-        let owner = constraint.owner;
-        if owner.0 == bidder.0 {
-            let kind = constraint.kind;
-            list(listed, kind);
+        if constraint.owner == bidder {
+            list(listed, constraint.kind);
         }
-        i += 1;
     }
 }
 
@@ -117,13 +108,11 @@ fn any_missing(listed: &[u16], slots: usize) -> bool
     ensures { result ≡ some_missing slots listed.now (length listed.now) }
 {
     let mut missing = OwnSlots(0);
-    let mut at: usize = 0;
-    while at < listed.len() {
-        let more = missing_from(OwnSlots(listed[at]), slots);
-        missing = OwnSlots(missing.0 | more.0);
-        at += 1;
+    for had in listed {
+        let more = missing_from(OwnSlots(*had), slots);
+        missing.0 |= more.0;
     }
-    missing.0 != 0
+    missing != OwnSlots(0)
 }
 
 // Whether a bidder's list is downward monotonic. Other parts go up to bidder n at slot 16.
@@ -138,32 +127,13 @@ fn is_downward(sheet: &[u8], bidder: Bidder) -> bool
     !any_missing(&listed[..16 * bidders + 17], slots)
 }
 
-// The number of the first rule that the call breaks, the check's or 16; or 0 and the test's answer.
-pub fn test(sheet: &[u8], bidder: u32) -> Tested
-    ensures { result ≡ tested_of sheet.now bidder }
+// Whether a bidder's list is downward monotonic, or the first rule that the call breaks, one of the check's or 16.
+pub fn test(sheet: &[u8], bidder: u32) -> Result<bool, Refusal>
+    ensures { tested_in result ≡ tested_of sheet.now bidder }
 {
-    let refusal = sheet_check::check(sheet);
-    if refusal != 0 {
-        return Tested {
-            refusal,
-            yes: false,
-        };
+    sheet_check::check(sheet)?;
+    if bidder == 0 || u32::from(sheet[5]) < bidder {
+        return Err(Refusal::WrongBidder);
     }
-    let bidders = sheet[5] as usize;
-    if bidder == 0 {
-        return Tested {
-            refusal: 16,
-            yes: false,
-        };
-    }
-    if bidders < bidder as usize {
-        return Tested {
-            refusal: 16,
-            yes: false,
-        };
-    }
-    Tested {
-        refusal: 0,
-        yes: is_downward(sheet, Bidder(bidder as u16)),
-    }
+    Ok(is_downward(sheet, Bidder(bidder as u16)))
 }

@@ -1,13 +1,18 @@
 -- When a list of floors is refused, and with which number; what is known of one that is not. Assumes nothing.
-use Prim.Native.Nat.{ℕ, ◌<◌, ◌≤◌}
+use Prim.Native.Nat.{ℕ, zero, suc, ◌<◌, ◌≤◌}
 use borrow.Author.Tests.{eq-eqb, ne_eqb, lt-ltb, le-ltb, ltb-false}
-use mathlib.Core.Bool.{Bool, true, false, not}
+use mathlib.Core.Bool.{Bool, true, false, not, ◌||◌}
 use mathlib.Core.List.{List}
 use mathlib.Core.Logic.{⊎_elim}
-use mathlib.Core.Path.{◌≡◌, sym, ap, ap₂, subst}
+use mathlib.Core.Path.{◌≡◌, refl, sym, ◌∙◌, ap, ap₂, subst}
 use native.Mathlib.Omega.{arith}
 use lib.Dec.{eqb, ltb}
-use lib.ListN.{length, get_or, replicate, get_or-eq_default}
+use lib.ListN.{length, get_or, take, replicate, get_or-eq_default}
+use lib.Seq.{take-length}
+use native.Mathlib.Numerals.{add-one}
+use Rattle.std.specs.List.{list_any}
+use Rattle.std.proofs.lemmas.List.Folds.{list_any_more}
+use Rattle.basis.specs.Tests.{any_below}
 use Rattle.basis.specs.First.{◌when◌otherwise◌}
 use Rattle.basis.proofs.FirstLaws.{when_none}
 use Rattle.basis.proofs.NumberLaws.{same_or_not, below_or_not}
@@ -23,9 +28,25 @@ use Rattle.choice.specs.Critical.{Asked}
 use Rattle.choice.proofs.CriticalLaws.{zeros_asked}
 use Rattle.floors.specs.Floors.{some_too_high, floors_refusal}
 
+-- some element of a list passes a test: so does some number below its length, of which the element there is tested
+any_first : (test : ℕ → Bool) (list : List ℕ) (i : ℕ) → i ≤ length list → list_any test (take i list) ≡ any_below (λ k. test (get_or list k 0)) i
+unfolding any_below
+any_first test list zero l = refl
+any_first test list (suc i) l =
+    ap (λ (n : ℕ). list_any test (take n list)) (sym (add-one i))
+    ∙ list_any_more test list i 0 l
+    ∙ ap (λ (t : Bool). t || test (get_or list i 0)) (any_first test list i (omega arith))
+
+any_index : (test : ℕ → Bool) (list : List ℕ) → list_any test list ≡ any_below (λ k. test (get_or list k 0)) (length list)
+any_index test list = ap (list_any test) (sym (take-length list)) ∙ any_first test list (length list) (omega arith)
+
 -- a floor of the list is above 1,000,000,000
 abbrev pub too_high : List ℕ → ℕ → Bool
 too_high floors k = ltb 1_000_000_000 (get_or floors k 0)
+
+pub any_too_high : (floors : List ℕ) → list_any (λ floor. ltb 1_000_000_000 floor) floors ≡ some_too_high floors
+unfolding some_too_high
+any_too_high floors = any_index (λ floor. ltb 1_000_000_000 floor) floors
 
 -- 30 for a list that is not m long,
 pub thirty : (m : ℕ) (floors : List ℕ) → (length floors ≡ m → ⊥) → floors_refusal m floors ≡ 30
@@ -34,7 +55,7 @@ thirty m floors h =
     ap (λ (t : Bool). 30 when t otherwise 31 when some_too_high floors otherwise 0) (not_holds (ne_eqb (length floors) m h))
 
 -- then the floors decide
-past_thirty : (m : ℕ) (floors : List ℕ) (t : Bool) → length floors ≡ m → some_too_high floors ≡ t → floors_refusal m floors ≡ (31 when t otherwise 0)
+pub past_thirty : (m : ℕ) (floors : List ℕ) (t : Bool) → length floors ≡ m → some_too_high floors ≡ t → floors_refusal m floors ≡ (31 when t otherwise 0)
 unfolding floors_refusal
 past_thirty m floors t h e =
     ap₂ (λ (u v : Bool). 30 when u otherwise 31 when v otherwise 0) (not_fails (eq-eqb (length floors) m h)) e

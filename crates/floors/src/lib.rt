@@ -1,48 +1,36 @@
 // The floors of a call: what a lent list of them must be, for a page of so many slots (document 02, S-7).
 #![tactic(auto)]
 
-ghost use Rattle.std.specs.Prelude.{◌≡◌, ◌<◌, ◌≤◌};
-ghost use Rattle.basis.specs.First.{◌when◌otherwise◌};
+ghost use Rattle.std.specs.Prelude.{◌≡◌, ◌<◌, ◌≤◌, ltb};
+ghost use Rattle.std.specs.List.{list_any};
 ghost use Rattle.sheet.specs.Proper.{ProperFloors};
 ghost use Rattle.choice.specs.Critical.{floor_asks, Asked};
-ghost use Rattle.floors.specs.Floors.{some_too_high, floors_refusal};
+ghost use Rattle.refusal.specs.Numbers.{number_in};
+ghost use Rattle.floors.specs.Floors.{floors_refusal};
+
+use refusal::Refusal;
 
 // "a floor above 1,000,000,000"
 const MAX_FLOOR: u32 = 1000000000;
 
 // Whether some floor is above the highest bid that a sheet can have.
 fn some_too_high(floors: &[u32]) -> bool
-    ensures { result ≡ some_too_high floors.now }
+    ensures { result ≡ list_any (λ floor. ltb 1000000000 floor) floors.now }
 {
-    let mut k = 0;
-    while k < floors.len() {
-        if MAX_FLOOR < floors[k] {
-            return true;
-        }
-        k += 1;
-    }
-    false
+    floors.iter().any(|floor| *floor > MAX_FLOOR)
 }
 
-// The first number that applies to a list: 30 where it is not as long as the page, then 31 where a floor is too high; or 0.
-fn first_of(unequal: bool, high: bool) -> u32
-    ensures { result ≡ (30 when unequal otherwise 31 when high otherwise 0) }
+// The first rule that a list of floors breaks for a page of so many slots: 30 where it is not as long as the page, then 31 where a floor is too high.
+pub fn check_floors(floors: &[u32], slots: usize) -> Result<(), Refusal>
+    ensures { number_in result ≡ floors_refusal slots floors.now }
 {
-    if unequal {
-        return 30;
+    if floors.len() != slots {
+        return Err(Refusal::WrongFloorCount);
     }
-    if high {
-        return 31;
+    if some_too_high(floors) {
+        return Err(Refusal::WrongFloor);
     }
-    0
-}
-
-// The number of a refused list of floors for a page of so many slots, or 0.
-pub fn check_floors(floors: &[u32], slots: usize) -> u32
-    ensures { result ≡ floors_refusal slots floors.now }
-{
-    let too_high = some_too_high(floors);
-    first_of(floors.len() != slots, too_high)
+    Ok(())
 }
 
 // What a floor asks: the least multiple of the tick that is not below it. No floor asks nothing, and is not divided.
@@ -62,10 +50,8 @@ pub fn asked(floors: &[u32], slots: usize, tick: u32) -> [u32; 16]
     ensures { Asked tick slots floors.now result }
 {
     let mut asks = [0u32; 16];
-    let mut k = 0;
-    while k < slots {
-        asks[k] = floor_asks(tick, floors[k]);
-        k += 1;
+    for (k, floor) in floors[..slots].iter().enumerate() {
+        asks[k] = floor_asks(tick, *floor);
     }
     asks
 }

@@ -1,17 +1,23 @@
 -- The cases of a gain call. Assumes nothing.
 use Prim.Native.Nat.{ℕ, zero, suc, ◌-◌, ◌<◌, ◌≤◌}
 use borrow.Author.Tests.{eqb-true, eqb-false, ltb-false, not-false}
-use mathlib.Core.Bool.{true, not, ◌||◌}
+use mathlib.Core.Bool.{true, false, not, ◌||◌}
 use mathlib.Core.List.{List}
 use mathlib.Core.Path.{◌≡◌, refl, sym, ◌∙◌, ap, ap₂, subst}
 use native.Mathlib.Nat.{not-suc-le-zero}
 use native.Mathlib.Omega.{arith}
 use lib.Dec.{eqb, ltb}
-use lib.IntN.{pos}
+use lib.IntN.{ℤ, pos}
 use lib.ListN.{get_or}
 use Rattle.basis.proofs.FirstLaws.{or_else_left, or_else_right, when_none}
 use Rattle.basis.proofs.TestLaws.{or_none}
 use Rattle.basis.proofs.RowLaws.{get_d_padded}
+use Rattle.refusal.specs.declared.Refusal.{Refusal}
+use Rattle.refusal.specs.Numbers.{number_of, number_in}
+use Rattle.refusal.proofs.NumberLaws.{number_of-ne0}
+use Rattle.std.specs.Prelude.{Result, Ok, Err, is_err}
+use Rattle.std.specs.Result.{IsErrAnd}
+use Rattle.std.proofs.lemmas.Result.{err_from_is_err_and}
 use Rattle.sheet.specs.declared.Round.{Round}
 use Rattle.sheet.specs.Sheet.{bidder_count, slot_count, effect_field}
 use Rattle.sheet.specs.Refusal.{refusal_of, Accepted}
@@ -29,8 +35,21 @@ use Rattle.greedy.specs.declared.Outcome.{Outcome}
 use Rattle.greedy.specs.EngineOutcome.{outcome_of}
 use Rattle.auction.specs.Broken.{breaks_own}
 use Rattle.gain.specs.Gain.{slot_of, gain_if, gain_at, gain_of}
-use Rattle.gain.specs.Call.{later_refusal, gain_refusal, gain_floors_refusal, gained_for, gained_of, gained_floors_of}
+use Rattle.gain.specs.Call.{later_refusal, gain_refusal, gain_floors_refusal, gained_for, gained_in, gained_of, gained_floors_of}
 use Rattle.gain.proofs.SlotLaws.{slot_found, slot_won}
+
+-- what `?` passes on is the number alone
+pub alone : (r : Result ℤ Refusal) (refusal : Refusal) → IsErrAnd r (λ y. y ≡ refusal) → gained_in r ≡ record { refusal = number_of refusal; gain = pos 0 }
+alone r refusal is = let p = err_from_is_err_and r is in rw (p.1, p.2)
+
+-- an answer that is a refusal has a number above 0, and another has 0
+pub was_err : {A : Type 0} (r : Result A Refusal) → is_err r ≡ true → number_in r ≡ 0 → ⊥
+was_err (Ok x) e z = cc
+was_err (Err refusal) e z = number_of-ne0 refusal z
+
+pub was_ok : {A : Type 0} (r : Result A Refusal) → is_err r ≡ false → number_in r ≡ 0
+was_ok (Ok x) e = refl
+was_ok (Err refusal) e = cc
 
 -- a refused call
 pub for_refused : (k : ℕ) (r : Round) (t : List ℕ) (i v : ℕ) → (k ≡ 0 → ⊥) → record { refusal = k; gain = pos 0 } ≡ gained_for k r t i v

@@ -1,5 +1,5 @@
 -- The gain call over two lent sheets.
-use Rattle.std.specs.Prelude.{ℕ, zero, suc, not, ◌||◌, List, eqb, ltb, pos}
+use Rattle.std.specs.Prelude.{ℕ, zero, suc, not, ◌||◌, List, Result, Ok, Err, eqb, ltb, ℤ, pos}
 use Rattle.basis.specs.First.{◌when◌otherwise◌, or_else}
 use Rattle.sheet.specs.declared.Round.{Round}
 use Rattle.sheet.specs.Sheet.{bidder_count, slot_count}
@@ -7,7 +7,8 @@ use Rattle.sheet.specs.Refusal.{refusal_of}
 use Rattle.sheet.specs.Round.{round_of, with_floors}
 use Rattle.floors.specs.Floors.{floors_refusal}
 use Rattle.gain.specs.Gain.{gain_of}
-use Rattle.gain.specs.declared.Gained.{Gained}
+use Rattle.refusal.specs.declared.Refusal.{Refusal}
+use Rattle.refusal.specs.Numbers.{number_of}
 
 -- 14. The truth sheet breaks any of the check's rules (1 to 13 and 26 to 28).  15. The truth sheet has another n or m.
 -- 16. The bidder named in the call is 0 or above n.  17. The worth is above 1,000,000,000.
@@ -26,6 +27,15 @@ gain_refusal s t i worth = or_else (refusal_of s) (later_refusal s t i worth)
 -- with floors: the check's numbers of the played sheet, then 30 and 31, and then 14 to 17
 unfoldable pub gain_floors_refusal : (floors s t : List ℕ) → ℕ → ℕ → ℕ
 gain_floors_refusal floors s t i worth = or_else (refusal_of s) (or_else (floors_refusal (slot_count s) floors) (later_refusal s t i worth))
+
+-- what a call tells: a refusal's number, or 0 and the gain
+pub record Gained : Type 0 where
+  pub refusal : ℕ
+  pub gain : ℤ
+
+abbrev pub gained_in : Result ℤ Refusal → Gained
+gained_in (Ok amount) = record { refusal = 0; gain = amount }
+gained_in (Err refusal) = record { refusal = number_of refusal; gain = pos 0 }
 
 -- a refused call returns its number alone
 unfoldable pub gained_for : ℕ → Round → List ℕ → ℕ → ℕ → Gained

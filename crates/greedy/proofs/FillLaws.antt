@@ -1,6 +1,6 @@
 -- The page and its prices, slot after slot: while slots 1 to k are filled, the marks know the page so far, and so tell who is eligible for the
 -- next slot; its winner and the winner's critical bid are the slot's entry. Assumes nothing.
-use Prim.Native.Nat.{ℕ, zero, suc, ◌-◌, ◌%◌, ◌<◌, ◌≤◌}
+use Prim.Native.Nat.{ℕ, suc, ◌%◌, ◌<◌, ◌≤◌}
 use mathlib.Core.Bool.{Bool, ◌||◌}
 use mathlib.Core.List.{List}
 use mathlib.Core.Logic.{⊎_elim}
@@ -128,13 +128,6 @@ module _ (r : Round) (s : List ℕ) (start : ℕ) (last links bids asks : List �
         multiple = λ b. ap₂ (λ (x t : ℕ). x % t) (lent_bid r bids lent.bids_are b) lent.tick_is ∙ proper.in_ticks b;
       }
 
-  -- what is lent for a slot is what the round's floor there asks
-  lent_asks : (k : ℕ) → 0 < k → k ≤ slots → get_or asks (k - 1) 0 ≡ floor_asks r.tick (floor_of r k)
-  lent_asks zero some most = absurd (omega arith)
-  lent_asks (suc k) some most =
-      let e : suc k - 1 ≡ k = omega arith in
-      ap (λ (i : ℕ). get_or asks i 0) e ∙ lent.asks_are k most
-
   module _ (barred held : List ℕ) (page : Page) (prices : List ℕ) (w paid asked : ℕ) where
     -- what an award promises
     abbrev Award : ℕ → Type 0
@@ -184,18 +177,16 @@ module _ (r : Round) (s : List ℕ) (start : ℕ) (last links bids asks : List �
           );
         }
 
-    pub slot_won : (k : ℕ) → 0 < k → k ≤ slots → asked ≡ get_or asks (k - 1) 0 → Filled r (k - 1) barred held page prices → Award k → w ≤ 64
-    slot_won zero some most under f a = absurd (omega arith)
-    slot_won (suc k) some most under f a =
-        let e : suc k - 1 ≡ k = omega arith in
-        won_most r lent.proper k (inside-at k most) barred held page prices (rw e at f) w paid
-        (awarded_of k most (under ∙ lent_asks (suc k) some most) (rw e at f) a)
+    pub slot_won : (k at : ℕ) → at ≡ suc k → at ≤ slots → asked ≡ get_or asks k 0 → Filled r k barred held page prices → Award at → w ≤ 64
+    slot_won k at e most under f a =
+        let below : k < slots = omega arith in
+        won_most r lent.proper k (inside-at k below) barred held page prices f w paid
+        (awarded_of k below (under ∙ lent.asks_are k below) f (rw e at a))
 
-    pub slot_filled : (k : ℕ) → 0 < k → k ≤ slots → asked ≡ get_or asks (k - 1) 0 → Filled r (k - 1) barred held page prices → Award k → (barred' held' : List ℕ) →
-        Settled (round_of s) w k barred held barred' held' → Filled r k barred' held' (put page k w) (set prices (k - 1) paid)
-    slot_filled zero some most under f a barred' held' settled = absurd (omega arith)
-    slot_filled (suc k) some most under f a barred' held' settled =
-        let e : suc k - 1 ≡ k = omega arith in
+    pub slot_filled : (k at : ℕ) → at ≡ suc k → at ≤ slots → asked ≡ get_or asks k 0 → Filled r k barred held page prices → Award at → (barred' held' : List ℕ) →
+        Settled (round_of s) w at barred held barred' held' → Filled r at barred' held' (put page at w) (set prices k paid)
+    slot_filled k at e most under f a barred' held' settled =
+        let below : k < slots = omega arith in
         rw e
-        (filled_next r lent.proper k (inside-at k most) barred held page prices (rw e at f) w paid
-        (awarded_of k most (under ∙ lent_asks (suc k) some most) (rw e at f) a) barred' held' (settled_of (suc k) barred' held' settled))
+        (filled_next r lent.proper k (inside-at k below) barred held page prices f w paid
+        (awarded_of k below (under ∙ lent.asks_are k below) f (rw e at a)) barred' held' (settled_of (suc k) barred' held' (rw e at settled)))

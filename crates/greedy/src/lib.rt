@@ -38,8 +38,7 @@ fn is_below(bids: &[u32], asks: u32, bidder: Bidder) -> bool
     requires { (0 < bidder.0) × (bidder.0 ≤ length bids.now) }
     ensures { result ≡ ltb (bid_in bids.now bidder.0) asks }
 {
-    let index = bidder.0 as usize - 1;
-    bids[index] < asks
+    bids[bidder.0 as usize - 1] < asks
 }
 
 // The eligibility step: which test the candidate fails first at the slot, with the page so far. Whether it has a slot is asked of `held`,
@@ -106,26 +105,18 @@ fn next_eligible(
     ensures upper_bound { result ≤ bidders }
     ensures next_at { (q : Round) (p : Page) → SoFar q p sheet.now barred.now held.now bids.now asks slot.0 → NextAt (eligible q p slot.0) ranked.now bidders from result }
 {
-    let mut i: usize = from;
-    while i < bidders {
-        let bidder = choice::ranked_at(ranked, i);
+    for rank in from..bidders {
+        let bidder = choice::ranked_at(ranked, rank);
         let answer = eligibility(
             barred, held, last, links, sheet, start, bids, asks, bidder, slot,
         );
         match answer {
-            Eligibility::Eligible => {
-                return i;
-            }
-            Eligibility::BelowFloor => {
-                return bidders;
-            }
-            Eligibility::Placed => {}
-            Eligibility::EarlierWinners => {}
-            Eligibility::Own => {}
+            Eligibility::Eligible => return rank,
+            Eligibility::BelowFloor => return bidders,
+            Eligibility::Placed | Eligibility::EarlierWinners | Eligibility::Own => {}
         }
-        i += 1;
     }
-    i
+    bidders
 }
 
 // The winner of a slot and what it pays: the first two eligible bidders in the order in which they win are the winner and who sets its price.
@@ -151,9 +142,8 @@ fn award_slot(
     let first = next_eligible(
         ranked, barred, held, last, links, sheet, start, bids, asks, bidders, slot, 0,
     );
-    let mut second = bidders;
-    if first < bidders {
-        second = next_eligible(
+    let second = if first < bidders {
+        next_eligible(
             ranked,
             barred,
             held,
@@ -166,8 +156,10 @@ fn award_slot(
             bidders,
             slot,
             first + 1,
-        );
-    }
+        )
+    } else {
+        bidders
+    };
     choice::placing_at(ranked, bids, bidders, tick, asks, first, second)
 }
 
@@ -186,36 +178,11 @@ fn settle(
     requires winner_bound { (winner.0 ≤ 64) × (at.0 ≤ 16) }
     ensures { Settled (round_of sheet.now) winner.0 at.0 barred.old held.old barred.new held.new }
 {
-    if winner.0 != 0 {
+    if winner != Bidder(0) {
         let here = greedy_links::chain_key(winner, at);
         greedy_links::bar_chain(barred, last, links, sheet, start, here);
         greedy_links::hold(held, winner, at);
     }
-}
-
-// The slot after one.
-fn next_slot(slot: Slot) -> Slot
-    requires { slot.0 ≤ 16 }
-    ensures { result.0 ≡ slot.0 + 1 }
-{
-    Slot(slot.0 + 1)
-}
-
-// What the floor of a slot asks.
-fn asked_at(asks: &[u32], slot: Slot) -> u32
-    requires { (0 < slot.0) × (slot.0 ≤ 16) × (slot.0 ≤ length asks.now) }
-    ensures { result ≡ get_or asks.now (slot.0 - 1) 0 }
-{
-    let index = slot.0 as usize - 1;
-    asks[index]
-}
-
-// Where a slot's price stands in the list of prices.
-fn price_index(slot: Slot) -> usize
-    requires { (0 < slot.0) × (slot.0 ≤ 16) }
-    ensures { result ≡ slot.0 - 1 }
-{
-    slot.0 as usize - 1
 }
 
 // The page of the greedy rule with the price of each slot, from a round's linked constraints, its bids, what its floors ask and its tick.
@@ -238,16 +205,14 @@ pub fn fill(
     let mut held = [0u8; greedy_links::KEYS];
     let mut page = auction::empty_page();
     let mut prices = [0u32; 16];
-    let mut slot = Slot(1);
-    while slot.0 as usize <= slots {
-        let asked = asked_at(asks, slot);
+    for (k, asked) in asks[..slots].iter().enumerate() {
+        let slot = Slot((k + 1) as u8);
         let awarded = award_slot(
-            &ranked, &barred, &held, last, links, sheet, start, bids, asked, bidders, tick, slot,
+            &ranked, &barred, &held, last, links, sheet, start, bids, *asked, bidders, tick, slot,
         );
         let winner = awarded.winner;
         page = auction::with_bidder(page, slot, winner);
-        let index = price_index(slot);
-        prices[index] = awarded.critical;
+        prices[k] = awarded.critical;
         settle(
             &mut barred,
             &mut held,
@@ -258,7 +223,6 @@ pub fn fill(
             winner,
             slot,
         );
-        slot = next_slot(slot);
     }
     Outcome { page, prices }
 }

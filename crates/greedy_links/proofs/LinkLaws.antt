@@ -1,7 +1,7 @@
 -- Why one chain is enough: a chain leaves out no link of its key, since nothing of the key lies between a link and the one before it.
 -- Assumes nothing.
 use Rattle.basis.proofs.RowLaws.{zeros}
-use Prim.Native.Nat.{ℕ, zero, suc, ◌<◌, ◌≤◌}
+use Prim.Native.Nat.{ℕ, zero, suc, ◌-◌, ◌<◌, ◌≤◌}
 use borrow.Author.Tests.{eq-eqb, ne_eqb, eqb-true}
 use mathlib.Core.Bool.{Bool, true, false, cond, not, ◌&&◌, ◌||◌, or-false, or-true, or_comm}
 use mathlib.Core.List.{List}
@@ -14,8 +14,10 @@ use lib.Seq.{get_or-set_same, get_or-set_other}
 use Rattle.basis.specs.Tests.{any_below}
 use Rattle.basis.proofs.NumberLaws.{same_or_not}
 use Rattle.sheet.specs.declared.Round.{Round}
+use Rattle.sheet.specs.Sheet.{constraint_count}
+use Rattle.sheet.specs.Round.{round_of}
 use Rattle.greedy_links.specs.EngineKeys.{is_marked}
-use Rattle.greedy_links.specs.EngineLinks.{link_key, link_owner, last_of, Linked, some_owner_of}
+use Rattle.greedy_links.specs.EngineLinks.{link_key, link_owner, last_of, Linked, Kept, some_owner_of}
 
 -- The last of the first n that passes.
 module _ (f : ℕ → Bool) where
@@ -166,6 +168,12 @@ module _ (r : Round) (x : ℕ) (last links : List ℕ) (most : x ≤ 1088) (h : 
         ∙ last_one test
         ∙ or_comm (some_owner_of r x test i) (test (link_owner r i))
         ∙ ap (λ (t : Bool). test (link_owner r i) || t) (along_last test i ∙ ap (some_owner_of r x test) (sym before))
+
+-- where a walk along a chain of a sheet stands: its link is one of the sheet's, and the one before it has a lower number
+pub link_here : (s : List ℕ) (start : ℕ) (last links : List ℕ) (x next : ℕ) → x ≤ 1088 → Kept s start last links → (next ≡ 0 → ⊥) → Walking (round_of s) x next →
+    (next - 1 < constraint_count s) × (constraint_count s ≤ 1024) × (get_or links (next - 1) 0 ≤ next - 1)
+unfolding round_of
+link_here s start last links x next most kept going v = link_fits (round_of s) x last links most kept.linked next (next - 1) (omega arith) v
 
 -- at the end of the chain nothing is left
 pub none_left : (r : Round) (x next : ℕ) (test : ℕ → Bool) → next ≡ 0 → some_owner_of r x test next ≡ false

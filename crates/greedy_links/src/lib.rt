@@ -30,8 +30,11 @@ pub const LINKS: usize = 1024;
 pub struct ChainKey(pub u16);
 
 // Where a constraint's owner must stand: a bidder at a slot, at any slot where that is 0; always so where the bidder is nobody.
-#[derive(Clone, Copy)]
+#[derive(Clone, Copy, PartialEq, Eq)]
 pub struct OwnerKey(pub u16);
+
+// The owner's key that is always so.
+const ALWAYS_SO: OwnerKey = OwnerKey(0);
 
 // By whose constraints a candidate is named where it would stand: by an earlier winner's; or, told only where that is not so, by itself, with an
 // own-slot constraint. (Its other constraints name others, and bar it by their marks.)
@@ -41,12 +44,20 @@ pub struct Named {
     pub itself: bool,
 }
 
+// A bidder at a slot, or at any slot where that is 0, in one number.
+fn key(bidder: Bidder, slot: Slot) -> u16
+    requires { (bidder.0 ≤ 64) × (slot.0 ≤ 16) }
+    ensures { result ≡ key bidder.0 slot.0 }
+{
+    64 * u16::from(slot.0) + bidder.0
+}
+
 // The key of the chain of a bidder at a slot.
 pub fn chain_key(bidder: Bidder, slot: Slot) -> ChainKey
     requires { (bidder.0 ≤ 64) × (slot.0 ≤ 16) }
     ensures { result.0 ≡ key bidder.0 slot.0 }
 {
-    ChainKey(64 * (slot.0 as u16) + bidder.0)
+    ChainKey(key(bidder, slot))
 }
 
 // The key of an owner at a slot, slot 0 for any slot.
@@ -54,36 +65,16 @@ pub fn owner_key(bidder: Bidder, slot: Slot) -> OwnerKey
     requires { (bidder.0 ≤ 64) × (slot.0 ≤ 16) }
     ensures { result.0 ≡ key bidder.0 slot.0 }
 {
-    OwnerKey(64 * (slot.0 as u16) + bidder.0)
-}
-
-// A key as an index: here alone a key becomes a number again.
-fn chain_index(chain: ChainKey) -> usize
-    ensures { result ≡ chain.0 }
-{
-    chain.0 as usize
-}
-
-fn owner_index(owner: OwnerKey) -> usize
-    ensures { result ≡ owner.0 }
-{
-    owner.0 as usize
-}
-
-// Whether a key is the one that is always so.
-fn is_always_so(owner: OwnerKey) -> bool
-    ensures { result ≡ eqb owner.0 0 }
-{
-    owner_index(owner) == 0
+    OwnerKey(key(bidder, slot))
 }
 
 // Whether an owner's key is marked.
+#[tactic(auto, unfolding(crate::specs::EngineKeys::is_marked))]
 pub fn is_marked(marks: &[u8], owner: OwnerKey) -> bool
     requires { owner.0 < length marks.now }
     ensures { result ≡ is_marked marks.now owner.0 }
 {
-    let at = owner_index(owner);
-    marks[at] != 0
+    marks[owner.0 as usize] != 0
 }
 
 // One more key is marked.
@@ -91,11 +82,11 @@ fn mark(marks: &mut [u8], owner: OwnerKey)
     requires { owner.0 < length marks.old }
     ensures { (x : ℕ) → is_marked marks.new x ≡ (is_marked marks.old x || eqb x owner.0) }
 {
-    let at = owner_index(owner);
-    marks[at] = 1;
+    marks[owner.0 as usize] = 1;
 }
 
 // The two keys, part by part: chosen by a match of its own each, the machine has no branch on a kind that it cannot foretell.
+#[tactic(auto, unfolding(crate::specs::EngineKeys::chain_bidder))]
 fn chain_bidder(owner: Bidder, kind: Kind) -> Bidder
     ensures { result.0 ≡ chain_bidder owner.0 kind }
 {
@@ -106,6 +97,7 @@ fn chain_bidder(owner: Bidder, kind: Kind) -> Bidder
     }
 }
 
+#[tactic(auto, unfolding(crate::specs::EngineKeys::chain_slot))]
 fn chain_slot(kind: Kind) -> Slot
     ensures { result.0 ≡ chain_slot kind }
 {
@@ -116,6 +108,7 @@ fn chain_slot(kind: Kind) -> Slot
     }
 }
 
+#[tactic(auto, unfolding(crate::specs::EngineKeys::owner_bidder))]
 fn owner_bidder(owner: Bidder, kind: Kind) -> Bidder
     ensures { result.0 ≡ owner_bidder owner.0 kind }
 {
@@ -126,6 +119,7 @@ fn owner_bidder(owner: Bidder, kind: Kind) -> Bidder
     }
 }
 
+#[tactic(auto, unfolding(crate::specs::EngineKeys::owner_slot))]
 fn owner_slot(kind: Kind) -> Slot
     ensures { result.0 ≡ owner_slot kind }
 {
@@ -152,7 +146,7 @@ fn link(last: &mut [u16], links: &mut [u16], chain: ChainKey, number: usize)
     requires { (length last.old ≡ 1089) × (length links.old ≡ 1024) × (chain.0 ≤ 1088) × (number < 1024) }
     ensures { (q : Round) → chain.0 ≡ link_key q number → Linked q number last.old links.old → Linked q (suc number) last.new links.new }
 {
-    let at = chain_index(chain);
+    let at = chain.0 as usize;
     links[number] = last[at];
     last[at] = (number + 1) as u16;
 }
@@ -174,11 +168,9 @@ pub fn link_all(last: &mut [u16], links: &mut [u16], sheet: &[u8])
     ensures { Linked (round_of sheet.now) (round_of sheet.now).used last.new links.new }
 {
     let round = sheet_read::accepted_round(sheet);
-    let used = round.used;
-    let mut i = 0;
-    while i < used {
-        enter(last, links, round.constraints[i], i);
-        i += 1;
+    let constraints = &round.constraints[..round.used];
+    for (i, constraint) in constraints.iter().enumerate() {
+        enter(last, links, *constraint, i);
     }
 }
 
@@ -205,8 +197,7 @@ pub fn bar_chain(
     requires { (length barred.old ≡ 1089) × (chain.0 ≤ 1088) × Kept sheet.now start last.now links.now }
     ensures { (y : ℕ) → is_marked barred.new y ≡ (is_marked barred.old y || some_owner_of (round_of sheet.now) chain.0 (λ z. eqb z y) (round_of sheet.now).used) }
 {
-    let at = chain_index(chain);
-    let mut next = last[at] as usize;
+    let mut next = last[chain.0 as usize] as usize;
     while next != 0 {
         let owner = owner_at(sheet, start, next - 1);
         mark(barred, owner);
@@ -227,8 +218,7 @@ pub fn named_by(
     requires { (length held.now ≡ 1089) × (chain.0 ≤ 1088) × Kept sheet.now start last.now links.now }
     ensures { result ≡ named_for (some_owner_of (round_of sheet.now) chain.0 (is_marked held.now) (round_of sheet.now).used) (some_owner_of (round_of sheet.now) chain.0 (λ y. eqb y 0) (round_of sheet.now).used) }
 {
-    let at = chain_index(chain);
-    let mut next = last[at] as usize;
+    let mut next = last[chain.0 as usize] as usize;
     let mut itself = false;
     while next != 0 {
         let owner = owner_at(sheet, start, next - 1);
@@ -238,7 +228,7 @@ pub fn named_by(
                 itself: false,
             };
         }
-        itself = itself | is_always_so(owner);
+        itself |= owner == ALWAYS_SO;
         next = links[next - 1] as usize;
     }
     Named {

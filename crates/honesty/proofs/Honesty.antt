@@ -18,11 +18,10 @@ use Rattle.auction.specs.Broken.{breaks_own}
 use Rattle.auction.specs.Greedy.{greedy_page}
 use Rattle.auction.specs.Except.{Except}
 use Rattle.gain.specs.Gain.{slot_of, gain_at, gain_of}
-use Rattle.gain.specs.Call.{later_refusal, gain_refusal, gained_floors_of}
+use Rattle.gain.specs.Call.{Gained, later_refusal, gain_refusal, gained_floors_of}
 use Rattle.gain.proofs.CallLaws.{for_gained, left_of_gain, floored-gains}
 use Rattle.downward.specs.Downward.{list_has, asks_lower, downward}
 use Rattle.honesty.specs.Honesty.{DifferOnlyInList, Honesty}
-use Rattle.gain.specs.declared.Gained.{Gained}
 use Rattle.honesty.proofs.HonestyLaws.{honest_pays}
 
 -- floors change neither whether a list is downward monotonic nor what a truth sheet's list is

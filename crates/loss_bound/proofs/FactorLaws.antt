@@ -6,7 +6,8 @@ use mathlib.Core.Bool.{Bool, true, false, cond}
 use mathlib.Core.List.{List}
 use mathlib.Core.Path.{◌≡◌, sym, ◌∙◌, ap}
 use native.Mathlib.Omega.{arith}
-use lib.ListN.{length, get_or}
+use lib.ListN.{length, get_or, take}
+use lib.Seq.{get_or-take, length-take-le}
 use Rattle.basis.specs.Counting.{sum_to, most_to}
 use Rattle.basis.specs.Tests.{all_below}
 use Rattle.basis.proofs.FirstLaws.{refused_leaves, answered-gives}
@@ -53,6 +54,18 @@ module _ (s words counts : List ℕ) (ok : Accepted s) (above : all_below (rival
       largest ∙ most-same (λ j. get_or counts j 0) (λ j. named_by (names_rival s) (bidder_count s) (suc j)) (bidder_count s) (λ j l. noted.counted j) in
       let told = factor-told s (profile_counted s ok above ∙ eq-eqb (length (conditions_in_order s)) _ (omega arith)) in
       omega arith
+
+-- the first n counts by themselves have the same sum and the same largest
+module _ (counts : List ℕ) (n : ℕ) (room : n ≤ length counts) where
+  pub front_sum : sum_to (λ j. get_or (take n counts) j 0) (length (take n counts)) ≡ sum_to (λ j. get_or counts j 0) n
+  front_sum =
+      ap (sum_to (λ j. get_or (take n counts) j 0)) (length-take-le n counts room)
+      ∙ sum_same (λ j. get_or (take n counts) j 0) (λ j. get_or counts j 0) n (λ j l. get_or-take n counts j 0 l)
+
+  pub front-most : most_to (λ j. get_or (take n counts) j 0) (length (take n counts)) ≡ most_to (λ j. get_or counts j 0) n
+  front-most =
+      ap (most_to (λ j. get_or (take n counts) j 0)) (length-take-le n counts room)
+      ∙ most-same (λ j. get_or (take n counts) j 0) (λ j. get_or counts j 0) n (λ j l. get_or-take n counts j 0 l)
 
 -- all that the call returns
 pub sheet-refused : (s : List ℕ) (number : ℕ) → number ≡ refusal_of s → (number ≡ 0 → ⊥) → LossBounded s (record { refusal = number; factor = 0 })

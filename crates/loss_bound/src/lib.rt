@@ -14,20 +14,14 @@ ghost use Rattle.sheet.specs.Sheet.{bidder_count, constraint_count, constraints_
 ghost use Rattle.sheet.specs.Refusal.{Accepted};
 ghost use Rattle.sheet.specs.Accepted.{order_number};
 ghost use Rattle.canonical.specs.Canonical.{conditions_in_order};
-ghost use Rattle.loss_bound.specs.LossBound.{names_rival, rival_above, loss_factor, LossBounded};
+ghost use Rattle.loss_bound.specs.LossBound.{names_rival, rival_above, loss_factor, LossBounded, loss_in};
 ghost use Rattle.loss_bound.specs.EngineNaming.{with_name, Noted};
 
 use basis::{word16, word32};
 use bidder_sets::Bidders;
 use check_constraints::order_number;
+use refusal::Refusal;
 use sheet::{Bidder, Slot};
-
-// What the call answers: a refusal's number, or 0 and the factor.
-#[derive(Clone, Copy)]
-pub struct Loss {
-    pub refusal: u32,
-    pub factor: u32,
-}
 
 // How often bidders are named in all, each by a bidder once, and how often the one that is named most.
 #[derive(Clone, Copy)]
@@ -49,7 +43,7 @@ fn note(words: &mut [u64; 64], counts: &mut [u32; 64], owner: Bidder, other: Bid
     let more = bidder_sets::with(set, other);
     words[at] = more.0;
     let named = other.0 as usize - 1;
-    counts[named] = counts[named] + 1;
+    counts[named] += 1;
 }
 
 // Whether each constraint of an accepted sheet is a pair in which the rival stands above the owner; and then words and counts, which were 0, say who names whom.
@@ -63,40 +57,35 @@ fn note_all(
     requires { Accepted sheet.now × (start ≡ constraints_start sheet.now) × (count ≡ constraint_count sheet.now) × (length words.old ≡ 64) × (length counts.old ≡ 64) × ((i : ℕ) → get_or words.old i 0 ≡ 0) × ((j : ℕ) → get_or counts.old j 0 ≡ 0) }
     ensures { (result ≡ all_below (rival_above sheet.now) (constraint_count sheet.now)) × (result ≡ true → Noted (bidder_count sheet.now) (names_rival sheet.now) words.new counts.new) }
 {
-    let mut k: usize = 0;
-    while k < count {
+    for k in 0..count {
         let at = start + 4 * k;
         let own = Slot(sheet[at + 1]);
         let others = Slot(sheet[at + 3]);
         if others.0 == 0 {
             return false;
         }
-        if own.0 <= others.0 {
+        if own <= others {
             return false;
         }
-        let owner = Bidder(sheet[at] as u16);
-        let other = Bidder(sheet[at + 2] as u16);
+        let owner = Bidder(u16::from(sheet[at]));
+        let other = Bidder(u16::from(sheet[at + 2]));
         note(words, counts, owner, other);
-        k += 1;
     }
     true
 }
 
-// Of how often each of n bidders is named: the sum, and the most.
-fn naming_of(counts: &[u32; 64], n: usize) -> Naming
-    requires { (length counts.now ≡ 64) × (n ≤ 64) × ((j : ℕ) → get_or counts.now j 0 ≤ 64) }
-    ensures { (result.all ≡ sum_to (λ j. get_or counts.now j 0) n) × (result.most ≡ most_to (λ j. get_or counts.now j 0) n) × (result.all ≤ 4096) × (result.most ≤ 64) }
+// Of how often each bidder is named: the sum, and the most.
+fn naming_of(counts: &[u32]) -> Naming
+    requires few { length counts.now ≤ 64 }
+    requires low { (j : ℕ) → j < length counts.now → get_or counts.now j 0 ≤ 64 }
+    ensures sum { (result.all ≡ sum_to (λ j. get_or counts.now j 0) (length counts.now)) × (result.all ≤ 4096) }
+    ensures largest { (result.most ≡ most_to (λ j. get_or counts.now j 0) (length counts.now)) × (result.most ≤ 64) }
 {
-    let mut all: u32 = 0;
-    let mut most: u32 = 0;
-    let mut j: usize = 0;
-    while j < n {
-        let here = counts[j];
+    let mut all = 0;
+    let mut most = 0;
+    for &here in counts {
         all += here;
-        if most < here {
-            most = here;
-        }
-        j += 1;
+        most = most.max(here);
     }
     Naming { all, most }
 }
@@ -106,15 +95,13 @@ fn rises(sheet: &[u8], start: usize, count: usize) -> bool
     requires { Accepted sheet.now × (start ≡ constraints_start sheet.now) × (count ≡ constraint_count sheet.now) }
     ensures { result ≡ true → (k : ℕ) → suc k < constraint_count sheet.now → order_number sheet.now k < order_number sheet.now (suc k) }
 {
-    let mut before: u32 = 0;
-    let mut k: usize = 0;
-    while k < count {
+    let mut before = 0;
+    for k in 0..count {
         let number = order_number(word32(sheet, start + 4 * k));
         if number <= before {
             return false;
         }
         before = number;
-        k += 1;
     }
     true
 }
@@ -147,8 +134,8 @@ fn factor_of(sheet: &[u8]) -> u32
     if !above {
         return 0;
     }
-    let naming = naming_of(&counts, sheet[5] as usize);
-    let each = above_terms::slots_above(sheet[6] as u32);
+    let naming = naming_of(&counts[..sheet[5] as usize]);
+    let each = above_terms::slots_above(u32::from(sheet[6]));
     let whole = naming.all as usize * each;
     let had = different(sheet, start, count);
     if had < whole {
@@ -157,15 +144,11 @@ fn factor_of(sheet: &[u8]) -> u32
     naming.most + 1
 }
 
-// The number of the first rule that the sheet breaks; or 0 and the factor, which is d + 1 where all lists come from "above named rivals" and d is the largest
-// number of bidders that name one same rival, and 0 where not.
-pub fn bound(sheet: &[u8]) -> Loss
-    ensures { LossBounded sheet.now result }
+// The factor, which is d + 1 where all lists come from "above named rivals" and d is the largest number of bidders that name one same rival, and 0 where
+// not; or the first rule that the sheet breaks.
+pub fn bound(sheet: &[u8]) -> Result<u32, Refusal>
+    ensures { LossBounded sheet.now (loss_in result) }
 {
-    let refusal = sheet_check::check(sheet);
-    if refusal != 0 {
-        return Loss { refusal, factor: 0 };
-    }
-    let factor = factor_of(sheet);
-    Loss { refusal: 0, factor }
+    sheet_check::check(sheet)?;
+    Ok(factor_of(sheet))
 }

@@ -8,34 +8,18 @@ use mathlib.Core.Path.{◌≡◌, refl, sym, ◌∙◌, ap, subst}
 use native.Mathlib.Omega.{arith}
 use lib.Dec.{eqb, ltb}
 use lib.ListN.{length}
-use denote.Ref.{Bor}
-use Rattle.basis.proofs.FirstLaws.{or_else-none, or_else_left, or_else_right, when_none}
+use Rattle.basis.proofs.FirstLaws.{or_else-none, or_else_left, when_none}
 use Rattle.basis.proofs.TestLaws.{or_none}
 use Rattle.sheet.specs.Sheet.{version, bidder_count}
 use Rattle.sheet.specs.Refusal.{refusal_of, Accepted}
 use Rattle.sheet.proofs.AcceptedLaws.{accepted-sheet}
-use Rattle.owner_part.specs.declared.Bounds.{Bounds}
-use Rattle.owner_part.specs.OwnerPart.{
-  call_refusal,
-  part_refusal,
-  bytes_before,
-  part_length,
-  bounds_for,
-  bounds_of,
-  before_for,
-  before_of,
-  PartOf,
-}
+use Rattle.owner_part.specs.OwnerPart.{call_refusal, part_refusal, bytes_before, part_length, Bounds, bounds_for, bounds_of, before_for, before_of}
 use Rattle.owner_part.proofs.OwnerLaws.{first-at-most, first_no_later}
 use Rattle.owner_part.proofs.HeldLaws.{part_bytes}
 
 pub by_check : (s : List ℕ) (i k : ℕ) → k ≡ refusal_of s → (k ≡ 0 → ⊥) → k ≡ part_refusal s i
 unfolding part_refusal
 by_check s i k e h = e ∙ sym (or_else_left (refusal_of s) _ (λ z. h (e ∙ z)))
-
-pub by_call : (s : List ℕ) (i k : ℕ) → Accepted s → k ≡ call_refusal (version s) (bidder_count s) i → k ≡ part_refusal s i
-unfolding part_refusal
-by_call s i k ok e = e ∙ sym (or_else_right (refusal_of s) _ ok)
 
 -- what a call that is not refused is known to have
 pub record Answered (s : List ℕ) (i : ℕ) : Type 0 where
@@ -90,9 +74,9 @@ module _ (s : List ℕ) (i : ℕ) (none : part_refusal s i ≡ 0) where
       omega arith
 
 -- the bounds lie within the sheet, refused or not
-pub bounds-within : (s : List ℕ) (i : ℕ) (b : Bounds) → b ≡ bounds_of s i → b.start + b.length ≤ length s
+pub bounds_within : (s : List ℕ) (i : ℕ) (b : Bounds) → b ≡ bounds_of s i → b.start + b.length ≤ length s
 unfolding bounds_of bounds_for
-bounds-within s i b e = subst (λ (q : Bounds). q.start + q.length ≤ length s) (sym e) (by_cases (part_refusal s i) refl)
+bounds_within s i b e = subst (λ (q : Bounds). q.start + q.length ≤ length s) (sym e) (by_cases (part_refusal s i) refl)
   where
     by_cases : (n : ℕ) → part_refusal s i ≡ n → (bounds_for n s i).start + (bounds_for n s i).length ≤ length s
     by_cases zero e = part-within s i e
@@ -106,7 +90,3 @@ before-bounds s i b e = ap (λ (q : Bounds). record { refusal = q.refusal; bytes
     by_cases : (n : ℕ) → record { refusal = (bounds_for n s i).refusal; bytes = (bounds_for n s i).start } ≡ before_for n s i
     by_cases zero = refl
     by_cases (suc n) = refl
-
--- what stands within some bounds stands within equal ones
-pub within_same : (sheet part : Bor (List ℕ)) {b b' : Bounds} → b ≡ b' → PartOf sheet part b.start b.length → PartOf sheet part b'.start b'.length
-within_same sheet part e p = subst (λ (q : Bounds). PartOf sheet part q.start q.length) e p

@@ -1,13 +1,14 @@
 -- Request S-5: "A new call hands back the part of the sheet with one bidder's conditions."
-use Rattle.std.specs.Prelude.{ℕ, zero, suc, ◌+◌, ◌*◌, cond, not, ◌||◌, List, [], ◌∷◌, ◌≡◌, eqb, ltb, length, take, drop}
+use Rattle.std.specs.Prelude.{ℕ, zero, suc, ◌+◌, ◌*◌, cond, not, ◌||◌, Result, Ok, Err, List, [], ◌∷◌, ◌≡◌, eqb, ltb, length, take, drop}
 use Rattle.std.specs.Borrow.{Bor}
 use Rattle.basis.specs.First.{◌when◌otherwise◌, or_else}
 use Rattle.basis.specs.Rows.{joined}
 use Rattle.basis.specs.Tests.{least}
 use Rattle.sheet.specs.Sheet.{version, bidder_count, constraint_count, constraints_start, owner_field, own_slot_field, other_field, other_slot_field}
 use Rattle.sheet.specs.Refusal.{refusal_of}
-use Rattle.owner_part.specs.declared.Bounds.{Bounds}
-use Rattle.owner_part.specs.declared.Before.{Before}
+use Rattle.refusal.specs.declared.Refusal.{Refusal}
+use Rattle.refusal.specs.Numbers.{number_of}
+use Rattle.owner_part.specs.declared.Span.{Span}
 
 -- "29 where either call gets a version 1 sheet that is otherwise accepted, before 16"; 16. The bidder named in the call is 0 or above n.
 unfoldable pub call_refusal : (version n i : ℕ) → ℕ
@@ -41,6 +42,16 @@ constraints_of s i = joined (λ k. cond (eqb (owner_field s k) i) (constraint_by
 unfoldable pub part_length : List ℕ → ℕ → ℕ
 part_length s i = length (constraints_of s i)
 
+-- what a call tells of the part: a refusal's number, or 0 with the bytes of the sheet before the part and its own bytes
+pub record Bounds : Type 0 where
+  pub refusal : ℕ
+  pub start : ℕ
+  pub length : ℕ
+
+abbrev pub bounds_in : Result Span Refusal → Bounds
+bounds_in (Ok span) = record { refusal = 0; start = span.start; length = span.length }
+bounds_in (Err refusal) = record { refusal = number_of refusal; start = 0; length = 0 }
+
 -- where the part is: a refused call's is "the empty part at the sheet's start"
 unfoldable pub bounds_for : ℕ → List ℕ → ℕ → Bounds
 bounds_for zero s i = record { refusal = 0; start = bytes_before s i; length = part_length s i }
@@ -48,6 +59,15 @@ bounds_for (suc k) s i = record { refusal = suc k; start = 0; length = 0 }
 
 unfoldable pub bounds_of : List ℕ → ℕ → Bounds
 bounds_of s i = bounds_for (part_refusal s i) s i
+
+-- what the call that only checks tells: a refusal's number, or 0 and the bytes of the sheet before the part
+pub record Before : Type 0 where
+  pub refusal : ℕ
+  pub bytes : ℕ
+
+abbrev pub before_in : Result ℕ Refusal → Before
+before_in (Ok bytes) = record { refusal = 0; bytes = bytes }
+before_in (Err refusal) = record { refusal = number_of refusal; bytes = 0 }
 
 -- "a call that only checks gives the number, or else how many bytes of the sheet stand before the part"
 unfoldable pub before_for : ℕ → List ℕ → ℕ → Before

@@ -1,14 +1,7 @@
 -- What is known of the program's input once it is read into a room, and what its text must be.
-use Rattle.std.specs.Prelude.{ℕ, ◌≤◌, List, ◌≡◌, length, take}
+use Rattle.std.specs.Prelude.{ℕ, List, ◌≡◌, length, take}
 use Rattle.page_lines.specs.Put.{Written}
-use Rattle.page_job.specs.declared.Input.{Input}
-use Rattle.page_job.specs.declared.Input.TheVariants.{Bytes, Failed}
 use Rattle.page_job.specs.PageText.{page_text}
-
--- the bytes that were read are no more than the room has
-abbrev pub Within : List ℕ → Input → Type 0
-Within room (Bytes count) = count ≤ length room
-Within room Failed = Unit
 
 -- The room's first `count` bytes are the input's first, as many of them as the room can hold: all of them, where the input ended
 -- before the room was full.

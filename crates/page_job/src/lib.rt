@@ -4,10 +4,10 @@
 #![tactic(auto)]
 
 ghost use Rattle.std.specs.Io.{ReadsAtMost};
-ghost use Rattle.std.specs.Prelude.{◌≤◌, length};
+ghost use Rattle.std.specs.Prelude.{◌≤◌, length, IfOk};
 ghost use Rattle.page_lines.specs.Put.{Written};
 ghost use Rattle.page_job.specs.PageText.{page_text};
-ghost use Rattle.page_job.specs.Input.{Within, TextOfInput};
+ghost use Rattle.page_job.specs.Input.{TextOfInput};
 
 use sheet::{MAX_BIDDERS, MAX_CONSTRAINTS, MAX_SLOTS};
 use std::io;
@@ -21,34 +21,25 @@ const RESULT_ROOM: usize = 5 * MAX_SLOTS;
 // The longest line for each slot.
 const TEXT_ROOM: usize = page_lines::LONGEST_LINE * MAX_SLOTS;
 
-// What reading standard input gives: how many bytes stand at the front of the room, or that a read failed.
-#[derive(Clone, Copy)]
-enum Input {
-    Bytes(usize),
-    Failed,
-}
-
 // The text of the sheet's page, or of its refusal, at the front of the buffer, and how many bytes it is.
 pub fn page_text(sheet: &[u8], text: &mut [u8; TEXT_ROOM]) -> usize
     ensures { Written text.old (page_text sheet.now) result text.new }
 {
     let mut result = [0u8; RESULT_ROOM];
-    let refusal = play::play(sheet, &mut result);
-    if refusal != 0 {
-        return page_lines::refused_line(refusal, text);
+    match play::play(sheet, &mut result) {
+        Ok(()) => page_lines::slot_lines(&result, sheet[6] as usize, text),
+        Err(refusal) => page_lines::refused_line(refusal.number(), text),
     }
-    let slots = sheet[6] as usize;
-    page_lines::slot_lines(&result, slots, text)
 }
 
 // The text of a whole input, of which the room holds the first `count` bytes, and how many bytes that text is. The input may go on
 // where the room is full: the room is large enough that its text is the whole input's.
+// Kept: `TextOfInput` speaks of the room and of the count, so both are handed over, and not the bytes alone.
 fn input_text(room: &[u8; SHEET_ROOM], count: usize, text: &mut [u8; TEXT_ROOM]) -> usize
     requires { count ≤ length room.now }
     ensures { TextOfInput room.now count text.old result text.new }
 {
-    let bytes: &[u8] = room;
-    page_text(&bytes[..count], text)
+    page_text(&room[..count], text)
 }
 
 // One read, tried again where a signal interrupts it.
@@ -64,27 +55,24 @@ fn read_some<R: Read>(input: &mut R, rest: &mut [u8]) -> io::Result<usize>
     input.read(rest)
 }
 
-// The input to its end, or until the room is full.
-fn read_sheet<R: Read>(input: &mut R, room: &mut [u8; SHEET_ROOM]) -> Input
-    ensures { Within room.new result }
+// The input to its end, or until the room is full; how many bytes then stand at the front of the room.
+fn read_sheet<R: Read>(input: &mut R, room: &mut [u8]) -> io::Result<usize>
+    ensures { IfOk result (λ count. count ≤ length room.new) }
 {
-    let space: &mut [u8] = room;
-    let mut at: usize = 0;
-    while at < space.len() {
-        match read_some(input, &mut space[at..]) {
-            Ok(0) => return Input::Bytes(at),
-            Ok(more) => at += more,
-            Err(_) => return Input::Failed,
+    let mut at = 0;
+    while at < room.len() {
+        match read_some(input, &mut room[at..])? {
+            0 => break,
+            more => at += more,
         }
     }
-    Input::Bytes(at)
+    Ok(at)
 }
 
 // The sheet on standard input, and its text on standard output.
 pub fn run(rt: &(impl io::Input + Print + Eprint)) -> io::Result<()> {
     let mut room = [0u8; SHEET_ROOM];
-    let input = read_sheet(&mut rt.reader(), &mut room);
-    let Input::Bytes(count) = input else {
+    let Ok(count) = read_sheet(&mut rt.reader(), &mut room) else {
         return rt.eprint("page: cannot read the sheet\n");
     };
     let mut text = [0u8; TEXT_ROOM];

@@ -11,26 +11,15 @@ ghost use Rattle.page_lines.specs.Put.{Put, Written};
 // The bytes of the longest line: a slot of 2 digits, a bidder of 3, a price of 10, two spaces and a newline.
 pub const LONGEST_LINE: usize = 18;
 
-// The number's decimal digits at an offset, and the offset after them.
-fn put_decimal(text: &mut [u8], at: usize, value: u32) -> usize
-    requires { at + length (decimal value) ≤ length text.old }
-    ensures { Put text.old at (decimal value) result text.new }
-{
-    if value < 10 {
-        text[at] = 48 + value as u8;
-        return at + 1;
-    }
-    let last = put_decimal(text, at, value / 10);
-    text[last] = 48 + (value % 10) as u8;
-    last + 1
-}
-
 // The number in decimal and the byte that ends it, at an offset, and the offset after them.
 fn put_field(text: &mut [u8], at: usize, value: u32, end: u8) -> usize
     requires { at + length (field value end) ≤ length text.old }
     ensures { Put text.old at (field value end) result text.new }
 {
-    let after = put_decimal(text, at, value);
+    let mut buffer = itoa::Buffer::new();
+    let digits = buffer.format(value).as_bytes();
+    let after = at + digits.len();
+    text[at..after].copy_from_slice(digits);
     text[after] = end;
     after + 1
 }
@@ -51,27 +40,12 @@ pub fn slot_lines(res: &[u8], slots: usize, text: &mut [u8]) -> usize
     ensures { Written text.old (result_lines res.now slots) result text.new }
 {
     let mut at = 0;
-    let mut k: usize = 0;
-    while k < slots {
-        let bidder = basis::wide(res[5 * k]);
+    for k in 0..slots {
+        let bidder = u32::from(res[5 * k]);
         let price = basis::word32(res, 5 * k + 1);
         at = put_line(text, at, (k + 1) as u32, bidder, price);
-        k += 1;
     }
     at
-}
-
-// The bytes at an offset, and the offset after them.
-fn put_bytes(text: &mut [u8], at: usize, bytes: &[u8]) -> usize
-    requires { at + length bytes.now ≤ length text.old }
-    ensures { Put text.old at bytes.now result text.new }
-{
-    let mut k = 0;
-    while k < bytes.len() {
-        text[at + k] = bytes[k];
-        k += 1;
-    }
-    at + k
 }
 
 // The line of a refused sheet at the front of the buffer, and how many bytes it is.
@@ -79,6 +53,6 @@ pub fn refused_line(number: u32, text: &mut [u8]) -> usize
     requires { 19 ≤ length text.old }
     ensures { Written text.old (refused_line number) result text.new }
 {
-    let after = put_bytes(text, 0, b"refused ");
-    put_field(text, after, number, b'\n')
+    text[..8].copy_from_slice(b"refused ");
+    put_field(text, 8, number, b'\n')
 }

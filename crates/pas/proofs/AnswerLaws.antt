@@ -1,37 +1,33 @@
 -- A call's answer is handed on through lent memory: its number says whether that is written. Assumes nothing.
 use Prim.Native.Nat.{ℕ, zero, suc}
-use mathlib.Core.Bool.{false}
+use mathlib.Core.Bool.{Bool, false}
 use mathlib.Core.List.{List}
 use mathlib.Core.Path.{◌≡◌, refl, sym, ◌∙◌, ap}
 use lib.IntN.{ℤ}
 use lib.ListN.{length}
+use Rattle.std.specs.Prelude.{Result, Ok, Err}
+use Rattle.refusal.specs.declared.Refusal.{Refusal}
+use Rattle.refusal.specs.Numbers.{number_of, number_in}
 use Rattle.basis.specs.First.{unless_refused}
 use Rattle.basis.proofs.FirstLaws.{refused_leaves, answered-gives}
 use Rattle.sheet.specs.declared.Round.{Round}
 use Rattle.sheet.specs.Refusal.{refusal_of}
 use Rattle.sheet.specs.Round.{round_of, with_floors}
 use Rattle.downward.specs.Downward.{downward}
-use Rattle.downward.specs.Call.{test_refusal, tested_for, tested_of}
-use Rattle.downward.specs.declared.Tested.{Tested}
+use Rattle.downward.specs.Call.{Tested, test_refusal, tested_for, tested_of}
 use Rattle.gain.specs.Gain.{gain_of}
-use Rattle.gain.specs.Call.{gain_refusal, gain_floors_refusal, gained_for, gained_of, gained_floors_of}
-use Rattle.gain.specs.declared.Gained.{Gained}
+use Rattle.gain.specs.Call.{Gained, gain_refusal, gain_floors_refusal, gained_for, gained_of, gained_floors_of}
 use Rattle.auction.specs.Allowed.{total}
 use Rattle.best_page.specs.BestPage.{best_page_of}
-use Rattle.best_search.specs.Call.{best_refusal, best_floors_refusal, chosen_for, BestGiven, BestFloorsGiven}
-use Rattle.best_search.specs.declared.Chosen.{Chosen}
-use Rattle.owner_part.specs.OwnerPart.{part_refusal, bytes_before, part_length, bounds_for, bounds_of}
-use Rattle.owner_part.specs.declared.Bounds.{Bounds}
+use Rattle.best_search.specs.Call.{Chosen, best_refusal, best_floors_refusal, chosen_for, BestGiven, BestFloorsGiven}
+use Rattle.owner_part.specs.OwnerPart.{Bounds, part_refusal, bytes_before, part_length, bounds_for, bounds_of}
 use Rattle.owner_part.proofs.CallLaws.{given-bounds}
-use Rattle.canonical.specs.Canonical.{canonical_sheet, canonical_refusal, CanonicalWritten}
-use Rattle.canonical.specs.declared.Rewritten.{Rewritten}
-use Rattle.slot_terms.specs.SlotTerms.{slot_terms_of, slot_terms_refusal, SlotTermsWritten}
-use Rattle.slot_terms.specs.declared.Written.{Written}
+use Rattle.canonical.specs.Canonical.{Rewritten, canonical_sheet, canonical_refusal, CanonicalWritten}
+use Rattle.slot_terms.specs.SlotTerms.{Written, slot_terms_of, slot_terms_refusal, SlotTermsWritten}
 use Rattle.above_terms.specs.AboveTerms.{above_terms_of, above_terms_refusal, AboveTermsWritten}
-use Rattle.share_page.specs.SharePage.{can_share, share_refusal, PageShared}
-use Rattle.share_page.specs.declared.Shared.{Shared}
-use Rattle.loss_bound.specs.LossBound.{loss_factor, LossBounded}
-use Rattle.loss_bound.specs.declared.Loss.{Loss}
+use Rattle.share_page.specs.SharePage.{Shared, can_share, share_refusal, PageShared}
+use Rattle.loss_bound.specs.LossBound.{Loss, loss_factor, LossBounded}
+use Rattle.pas.specs.EngineTold.{answer_in, yes_in}
 use Rattle.pas.specs.Calls.{
   yes_number,
   DownwardGiven,
@@ -46,6 +42,17 @@ use Rattle.pas.specs.Calls.{
   SharePageGiven,
   LossBoundGiven,
 }
+
+-- what `tell` makes of a result, by its two cases
+pub told : {A : Type 0} (r : Result A Refusal) (before : A) (P : ℕ → A → Type 0) → ((v : A) → r ≡ Ok v → P 0 v) → ((e : Refusal) → r ≡ Err e → P (number_of e) before) → P (number_in r) (answer_in r before)
+told (Ok v) before P ok err = ok v refl
+told (Err e) before P ok err = err e refl
+
+-- and of a yes or no
+pub told_yes : (r : Result Bool Refusal) (before : ℕ) (P : ℕ → ℕ → Type 0) → ((v : Bool) → r ≡ Ok v → P 0 (yes_number v)) → ((e : Refusal) → r ≡ Err e → P (number_of e) before) →
+    P (number_in (yes_in r)) (answer_in (yes_in r) before)
+told_yes (Ok v) before P ok err = ok v refl
+told_yes (Err e) before P ok err = err e refl
 
 -- an answered call's memory holds what is written there
 answered : {A : Type 0} (k n : ℕ) (answer before written : A) → n ≡ k → n ≡ 0 → (k ≡ 0 → written ≡ answer) → written ≡ unless_refused k answer before

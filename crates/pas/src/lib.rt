@@ -5,60 +5,65 @@
 #![tactic(auto)]
 
 ghost use Rattle.std.specs.Prelude.{◌≡◌};
+ghost use Rattle.refusal.specs.Numbers.{number_in};
 ghost use Rattle.sheet.specs.Refusal.{refusal_of};
 ghost use Rattle.play.specs.Play.{Played, PlayedFloors};
-ghost use Rattle.pas.specs.Calls.{DownwardGiven, GainGiven, GainFloorsGiven, BestPageGiven, BestFloorsPageGiven, PartGiven, CanonicalGiven, SlotTermsGiven, AboveTermsGiven, SharePageGiven, LossBoundGiven, yes_number};
+ghost use Rattle.pas.specs.Calls.{DownwardGiven, GainGiven, GainFloorsGiven, BestPageGiven, BestFloorsPageGiven, PartGiven, CanonicalGiven, SlotTermsGiven, AboveTermsGiven, SharePageGiven, LossBoundGiven};
+ghost use Rattle.pas.specs.EngineTold.{answer_in, yes_in};
+
+use refusal::Refusal;
 
 // 1 to 13 or 26 to 28, or 0 for an accepted sheet.
 pub fn pas_check(sheet: &[u8]) -> u32
     ensures { result ≡ refusal_of sheet.now }
 {
-    sheet_check::check(sheet)
+    refusal::number_in(sheet_check::check(sheet))
 }
 
 // The check's numbers or 19; or 0, with 5 bytes a slot in the buffer, the bidder and the price low byte first, and every later byte as it was.
 pub fn pas_play(sheet: &[u8], res: &mut [u8]) -> u32
     ensures { Played sheet.now res.old result res.new }
 {
-    play::play(sheet, res)
+    refusal::number_in(play::play(sheet, res))
 }
 
-// 1 for yes, 0 for no.
-fn yes_number(yes: bool) -> u8
-    ensures { result ≡ yes_number yes }
+// What C is told of a call: 0, with the answer in the caller's memory; or the number of the rule that the call breaks, with that memory as it was.
+fn tell<T: Copy>(given: Result<T, Refusal>, answer: &mut T) -> u32
+    ensures told { result ≡ number_in given }
+    ensures written { answer.new ≡ answer_in given answer.old }
 {
-    if yes {
-        return 1;
+    match given {
+        Ok(value) => {
+            *answer = value;
+            0
+        }
+        Err(refusal) => refusal.number(),
     }
-    0
+}
+
+// An answer of yes or no as C is told it: 1 or 0.
+#[tactic(auto, unfolding(crate::specs::Calls::yes_number))]
+fn in_number(given: Result<bool, Refusal>) -> Result<u8, Refusal>
+    ensures { result ≡ yes_in given }
+{
+    match given {
+        Ok(yes) => Ok(u8::from(yes)),
+        Err(refusal) => Err(refusal),
+    }
 }
 
 // The check's numbers or 16; or 0, with 1 in the answer where the bidder's list is downward monotonic and 0 where it is not.
 pub fn pas_downward(sheet: &[u8], bidder: u32, answer: &mut u8) -> u32
     ensures { DownwardGiven sheet.now bidder answer.old result answer.new }
 {
-    let tested = downward::test(sheet, bidder);
-    let refusal = tested.refusal;
-    if refusal != 0 {
-        return refusal;
-    }
-    let yes = tested.yes;
-    *answer = yes_number(yes);
-    0
+    tell(in_number(downward::test(sheet, bidder)), answer)
 }
 
 // The check's numbers or 14 to 17; or 0, with the bidder's gain from the played sheet at a worth per click, by its constraints in the truth sheet.
 pub fn pas_gain(played: &[u8], truth: &[u8], bidder: u32, worth: u32, gain: &mut i64) -> u32
     ensures { GainGiven played.now truth.now bidder worth gain.old result gain.new }
 {
-    let gained = gain::gain(played, truth, bidder, worth);
-    let refusal = gained.refusal;
-    if refusal != 0 {
-        return refusal;
-    }
-    let worked_out = gained.gain;
-    *gain = worked_out;
-    0
+    tell(gain::gain(played, truth, bidder, worth), gain)
 }
 
 // The check's numbers, 18 or 19; or 0, with the best page's bidder numbers in the buffer, one byte a slot, every later byte as it was, and the
@@ -66,34 +71,28 @@ pub fn pas_gain(played: &[u8], truth: &[u8], bidder: u32, worth: u32, gain: &mut
 pub fn pas_best(sheet: &[u8], res: &mut [u8], total: &mut u64) -> u32
     ensures { BestPageGiven sheet.now res.old total.old result res.new total.new }
 {
-    let chosen = best_search::best(sheet, res);
-    let refusal = chosen.refusal;
-    if refusal != 0 {
-        return refusal;
-    }
-    *total = chosen.total;
-    0
+    tell(best_search::best(sheet, res), total)
 }
 
 // The check's numbers, 29 or 16; or 0, with how many bytes of the sheet stand before the part with the bidder's constraints, and how many it has.
 pub fn pas_owner_part(sheet: &[u8], bidder: u32, start: &mut usize, length: &mut usize) -> u32
     ensures { PartGiven sheet.now bidder start.old length.old result start.new length.new }
 {
-    let found = owner_part::part_bounds(sheet, bidder);
-    let refusal = found.refusal;
-    if refusal != 0 {
-        return refusal;
+    match owner_part::part_bounds(sheet, bidder) {
+        Ok(part) => {
+            *start = part.start;
+            *length = part.length;
+            0
+        }
+        Err(refusal) => refusal.number(),
     }
-    *start = found.start;
-    *length = found.length;
-    0
 }
 
 // As `pas_play`, with a floor under each slot: the check's numbers, 30, 31 or 19; or 0, with the page and the prices in the buffer.
 pub fn pas_play_floors(sheet: &[u8], floors: &[u32], res: &mut [u8]) -> u32
     ensures { PlayedFloors floors.now sheet.now res.old result res.new }
 {
-    play::play_floors(sheet, floors, res)
+    refusal::number_in(play::play_floors(sheet, floors, res))
 }
 
 // As `pas_gain`, with a floor under each slot of the played sheet: the check's numbers, 30, 31 or 14 to 17; or 0, with the gain.
@@ -107,27 +106,17 @@ pub fn pas_gain_floors(
 ) -> u32
     ensures { GainFloorsGiven floors.now played.now truth.now bidder worth gain.old result gain.new }
 {
-    let gained = gain::gain_floors(played, floors, truth, bidder, worth);
-    let refusal = gained.refusal;
-    if refusal != 0 {
-        return refusal;
-    }
-    let worked_out = gained.gain;
-    *gain = worked_out;
-    0
+    tell(
+        gain::gain_floors(played, floors, truth, bidder, worth),
+        gain,
+    )
 }
 
 // As `pas_best`, with a floor under each slot: the check's numbers, 30, 31, 18 or 19; or 0, with the best page and its total.
 pub fn pas_best_floors(sheet: &[u8], floors: &[u32], res: &mut [u8], total: &mut u64) -> u32
     ensures { BestFloorsPageGiven floors.now sheet.now res.old total.old result res.new total.new }
 {
-    let chosen = best_search::best_floors(sheet, floors, res);
-    let refusal = chosen.refusal;
-    if refusal != 0 {
-        return refusal;
-    }
-    *total = chosen.total;
-    0
+    tell(best_search::best_floors(sheet, floors, res), total)
 }
 
 // The check's numbers or 19; or 0, with the one sheet for the round at the front of the buffer, version 2 with the constraints in order and each once,
@@ -135,13 +124,7 @@ pub fn pas_best_floors(sheet: &[u8], floors: &[u32], res: &mut [u8], total: &mut
 pub fn pas_canonical(sheet: &[u8], res: &mut [u8], written: &mut usize) -> u32
     ensures { CanonicalGiven sheet.now res.old written.old result res.new written.new }
 {
-    let given = canonical::write(sheet, res);
-    let refusal = given.refusal;
-    if refusal != 0 {
-        return refusal;
-    }
-    *written = given.length;
-    0
+    tell(canonical::write(sheet, res), written)
 }
 
 // 4, 5, 16, 20 to 22 or 19; or 0, with the owner's constraints by its limit and the bars at the front of the buffer, four bytes each in rising order, every
@@ -157,13 +140,7 @@ pub fn pas_slot_terms(
 ) -> u32
     ensures { SlotTermsGiven n m owner limit bars.now res.old count.old result res.new count.new }
 {
-    let given = slot_terms::write(n, m, owner, limit, bars, res);
-    let refusal = given.refusal;
-    if refusal != 0 {
-        return refusal;
-    }
-    *count = given.count;
-    0
+    tell(slot_terms::write(n, m, owner, limit, bars, res), count)
 }
 
 // 4, 5, 16, 23 to 25 or 19; or 0, with the owner's constraints by its rivals at the front of the buffer, four bytes each in rising order, every later byte as
@@ -178,13 +155,7 @@ pub fn pas_above_terms(
 ) -> u32
     ensures { AboveTermsGiven n m owner rivals.now res.old count.old result res.new count.new }
 {
-    let given = above_terms::write(n, m, owner, rivals, res);
-    let refusal = given.refusal;
-    if refusal != 0 {
-        return refusal;
-    }
-    *count = given.count;
-    0
+    tell(above_terms::write(n, m, owner, rivals, res), count)
 }
 
 // 4, 5, 23, 24 or 19; or 0, with 1 in the answer where the members could share a page, each above every rival of its own among them, and then their first such
@@ -199,14 +170,10 @@ pub fn pas_share_page(
 ) -> u32
     ensures { SharePageGiven n m members.now sets.now res.old answer.old result res.new answer.new }
 {
-    let given = share_page::share(n, m, members, sets, res);
-    let refusal = given.refusal;
-    if refusal != 0 {
-        return refusal;
-    }
-    let shared = given.yes;
-    *answer = yes_number(shared);
-    0
+    tell(
+        in_number(share_page::share(n, m, members, sets, res)),
+        answer,
+    )
 }
 
 // The check's numbers; or 0, with the factor: d + 1 where all lists come from "above named rivals" and d is the largest number of bidders that name one same
@@ -214,11 +181,5 @@ pub fn pas_share_page(
 pub fn pas_loss_bound(sheet: &[u8], factor: &mut u32) -> u32
     ensures { LossBoundGiven sheet.now factor.old result factor.new }
 {
-    let given = loss_bound::bound(sheet);
-    let refusal = given.refusal;
-    if refusal != 0 {
-        return refusal;
-    }
-    *factor = given.factor;
-    0
+    tell(loss_bound::bound(sheet), factor)
 }

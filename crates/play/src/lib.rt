@@ -5,6 +5,7 @@ ghost use Rattle.std.specs.Prelude.{List, ◌++◌, ◌≡◌, ℕ, ◌*◌, ◌
 ghost use Rattle.basis.specs.Rows.{joined};
 ghost use Rattle.auction.specs.Page.{at};
 ghost use Rattle.basis.specs.First.{unless_refused};
+ghost use Rattle.refusal.specs.Numbers.{number_in};
 ghost use Rattle.sheet.specs.Refusal.{Accepted};
 ghost use Rattle.sheet.specs.Sheet.{slot_count, tick_field};
 ghost use Rattle.sheet.specs.Round.{round_of, with_floors};
@@ -13,46 +14,37 @@ ghost use Rattle.play.specs.Play.{room_refusal, played_buffer, Played, PlayedFlo
 ghost use Rattle.play.specs.EngineEntries.{entry_in};
 
 use greedy::Outcome;
+use refusal::Refusal;
 
-// An accepted sheet is played with floors that ask so much, where the buffer has room: 19, or 0.
-fn play_accepted(sheet: &[u8], asks: &[u32], res: &mut [u8]) -> u32
+// An accepted sheet is played with floors that ask so much, where the buffer has room; 19 where it has not.
+fn play_accepted(sheet: &[u8], asks: &[u32], res: &mut [u8]) -> Result<(), Refusal>
     requires { Accepted sheet.now × ((floors : List ℕ) × Asked (tick_field sheet.now) (slot_count sheet.now) floors asks.now) }
-    ensures { (floors : List ℕ) → Asked (tick_field sheet.now) (slot_count sheet.now) floors asks.now → (result ≡ room_refusal sheet.now res.old) × (res.new ≡ unless_refused (room_refusal sheet.now res.old) (played_buffer (with_floors (round_of sheet.now) floors) res.old) res.old) }
+    ensures { (floors : List ℕ) → Asked (tick_field sheet.now) (slot_count sheet.now) floors asks.now → (number_in result ≡ room_refusal sheet.now res.old) × (res.new ≡ unless_refused (room_refusal sheet.now res.old) (played_buffer (with_floors (round_of sheet.now) floors) res.old) res.old) }
 {
     let slots = sheet[6] as usize;
     if res.len() < 5 * slots {
-        return 19;
+        return Err(Refusal::ResultTooShort);
     }
     write_result(greedy::played(sheet, asks), slots, res);
-    0
+    Ok(())
 }
 
-// The number of the first rule that the call breaks, the check's or 19, with every byte of the buffer as it was; or 0, with 5 bytes a
-// slot in the buffer, the bidder and the price low byte first, and every later byte as it was.
-pub fn play(sheet: &[u8], res: &mut [u8]) -> u32
-    ensures { Played sheet.now res.old result res.new }
+// The page and the prices are in the buffer, 5 bytes a slot, the bidder and the price low byte first, and every later byte as it was; or the first rule
+// that the call breaks, one of the check's or 19, with every byte of the buffer as it was.
+pub fn play(sheet: &[u8], res: &mut [u8]) -> Result<(), Refusal>
+    ensures { Played sheet.now res.old (number_in result) res.new }
 {
-    let refusal = sheet_check::check(sheet);
-    if refusal != 0 {
-        return refusal;
-    }
-    let none = [0u32; 16];
-    play_accepted(sheet, &none, res)
+    sheet_check::check(sheet)?; // an accepted sheet from here on
+    play_accepted(sheet, &[0; 16], res)
 }
 
-// The same with a floor under each slot, and 30 and 31 after the check's numbers.
-pub fn play_floors(sheet: &[u8], floors: &[u32], res: &mut [u8]) -> u32
-    ensures { PlayedFloors floors.now sheet.now res.old result res.new }
+// The same with a floor under each slot, and 30 and 31 after the check's rules.
+pub fn play_floors(sheet: &[u8], floors: &[u32], res: &mut [u8]) -> Result<(), Refusal>
+    ensures { PlayedFloors floors.now sheet.now res.old (number_in result) res.new }
 {
-    let number = sheet_check::check(sheet);
-    if number != 0 {
-        return number;
-    }
+    sheet_check::check(sheet)?;
     let slots = sheet[6] as usize;
-    let wrong = floors::check_floors(floors, slots);
-    if wrong != 0 {
-        return wrong;
-    }
+    floors::check_floors(floors, slots)?;
     let asks = floors::asked(floors, slots, sheet::tick_of(sheet));
     play_accepted(sheet, &asks, res)
 }
@@ -63,13 +55,8 @@ fn write_result(outcome: Outcome, slots: usize, res: &mut [u8])
     requires bidders_len { (length outcome.page.bidders ≡ 16) × (length outcome.prices ≡ 16) × ((k : ℕ) → at outcome.page k < 256) }
     ensures { res.new ≡ joined (entry_in outcome) slots ++ drop (5 * slots) res.old }
 {
-    let page = outcome.page;
-    let prices = outcome.prices;
-    let mut k = 0;
-    while k < slots {
-        let winner = page.bidders[k];
-        res[5 * k] = winner.0 as u8;
-        basis::put_word32(res, 5 * k + 1, prices[k]);
-        k += 1;
+    for k in 0..slots {
+        res[5 * k] = outcome.page.bidders[k].0 as u8;
+        basis::put_word32(res, 5 * k + 1, outcome.prices[k]);
     }
 }

@@ -8,9 +8,8 @@ use mathlib.Core.Path.{◌≡◌, refl, sym, ◌∙◌, ap}
 use native.Mathlib.Omega.{arith}
 use lib.Dec.{leb}
 use lib.ListN.{length, get_or, drop}
-use lib.Seq.{sets}
 use Rattle.basis.proofs.FirstLaws.{refused_leaves, answered-gives}
-use Rattle.basis.proofs.RowLaws.{length-row, sets_front}
+use Rattle.basis.proofs.RowLaws.{length-row}
 use Rattle.basis.proofs.TestLaws.{and_holds}
 use Rattle.slot_terms.specs.SlotTerms.{size_refusal}
 use Rattle.bidder_sets.specs.BidderSets.{in_set, member_count, numbers_wrong, rivals_of}
@@ -30,7 +29,6 @@ use Rattle.share_page.specs.SharePage.{
   share_refusal,
   PageShared,
 }
-use Rattle.share_page.specs.declared.Shared.{Shared}
 use Rattle.share_page.specs.EngineShare.{in_table, turns, all_found_to}
 use Rattle.share_page.proofs.RefusalLaws.{size-first, members_wrong, sets_first, nineteen, answered}
 use Rattle.share_page.proofs.SharingLaws.{some_found, first_found}
@@ -40,41 +38,41 @@ module _ (n m : ℕ) (members rivals out : List ℕ) where
   abbrev number : ℕ
   number = share_refusal n m members rivals out
 
-  left : (returned : Shared) (k : ℕ) → returned ≡ record { refusal = k; yes = false } → k ≡ number → (k ≡ 0 → ⊥) → PageShared n m members rivals out returned out
-  left returned k e same h =
+  -- refused with a number, or a no
+  abbrev Left : ℕ → Type 0
+  Left k = PageShared n m members rivals out (record { refusal = k; yes = false }) out
+
+  left : (k : ℕ) → k ≡ number → (k ≡ 0 → ⊥) → Left k
+  left k same h =
       record {
-        number = ap (λ (t : Shared). t.refusal) e ∙ same;
-        answer = ap (λ (t : Shared). t.yes) e ∙ refused_leaves number k (can_share n m members rivals) false same h;
+        number = same;
+        answer = refused_leaves number k (can_share n m members rivals) false same h;
         buffer = refused_leaves number k (order_buffer n m members rivals out) out same h;
       }
 
-  pub size-refused : (returned : Shared) (k : ℕ) → returned ≡ record { refusal = k; yes = false } → k ≡ size_refusal n m → (k ≡ 0 → ⊥) →
-      PageShared n m members rivals out returned out
-  size-refused returned zero e same h = absurd (h refl)
-  size-refused returned (suc k) e same h = left returned (suc k) e (sym (size-first n m members rivals out k (sym same))) h
+  pub size-refused : (k : ℕ) → k ≡ size_refusal n m → (k ≡ 0 → ⊥) → Left k
+  size-refused zero same h = absurd (h refl)
+  size-refused (suc k) same h = left (suc k) (sym (size-first n m members rivals out k (sym same))) h
 
   module _ (fits : size_refusal n m ≡ 0) where
-    pub members-refused : (returned : Shared) → returned ≡ record { refusal = 23; yes = false } → numbers_wrong n members ≡ true →
-        PageShared n m members rivals out returned out
-    members-refused returned e wrong = left returned 23 e (sym (members_wrong n m members rivals out fits wrong)) (λ z. absurd (omega arith))
+    pub members-refused : numbers_wrong n members ≡ true → Left 23
+    members-refused wrong = left 23 (sym (members_wrong n m members rivals out fits wrong)) (λ z. absurd (omega arith))
 
     module _ (right : numbers_wrong n members ≡ false) where
-      pub sets-refused : (returned : Shared) (k : ℕ) → returned ≡ record { refusal = k; yes = false } → k ≡ sets_refusal n rivals → (k ≡ 0 → ⊥) →
-          PageShared n m members rivals out returned out
-      sets-refused returned zero e same h = absurd (h refl)
-      sets-refused returned (suc k) e same h = left returned (suc k) e (sym (sets_first n m members rivals out fits k right (sym same))) h
+      pub sets-refused : (k : ℕ) → k ≡ sets_refusal n rivals → (k ≡ 0 → ⊥) → Left k
+      sets-refused zero same h = absurd (h refl)
+      sets-refused (suc k) same h = left (suc k) (sym (sets_first n m members rivals out fits k right (sym same))) h
 
       module _ (lent : sets_refusal n rivals ≡ 0) where
-        pub no_answered : (returned : Shared) → returned ≡ record { refusal = 0; yes = false } → can_share n m members rivals ≡ false →
-            PageShared n m members rivals out returned out
+        pub no_answered : can_share n m members rivals ≡ false → Left 0
         unfolding order_written order_buffer
-        no_answered returned e cannot =
+        no_answered cannot =
             let nothing : order_written n m members rivals ≡ [] = ap (λ (t : Bool). cond t (first_of (puts_above (names rivals)) (member_orders n members)) []) cannot in
             let long = ap length nothing in
             let none : number ≡ 0 = answered n m members rivals out fits right lent (omega arith) in
             record {
-              number = ap (λ (t : Shared). t.refusal) e ∙ sym none;
-              answer = ap (λ (t : Shared). t.yes) e ∙ sym cannot ∙ answered-gives number (can_share n m members rivals) false none;
+              number = sym none;
+              answer = sym cannot ∙ answered-gives number (can_share n m members rivals) false none;
               buffer = sym (ap (λ (l : List ℕ). l ++ drop (length l) out) nothing) ∙ answered-gives number (order_buffer n m members rivals out) out none;
             }
 
@@ -83,13 +81,12 @@ module _ (n m : ℕ) (members rivals out : List ℕ) where
           unfolding order_written
           written = ap (λ (t : Bool). cond t (first_of (puts_above (names rivals)) (member_orders n members)) []) can ∙ sym first
 
-          pub buffer_short : (returned : Shared) → returned ≡ record { refusal = 19; yes = false } → length out < length order →
-              PageShared n m members rivals out returned out
-          buffer_short returned e less =
+          pub buffer_short : length out < length order → Left 19
+          buffer_short less =
               let long = ap length written in
-              left returned 19 e (sym (nineteen n m members rivals out fits right lent (omega arith))) (λ z. absurd (omega arith))
+              left 19 (sym (nineteen n m members rivals out fits right lent (omega arith))) (λ z. absurd (omega arith))
 
-          pub order_written_lem : (whole : List ℕ) → length order ≤ length out → whole ≡ sets out 0 order →
+          pub order_written_lem : (whole : List ℕ) → length order ≤ length out → whole ≡ order ++ drop (length order) out →
               PageShared n m members rivals out (record { refusal = 0; yes = true }) whole
           unfolding order_buffer
           order_written_lem whole room e =
@@ -100,7 +97,6 @@ module _ (n m : ℕ) (members rivals out : List ℕ) where
                 answer = sym can ∙ answered-gives number (can_share n m members rivals) false none;
                 buffer =
                     e
-                    ∙ sets_front order out room
                     ∙ sym (ap (λ (l : List ℕ). l ++ drop (length l) out) written)
                     ∙ answered-gives number (order_buffer n m members rivals out) out none;
               }

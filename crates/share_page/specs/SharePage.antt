@@ -1,13 +1,14 @@
 -- Request S-2, sharing: whether "a given set of bidders, with one rival set for each of the n bidders, could share a page. The reply is yes exactly when the set
 -- has at most m members and some order of them puts each above every rival of its own in the set; a yes writes the first such order in dictionary order, one
 -- byte a member, and no later byte. A no writes nothing."
-use Rattle.std.specs.Prelude.{ℕ, zero, suc, ◌<◌, Bool, true, false, cond, not, ◌&&◌, ◌||◌, List, [], ◌∷◌, ◌++◌, ◌⊎◌, ◌≡◌, eqb, ltb, leb, length, get_or, drop}
+use Rattle.std.specs.Prelude.{ℕ, zero, suc, ◌<◌, Bool, true, false, cond, not, ◌&&◌, ◌||◌, List, [], ◌∷◌, ◌++◌, ◌⊎◌, ◌≡◌, eqb, ltb, leb, length, get_or, drop, Result, Ok, Err}
 use Rattle.basis.specs.First.{◌when◌otherwise◌, or_else, unless_refused}
 use Rattle.basis.specs.Rows.{joined}
 use Rattle.basis.specs.Tests.{any_below, all_below}
+use Rattle.refusal.specs.Numbers.{number_of}
+use Rattle.refusal.specs.declared.Refusal.{Refusal}
 use Rattle.slot_terms.specs.SlotTerms.{size_refusal}
 use Rattle.bidder_sets.specs.BidderSets.{in_set, member_count, numbers_wrong, sets_end, rivals_of}
-use Rattle.share_page.specs.declared.Shared.{Shared}
 
 -- bidder b has x for a rival
 abbrev pub names : (sets : List ℕ) (b x : ℕ) → Bool
@@ -69,6 +70,15 @@ share_refusal n m members sets out =
     (23 when numbers_wrong n members otherwise
     (or_else (sets_refusal n sets)
     (19 when ltb (length out) (length (order_written n m members sets)) otherwise 0)))
+
+-- What the call answers: a refusal's number, or 0 and whether the set could share a page.
+pub record Shared : Type 0 where
+  pub refusal : ℕ
+  pub yes : Bool
+
+abbrev pub shared_in : Result Bool Refusal → Shared
+shared_in (Ok can) = record { refusal = 0; yes = can }
+shared_in (Err refusal) = record { refusal = number_of refusal; yes = false }
 
 -- All that the call returns and leaves: the first number that applies and no, or 0 and the answer; and each byte of the buffer.
 pub record PageShared (n m : ℕ) (members sets out : List ℕ) (returned : Shared) (out' : List ℕ) : Type 0 where

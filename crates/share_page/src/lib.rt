@@ -4,51 +4,39 @@
 // where there is none, there is no such order. Each rival set is read once, into one word.
 #![tactic(auto)]
 
-ghost use Rattle.std.specs.Prelude.{true, false, ◌≡◌, ℕ, suc, ◌<◌, ◌≤◌, length, get_or};
+ghost use Rattle.std.specs.Prelude.{true, ◌≡◌, ℕ, suc, ◌<◌, ◌≤◌, length, get_or, OnOk, MatchOption};
 ghost use Rattle.std.proofs.lemmas.List.Edits.{sets};
+ghost use Rattle.refusal.specs.Numbers.{number_in};
 ghost use Rattle.bidder_sets.specs.BidderSets.{in_set, rivals_of};
 ghost use Rattle.bidder_sets.specs.EngineSets.{in_word, Holds};
-ghost use Rattle.share_page.specs.SharePage.{sets_refusal, PageShared};
+ghost use Rattle.share_page.specs.SharePage.{sets_refusal, shared_in, PageShared};
 ghost use Rattle.share_page.specs.EngineShare.{in_table, rival_in, first_in, turns, all_found_to};
 
 use bidder_sets::Bidders;
+use refusal::Refusal;
 use sheet::Bidder;
 
-// What the call answers: a refusal's number, or 0 and whether the set could share a page.
-#[derive(Clone, Copy)]
-pub struct Shared {
-    pub refusal: u32,
-    pub yes: bool,
-}
-
-// 23 or 24; or 0, with the rival set of each bidder in a word of the table.
-fn read_sets(table: &mut [u64; 64], sets: &[u8], n: u32) -> u32
-    requires { (n ≤ 64) × (length table.old ≡ 64) }
-    ensures { (result ≡ sets_refusal n sets.now) × (result ≡ 0 → (i : ℕ) → i < n → Holds (get_or table.new i 0) (in_set (rivals_of sets.now (suc i)))) }
+// The first of 23 and 24 that the rival sets break: where they break none, the rival set of each bidder is in a word of the table.
+fn read_sets(table: &mut [u64; 64], sets: &[u8], n: u32) -> Result<(), Refusal>
+    requires { n ≤ 64 }
+    ensures number { number_in result ≡ sets_refusal n sets.now }
+    ensures tabled { OnOk result ((i : ℕ) → i < n → Holds (get_or table.new i 0) (in_set (rivals_of sets.now (suc i)))) }
 {
     let mut own = false;
-    let mut at: usize = 0;
-    let mut bidder: u32 = 1;
-    while bidder <= n {
-        let lent = bidder_sets::read_at(sets, at, n);
-        let wrong = lent.wrong;
-        if wrong {
-            return 23;
-        }
-        let set = lent.bidders;
-        let itself = bidder_sets::has(set, Bidder(bidder as u16));
-        own = own | itself;
-        table[bidder as usize - 1] = set.0;
+    let mut at = 0;
+    for i in 0..n as usize {
+        let lent = bidder_sets::read_at(sets, at, n).ok_or(Refusal::WrongSet)?;
+        own |= bidder_sets::has(lent.bidders, Bidder(i as u16 + 1));
+        table[i] = lent.bidders.0;
         at = lent.end;
-        bidder += 1;
     }
     if at != sets.len() {
-        return 23;
+        return Err(Refusal::WrongSet);
     }
     if own {
-        return 24;
+        return Err(Refusal::RivalIsOwner);
     }
-    0
+    Ok(())
 }
 
 // Whom those of the members that are left name.
@@ -57,117 +45,71 @@ fn rivals_of(table: &[u64; 64], members: &[u8], left: Bidders) -> Bidders
     ensures { (x : ℕ) → in_word result.0 x ≡ rival_in (in_table table.now) members.now (in_word left.0) x }
 {
     let mut rivals = Bidders(0);
-    let mut k: usize = 0;
-    while k < members.len() {
-        let member = Bidder(members[k] as u16);
+    for member in members {
+        let member = Bidder(u16::from(*member));
         if bidder_sets::has(left, member) {
             let set = Bidders(table[member.0 as usize - 1]);
             rivals = bidder_sets::either(rivals, set);
         }
-        k += 1;
     }
     rivals
 }
 
-// The first of the members that is in a set, and 0 where none is.
-fn first_in(members: &[u8], set: Bidders) -> u8
+// The first of the members that is in a set.
+fn first_in(members: &[u8], set: Bidders) -> Option<u8>
     requires { (k : ℕ) → k < length members.now → (0 < get_or members.now k 0) × (get_or members.now k 0 ≤ 64) }
-    ensures { result ≡ first_in members.now (in_word set.0) }
+    ensures { MatchOption result (first_in members.now (in_word set.0) ≡ 0) (λ first. (first ≡ first_in members.now (in_word set.0)) × (0 < first) × (first ≤ 64)) }
 {
-    let mut first: u8 = 0;
-    let mut k: usize = 0;
-    while k < members.len() {
-        let member = members[k];
-        if bidder_sets::has(set, Bidder(member as u16)) {
-            if first == 0 {
-                first = member;
-            }
+    for &member in members {
+        if bidder_sets::has(set, Bidder(u16::from(member))) {
+            return Some(member);
         }
-        k += 1;
     }
-    first
+    None
 }
 
 // The members, lent in rising order, are put into an order: whether there is one for each turn.
 fn put_in_order(order: &mut [u8; 64], table: &[u64; 64], members: &[u8], set: Bidders) -> bool
-    requires { (length members.now ≤ 64) × ((k : ℕ) → k < length members.now → (0 < get_or members.now k 0) × (get_or members.now k 0 ≤ 64)) }
-    ensures { (result ≡ all_found_to (in_table table.now) members.now (in_word set.0) (length members.now)) × (result ≡ true → order.new ≡ sets order.old 0 (turns (in_table table.now) members.now (in_word set.0) (length members.now))) }
+    requires few { length members.now ≤ 64 }
+    requires bidders { (k : ℕ) → k < length members.now → (0 < get_or members.now k 0) × (get_or members.now k 0 ≤ 64) }
+    ensures all { result ≡ all_found_to (in_table table.now) members.now (in_word set.0) (length members.now) }
+    ensures put { result ≡ true → order.new ≡ sets order.old 0 (turns (in_table table.now) members.now (in_word set.0) (length members.now)) }
 {
     let mut left = set;
-    let mut k: usize = 0;
-    while k < members.len() {
+    for k in 0..members.len() {
         let rivals = rivals_of(table, members, left);
         let free = bidder_sets::but(left, rivals);
-        let next = first_in(members, free);
-        if next == 0 {
+        let Some(next) = first_in(members, free) else {
             return false;
-        }
+        };
         order[k] = next;
-        left = bidder_sets::without(left, Bidder(next as u16));
-        k += 1;
+        left = bidder_sets::without(left, Bidder(u16::from(next)));
     }
     true
 }
 
-// Bytes are written at the front of a buffer.
-fn put_bytes(res: &mut [u8], bytes: &[u8])
-    requires { length bytes.now ≤ length res.old }
-    ensures { res.new ≡ sets res.old 0 bytes.now }
+// Whether the set could share a page, or the first rule that the call breaks, of 4, 5, 23, 24 and 19. A yes has the first order of the members, one byte
+// each, at the front of the buffer, and every later byte as it was; a no and a refusal leave every byte as it was.
+pub fn share(n: u32, m: u32, members: &[u8], sets: &[u8], res: &mut [u8]) -> Result<bool, Refusal>
+    ensures { PageShared n m members.now sets.now res.old (shared_in result) res.new }
 {
-    let mut k: usize = 0;
-    while k < bytes.len() {
-        res[k] = bytes[k];
-        k += 1;
-    }
-}
-
-// The number of the first rule that the call breaks, 4, 5, 23, 24 or 19, or 0 and the answer. A yes has the first order of the members, one byte each, at the
-// front of the buffer, and every later byte as it was; a no and a refusal leave every byte as it was.
-pub fn share(n: u32, m: u32, members: &[u8], sets: &[u8], res: &mut [u8]) -> Shared
-    ensures { PageShared n m members.now sets.now res.old result res.new }
-{
-    let size = slot_terms::size_refusal(n, m);
-    if size != 0 {
-        return refused(size);
-    }
-    let group = bidder_sets::read(members, n);
-    let wrong = group.wrong;
-    if wrong {
-        return refused(23);
-    }
+    slot_terms::check_size(n, m)?;
+    let set = bidder_sets::read(members, n).ok_or(Refusal::WrongSet)?;
     let mut table = [0u64; 64];
-    let unread = read_sets(&mut table, sets, n);
-    if unread != 0 {
-        return refused(unread);
-    }
-    let set = group.bidders;
+    read_sets(&mut table, sets, n)?;
     let mut space = [0u8; 64];
     let count = bidder_sets::list(set, n, &mut space);
     let rising = &space[..count];
     if m < count as u32 {
-        return refused(0);
+        return Ok(false);
     }
     let mut order = [0u8; 64];
-    let all = put_in_order(&mut order, &table, rising, set);
-    if !all {
-        return refused(0);
+    if !put_in_order(&mut order, &table, rising, set) {
+        return Ok(false);
     }
     if res.len() < count {
-        return refused(19);
+        return Err(Refusal::ResultTooShort);
     }
-    put_bytes(res, &order[..count]);
-    Shared {
-        refusal: 0,
-        yes: true,
-    }
-}
-
-// A refusal's number alone; 0 is a no.
-fn refused(number: u32) -> Shared
-    ensures { result ≡ record { refusal = number; yes = false } }
-{
-    Shared {
-        refusal: number,
-        yes: false,
-    }
+    res[..count].copy_from_slice(&order[..count]);
+    Ok(true)
 }

@@ -16,15 +16,15 @@ pub const MAX_CONSTRAINTS: usize = 1024;
 
 // A bidder's number, counted from 1; 0 is nobody. It has 16 bits, so that a constraint is 8 bytes in memory and each of its parts stands at the
 // same bytes in every kind: the reader stores two at once.
-#[derive(Clone, Copy)]
+#[derive(Clone, Copy, Debug, PartialEq, Eq, PartialOrd, Ord)]
 pub struct Bidder(pub u16);
 
 // A slot of the page ("place" in document 01), counted from 1.
-#[derive(Clone, Copy)]
+#[derive(Clone, Copy, Debug, PartialEq, Eq, PartialOrd, Ord)]
 pub struct Slot(pub u8);
 
 // What a constraint forbids its owner: a slot of its own, another bidder at a slot, or the two together.
-#[derive(Clone, Copy)]
+#[derive(Clone, Copy, Debug, PartialEq, Eq)]
 pub enum Kind {
     // "own place only"
     OwnSlot(Slot),
@@ -35,7 +35,7 @@ pub enum Kind {
 }
 
 // A constraint ("condition" in document 01) with its owner.
-#[derive(Clone, Copy)]
+#[derive(Clone, Copy, Debug, PartialEq, Eq)]
 pub struct Constraint {
     pub owner: Bidder,
     pub kind: Kind,
@@ -57,7 +57,7 @@ pub struct Round {
 }
 
 // The page: for each slot its bidder, or nobody.
-#[derive(Clone, Copy)]
+#[derive(Clone, Copy, Debug, PartialEq, Eq)]
 pub struct Page {
     pub bidders: [Bidder; 16],
 }

@@ -2,6 +2,7 @@
 #![tactic(auto)]
 
 ghost use Rattle.std.specs.Prelude.{◌≡◌, suc, ◌+◌, ◌*◌, ◌<◌, ◌≤◌, length};
+ghost use Rattle.basis.specs.Bytes.{word32_at};
 ghost use Rattle.basis.specs.Rows.{padded};
 ghost use Rattle.sheet.specs.Sheet.{slot_count, constraint_count, effects_start, bids_start, constraints_start, effect_field, bid_field};
 ghost use Rattle.sheet.specs.Refusal.{Accepted};
@@ -25,34 +26,16 @@ fn kind_of(own: u8, other: u8, others: u8) -> Kind
     kind
 }
 
-// The effects, with 0 after them.
-fn read_effects(sheet: &[u8], start: usize, slots: usize) -> [u32; 16]
-    requires slots_bound { (slots ≤ 16) × (start + 4 * slots ≤ length sheet.now) }
-    requires start_value { start ≡ effects_start sheet.now }
-    ensures { result ≡ padded (λ k. effect_field sheet.now (suc k)) slots 16 0 }
+// So many numbers of four bytes from an offset on, with 0 after them.
+fn read_words<const N: usize>(sheet: &[u8], start: usize, count: usize) -> [u32; N]
+    requires { (count ≤ N) × (start + 4 * count ≤ length sheet.now) }
+    ensures { result ≡ padded (λ k. word32_at sheet.now (start + 4 * k)) count N 0 }
 {
-    let mut effects = [0u32; 16];
-    let mut k = 0;
-    while k < slots {
-        effects[k] = word32(sheet, start + 4 * k);
-        k += 1;
+    let mut words = [0u32; N];
+    for k in 0..count {
+        words[k] = word32(sheet, start + 4 * k);
     }
-    effects
-}
-
-// The bids, with 0 after them.
-fn read_bids(sheet: &[u8], start: usize, bidders: usize) -> [u32; 64]
-    requires bidders_bound { (bidders ≤ 64) × (start + 4 * bidders ≤ length sheet.now) }
-    requires start_value { start ≡ bids_start sheet.now }
-    ensures { result ≡ padded (λ i. bid_field sheet.now (suc i)) bidders 64 0 }
-{
-    let mut bids = [0u32; 64];
-    let mut i = 0;
-    while i < bidders {
-        bids[i] = word32(sheet, start + 4 * i);
-        i += 1;
-    }
-    bids
+    words
 }
 
 // The blank constraint, which fills what a sheet leaves. It is read from bytes that are 0, so that all its bytes are 0, those that its
@@ -114,7 +97,7 @@ pub fn accepted_effects(sheet: &[u8]) -> [u32; 16]
     requires { Accepted sheet.now }
     ensures { result ≡ (round_of sheet.now).effects }
 {
-    read_effects(sheet, effects_start(sheet), sheet[6] as usize)
+    read_words(sheet, effects_start(sheet), sheet[6] as usize)
 }
 
 // The bids of an accepted sheet's round.
@@ -123,7 +106,7 @@ pub fn accepted_bids(sheet: &[u8]) -> [u32; 64]
     ensures { result ≡ (round_of sheet.now).bids }
 {
     let slots = sheet[6] as usize;
-    read_bids(sheet, effects_start(sheet) + 4 * slots, sheet[5] as usize)
+    read_words(sheet, effects_start(sheet) + 4 * slots, sheet[5] as usize)
 }
 
 // The round of an accepted sheet, for a call that has checked it. The array of blank constraints is filled where it stands, a constraint
@@ -139,8 +122,8 @@ pub fn accepted_round(sheet: &[u8]) -> Round
     let bids_start = start + 4 * slots;
     let constraints_start = bids_start + 4 * bidders;
     let tick = tick_of(sheet);
-    let effects = read_effects(sheet, start, slots);
-    let bids = read_bids(sheet, bids_start, bidders);
+    let effects = read_words(sheet, start, slots);
+    let bids = read_words(sheet, bids_start, bidders);
     let mut round = Round {
         bidders,
         slots,
@@ -152,19 +135,8 @@ pub fn accepted_round(sheet: &[u8]) -> Round
         bids,
         constraints: [blank_constraint(); 1024],
     };
-    let mut k = 0;
-    while k < used {
-        let word = word32(sheet, constraints_start + 4 * k);
-        let kind = kind_of(
-            (word / 256 % 256) as u8,
-            (word / 65536 % 256) as u8,
-            (word / 16777216) as u8,
-        );
-        round.constraints[k] = Constraint {
-            owner: Bidder((word % 256) as u16),
-            kind,
-        };
-        k += 1;
+    for k in 0..used {
+        round.constraints[k] = constraint_at(sheet, constraints_start, k);
     }
     round
 }

@@ -1,5 +1,5 @@
 -- The numbers of the call: which it gives, and what a call without one is known to be. Assumes nothing.
-use Prim.Native.Nat.{ℕ, zero, suc, ◌*◌, ◌<◌, ◌≤◌}
+use Prim.Native.Nat.{ℕ, zero, suc, ◌-◌, ◌*◌, ◌<◌, ◌≤◌}
 use borrow.Author.Tests.{eq-eqb, ne_eqb, eqb-true, lt-ltb, le-ltb, ltb-false, not-false}
 use mathlib.Core.Bool.{Bool, true, false, not, ◌||◌}
 use mathlib.Core.List.{List}
@@ -7,13 +7,19 @@ use mathlib.Core.Logic.{◌⊎◌, ⊎_elim}
 use mathlib.Core.Path.{◌≡◌, ◌∙◌, ap}
 use native.Mathlib.Omega.{arith}
 use lib.Dec.{eqb, ltb}
-use lib.ListN.{length}
+use lib.ListN.{length, get_or}
 use Rattle.basis.specs.First.{◌when◌otherwise◌, or_else}
 use Rattle.basis.specs.Tests.{any_below}
 use Rattle.basis.proofs.FirstLaws.{or_else-none, or_else_right, when_none}
 use Rattle.basis.proofs.NumberLaws.{outside, inside, from_inside}
 use Rattle.basis.proofs.TestLaws.{or_left, or_right, or_none, or_fails, not_holds, any_at, any_none, none_any}
 use Rattle.slot_terms.specs.SlotTerms.{bar_for, slot_terms_of, size_refusal, owner_refusal, profile_refusal, slot_terms_refusal, OwnerFits, TermsFit}
+
+-- the list has a bidder's bar at the index below its number
+pub bar_at : (bars : List ℕ) (i : ℕ) → 0 < i → bar_for bars i ≡ get_or bars (i - 1) 0
+unfolding bar_for
+bar_at bars zero some = absurd (omega arith)
+bar_at bars (suc i) some = ap (λ (n : ℕ). get_or bars n 0) (let e : i ≡ suc i - 1 = omega arith in e)
 
 -- 4 and 5
 module _ (n m : ℕ) where
@@ -131,6 +137,15 @@ module _ (n m owner limit : ℕ) (bars : List ℕ) where
       low : any_below (λ i. ltb m (bar_for bars (suc i))) n ≡ false → (j : ℕ) → 0 < j → j ≤ n → bar_for bars j ≤ m
       low none zero some l = absurd (omega arith)
       low none (suc i) some l = ltb-false m (bar_for bars (suc i)) (any_none (λ i. ltb m (bar_for bars (suc i))) n none i l)
+
+-- so each bar is at most 16
+pub fit_low : {n m owner limit : ℕ} {bars : List ℕ} → TermsFit n m owner limit bars → (i : ℕ) → i < length bars → get_or bars i 0 ≤ 16
+unfolding bar_for
+fit_low fit i l =
+    let slots = fit.owner_fits.most_slots in
+    let all = fit.as_many in
+    let here = fit.none_above (suc i) (omega arith) (omega arith) in
+    omega arith
 
 -- The call's numbers.
 module _ (n m owner limit : ℕ) (bars out : List ℕ) where

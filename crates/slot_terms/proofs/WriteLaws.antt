@@ -7,8 +7,10 @@ use mathlib.Core.Path.{◌≡◌, refl, sym, ◌∙◌, ap, ap₂}
 use native.Mathlib.Nat.{mod-eq_of_lt, eq-or-lt_of_le}
 use native.Mathlib.Numerals.{add-one}
 use native.Mathlib.Omega.{arith}
-use lib.ListN.{length, get_or, drop, length-append}
-use lib.Seq.{sets}
+use lib.ListN.{length, get_or, take, drop, length-append}
+use lib.Seq.{sets, take-length}
+use Rattle.std.specs.List.{sum}
+use Rattle.std.proofs.lemmas.List.Sums.{sum_by_more}
 use Rattle.basis.specs.Bytes.{bytes32}
 use Rattle.basis.specs.First.{unless_refused}
 use Rattle.basis.specs.Rows.{row, joined}
@@ -17,20 +19,7 @@ use Rattle.basis.proofs.FirstLaws.{refused_leaves, answered-gives}
 use Rattle.basis.proofs.RowLaws.{length-row, joined_same, sets_then, joined_stored, sets_front}
 use Rattle.sheet.specs.Encoded.{Condition, on, quads}
 use Rattle.sheet.proofs.EncodedLaws.{quad_bytes, quads-row, length-quads}
-use Rattle.slot_terms.specs.SlotTerms.{
-  bar_for,
-  barred,
-  beyond,
-  slot_terms_of,
-  owner_refusal,
-  profile_refusal,
-  slot_terms_refusal,
-  conditions_buffer,
-  SlotTermsWritten,
-  OwnerFits,
-  TermsFit,
-}
-use Rattle.slot_terms.specs.declared.Written.{Written}
+use Rattle.slot_terms.specs.SlotTerms.{bar_for, barred, beyond, slot_terms_of, owner_refusal, profile_refusal, slot_terms_refusal, conditions_buffer, SlotTermsWritten, OwnerFits, TermsFit}
 use Rattle.slot_terms.proofs.RefusalLaws.{owner-first, profile_first, nineteen, answered}
 use Rattle.slot_terms.specs.EngineTerms.{word_of, bars_to}
 
@@ -49,6 +38,19 @@ bars-within bars i (suc n) l =
 pub bars-next : (bars : List ℕ) (i : ℕ) → bars_to bars (suc i) ≡ bars_to bars i + get_or bars i 0
 unfolding bars_to bar_for
 bars-next bars i = refl
+
+-- all of them are the list's sum
+sum-bars-to : (bars : List ℕ) (n : ℕ) → n ≤ length bars → sum (take n bars) ≡ bars_to bars n
+unfolding bars_to
+sum-bars-to bars zero l = refl
+sum-bars-to bars (suc n) l =
+    ap (λ (k : ℕ). sum (take k bars)) (sym (add-one n))
+    ∙ sum_by_more (λ x. x) bars n 0 l
+    ∙ ap (λ (k : ℕ). k + get_or bars n 0) (sum-bars-to bars n (omega arith))
+    ∙ sym (bars-next bars n)
+
+pub sum-bars : (bars : List ℕ) → sum bars ≡ bars_to bars (length bars)
+sum-bars bars = ap sum (sym (take-length bars)) ∙ sum-bars-to bars (length bars) (omega arith)
 
 -- bars of at most 16 each
 pub bars-most : (bars : List ℕ) (n : ℕ) → ((i : ℕ) → i < n → get_or bars i 0 ≤ 16) → bars_to bars n ≤ 16 * n
@@ -152,15 +154,9 @@ barred-next owner bars out start at i e =
 
 -- What a call that writes conditions leaves: nothing where it is refused, and else the conditions.
 module _ (number : ℕ) (terms : List Condition) (out : List ℕ) where
-  pub refused_left : (returned : Written) (k : ℕ) → returned ≡ record { refusal = k; count = 0 } → k ≡ number → (k ≡ 0 → ⊥) →
-      (returned.refusal ≡ number)
-      × (returned.count ≡ unless_refused number (length terms) 0)
-      × (out ≡ unless_refused number (conditions_buffer terms out) out)
-  refused_left returned k e same h = (
-    ap (λ (t : Written). t.refusal) e ∙ same,
-    ap (λ (t : Written). t.count) e ∙ refused_leaves number k (length terms) 0 same h,
-    refused_leaves number k (conditions_buffer terms out) out same h,
-  )
+  pub refused_left : (k : ℕ) → k ≡ number → (k ≡ 0 → ⊥) →
+      (0 ≡ unless_refused number (length terms) 0) × (out ≡ unless_refused number (conditions_buffer terms out) out)
+  refused_left k same h = (refused_leaves number k (length terms) 0 same h, refused_leaves number k (conditions_buffer terms out) out same h)
 
   pub terms_left : number ≡ 0 → 4 * length terms ≤ length out → sets out 0 (quads terms) ≡ unless_refused number (conditions_buffer terms out) out
   unfolding conditions_buffer
@@ -178,31 +174,27 @@ module _ (n m owner limit : ℕ) (bars out : List ℕ) where
   abbrev terms : List Condition
   terms = slot_terms_of n m owner limit bars
 
-  left : (returned : Written) (k : ℕ) → returned ≡ record { refusal = k; count = 0 } → k ≡ number → (k ≡ 0 → ⊥) →
-      SlotTermsWritten n m owner limit bars out returned out
-  left returned k e same h =
-      let parts = refused_left number terms out returned k e same h in
-      record { number = parts.0; count = parts.1; buffer = parts.2 }
+  -- refused with a number
+  abbrev Left : ℕ → Type 0
+  Left k = SlotTermsWritten n m owner limit bars out (record { refusal = k; count = 0 }) out
 
-  pub owner-refused : (returned : Written) (k : ℕ) → returned ≡ record { refusal = k; count = 0 } → k ≡ owner_refusal n m owner → (k ≡ 0 → ⊥) →
-      SlotTermsWritten n m owner limit bars out returned out
-  owner-refused returned zero e same h = absurd (h refl)
-  owner-refused returned (suc k) e same h = left returned (suc k) e (sym (owner-first n m owner limit bars out k (sym same))) h
+  left : (k : ℕ) → k ≡ number → (k ≡ 0 → ⊥) → Left k
+  left k same h = let parts = refused_left number terms out k same h in record { number = same; count = parts.0; buffer = parts.1 }
 
-  pub profile_refused : OwnerFits n m owner → (returned : Written) (k : ℕ) → returned ≡ record { refusal = k; count = 0 } →
-      k ≡ profile_refusal n m owner limit bars → (k ≡ 0 → ⊥) → SlotTermsWritten n m owner limit bars out returned out
-  profile_refused fits returned zero e same h = absurd (h refl)
-  profile_refused fits returned (suc k) e same h = left returned (suc k) e (sym (profile_first n m owner limit bars out k fits (sym same))) h
+  pub owner-refused : (k : ℕ) → k ≡ owner_refusal n m owner → (k ≡ 0 → ⊥) → Left k
+  owner-refused zero same h = absurd (h refl)
+  owner-refused (suc k) same h = left (suc k) (sym (owner-first n m owner limit bars out k (sym same))) h
+
+  pub profile_refused : OwnerFits n m owner → (k : ℕ) → k ≡ profile_refusal n m owner limit bars → (k ≡ 0 → ⊥) → Left k
+  profile_refused fits zero same h = absurd (h refl)
+  profile_refused fits (suc k) same h = left (suc k) (sym (profile_first n m owner limit bars out k fits (sym same))) h
 
   module _ (fit : TermsFit n m owner limit bars) where
     many : bars_to bars (length bars) + (m - limit) ≡ length terms
     many = ap (λ (k : ℕ). bars_to bars k + (m - limit)) fit.as_many ∙ sym (terms-count n m owner limit bars)
 
-    pub buffer_short : (returned : Written) → returned ≡ record { refusal = 19; count = 0 } → length out < 4 * (bars_to bars (length bars) + (m - limit)) →
-        SlotTermsWritten n m owner limit bars out returned out
-    buffer_short returned e less =
-        let size = many in
-        left returned 19 e (sym (nineteen n m owner limit bars out fit (omega arith))) (λ z. absurd (omega arith))
+    pub buffer_short : length out < 4 * (bars_to bars (length bars) + (m - limit)) → Left 19
+    buffer_short less = let size = many in left 19 (sym (nineteen n m owner limit bars out fit (omega arith))) (λ z. absurd (omega arith))
 
     pub terms-written : (front whole : List ℕ) (at count word runs : ℕ) → count ≡ bars_to bars (length bars) + (m - limit) → 4 * count ≤ length out →
         at ≡ 4 * bars_to bars (length bars) → front ≡ sets out 0 (quads (all_barred owner bars (length bars))) →

@@ -1,11 +1,12 @@
 -- Request S-1, the source's slot-specific profile: "from n, m, an owner, its own limit and a bar for each bidder, write that owner's conditions in rising
 -- order of their four bytes and return how many; later bytes stay."
-use Rattle.std.specs.Prelude.{ℕ, zero, suc, ◌+◌, ◌-◌, ◌*◌, ◌<◌, ◌≤◌, not, ◌||◌, List, ◌++◌, ◌≡◌, eqb, ltb, length, get_or, drop}
+use Rattle.std.specs.Prelude.{ℕ, zero, suc, ◌+◌, ◌-◌, ◌*◌, ◌<◌, ◌≤◌, not, ◌||◌, List, ◌++◌, ◌≡◌, eqb, ltb, length, get_or, drop, Result, Ok, Err}
 use Rattle.basis.specs.First.{◌when◌otherwise◌, or_else, unless_refused}
 use Rattle.basis.specs.Rows.{row, joined}
 use Rattle.basis.specs.Tests.{any_below}
 use Rattle.sheet.specs.Encoded.{Condition, on, quads}
-use Rattle.slot_terms.specs.declared.Written.{Written}
+use Rattle.refusal.specs.Numbers.{number_of}
+use Rattle.refusal.specs.declared.Refusal.{Refusal}
 
 -- the bar for a bidder: the list has them from bidder 1's
 unfoldable pub bar_for : List ℕ → ℕ → ℕ
@@ -61,6 +62,15 @@ slot_terms_refusal n m owner limit bars out =
 -- the conditions in the buffer; "later bytes stay"
 unfoldable pub conditions_buffer : List Condition → List ℕ → List ℕ
 conditions_buffer qs out = quads qs ++ drop (4 * length qs) out
+
+-- What the call answers: a refusal's number, or 0 and how many conditions are written.
+pub record Written : Type 0 where
+  pub refusal : ℕ
+  pub count : ℕ
+
+abbrev pub written_in : Result ℕ Refusal → Written
+written_in (Ok count) = record { refusal = 0; count = count }
+written_in (Err refusal) = record { refusal = number_of refusal; count = 0 }
 
 -- All that the call returns and leaves: the first number that applies and no count, or 0 and how many conditions are written; and each byte of the buffer.
 pub record SlotTermsWritten (n m owner limit : ℕ) (bars out : List ℕ) (returned : Written) (out' : List ℕ) : Type 0 where

@@ -5,138 +5,86 @@
 // runs whose numbers differ by one step.
 #![tactic(auto)]
 
-ghost use Rattle.std.specs.Prelude.{not, ◌||◌, ◌≡◌, ℕ, suc, ◌+◌, ◌*◌, ◌<◌, ◌≤◌, eqb, ltb, length, get_or};
+ghost use Rattle.std.specs.Prelude.{not, ◌||◌, ◌≡◌, ℕ, suc, ◌+◌, ◌*◌, ◌<◌, ◌≤◌, eqb, ltb, length, get_or, OnOk};
 ghost use Rattle.std.proofs.lemmas.List.Edits.{sets};
 ghost use Rattle.basis.specs.Bytes.{bytes32};
 ghost use Rattle.basis.specs.Rows.{joined};
 ghost use Rattle.basis.specs.Tests.{any_below};
 ghost use Rattle.sheet.specs.Encoded.{quads};
-ghost use Rattle.slot_terms.specs.SlotTerms.{bar_for, barred, size_refusal, owner_refusal, profile_refusal, SlotTermsWritten};
+ghost use Rattle.refusal.specs.Numbers.{number_in};
+ghost use Rattle.slot_terms.specs.SlotTerms.{bar_for, barred, size_refusal, owner_refusal, profile_refusal, written_in, OwnerFits, TermsFit, SlotTermsWritten};
 ghost use Rattle.slot_terms.specs.EngineTerms.{word_of, bars_to};
 
+use refusal::Refusal;
 use sheet::{Bidder, Slot};
 
-// How far a constraint's number rises with its own slot, its other bidder and its other's slot.
-const OWN_STEP: u32 = 256;
+// How far a constraint's number rises with its own slot, and with its other's slot.
+const OWN_STEP: u32 = 1 << 8;
 
-const OTHER_STEP: u32 = 65536;
+pub const OTHERS_STEP: u32 = 1 << 24;
 
-pub const OTHERS_STEP: u32 = 16777216;
-
-// What the call answers: a refusal's number, or 0 and how many constraints are written.
-#[derive(Clone, Copy)]
-pub struct Written {
-    pub refusal: u32,
-    pub count: u32,
+// The first of 4 and 5 that numbers of bidders and slots break: none for those that a sheet can have.
+#[tactic(auto, unfolding(crate::specs::SlotTerms::size_refusal), using(std::proofs::lemmas::Bool::Decides::nat_tests))]
+pub fn check_size(n: u32, m: u32) -> Result<(), Refusal>
+    ensures number { number_in result ≡ size_refusal n m }
+    ensures fits { OnOk result ((0 < n) × (n ≤ 64) × (0 < m) × (m ≤ 16)) }
+{
+    if n == 0 || 64 < n {
+        return Err(Refusal::WrongBidders);
+    }
+    if m == 0 || 16 < m {
+        return Err(Refusal::WrongSlots);
+    }
+    Ok(())
 }
 
-// 4 or 5, or 0 for numbers of bidders and slots that a sheet can have.
-pub fn size_refusal(n: u32, m: u32) -> u32
-    ensures { result ≡ size_refusal n m }
+// The first of 4, 5 and 16: none for an owner that a sheet of n bidders and m slots can have.
+#[tactic(auto, unfolding(crate::specs::SlotTerms::owner_refusal), using(std::proofs::lemmas::Bool::Decides::nat_tests))]
+pub fn check_owner(n: u32, m: u32, owner: u32) -> Result<(), Refusal>
+    ensures number { number_in result ≡ owner_refusal n m owner }
+    ensures fits { OnOk result (OwnerFits n m owner) }
 {
-    if n == 0 {
-        return 4;
+    check_size(n, m)?;
+    if owner == 0 || n < owner {
+        return Err(Refusal::WrongBidder);
     }
-    if 64 < n {
-        return 4;
-    }
-    if m == 0 {
-        return 5;
-    }
-    if 16 < m {
-        return 5;
-    }
-    0
-}
-
-// 4, 5 or 16, or 0 for an owner that a sheet of n bidders and m slots can have.
-pub fn owner_refusal(n: u32, m: u32, owner: u32) -> u32
-    ensures { result ≡ owner_refusal n m owner }
-{
-    let size = size_refusal(n, m);
-    if size != 0 {
-        return size;
-    }
-    if owner == 0 {
-        return 16;
-    }
-    if n < owner {
-        return 16;
-    }
-    0
-}
-
-// Whether a bar is above m.
-fn some_above(bars: &[u8], m: u32) -> bool
-    ensures { result ≡ any_below (λ i. ltb m (bar_for bars.now (suc i))) (length bars.now) }
-{
-    let mut i: usize = 0;
-    while i < bars.len() {
-        if m < bars[i] as u32 {
-            return true;
-        }
-        i += 1;
-    }
-    false
+    Ok(())
 }
 
 // Whether the list of bars is not n long, or has a bar above m.
 fn bars_wrong(bars: &[u8], n: u32, m: u32) -> bool
     ensures { result ≡ (not (eqb (length bars.now) n) || any_below (λ i. ltb m (bar_for bars.now (suc i))) n) }
 {
-    if bars.len() != n as usize {
-        return true;
-    }
-    some_above(bars, m)
+    bars.len() != n as usize || bars.iter().any(|bar| m < u32::from(*bar))
 }
 
-// The bar for a bidder, 0 where the list has none for it.
-fn bar_for(bars: &[u8], bidder: u32) -> u8
-    ensures { result ≡ bar_for bars.now bidder }
+// The first of 20 to 22: none for a limit and bars that give constraints.
+#[tactic(auto, unfolding(crate::specs::SlotTerms::profile_refusal), using(std::proofs::lemmas::Bool::Decides::nat_tests, crate::proofs::RefusalLaws::bar_at))]
+fn check_profile(n: u32, m: u32, owner: u32, limit: u32, bars: &[u8]) -> Result<(), Refusal>
+    requires { OwnerFits n m owner }
+    ensures number { number_in result ≡ profile_refusal n m owner limit bars.now }
+    ensures fits { OnOk result (TermsFit n m owner limit bars.now) }
 {
-    if bidder == 0 {
-        return 0;
+    if limit == 0 || m < limit {
+        return Err(Refusal::WrongLimit);
     }
-    let at = bidder as usize - 1;
-    if at < bars.len() {
-        return bars[at];
+    if bars_wrong(bars, n, m) {
+        return Err(Refusal::WrongBars);
     }
-    0
-}
-
-// 20, 21 or 22, or 0 for a limit and bars that give constraints.
-fn profile_refusal(n: u32, m: u32, owner: u32, limit: u32, bars: &[u8]) -> u32
-    ensures { result ≡ profile_refusal n m owner limit bars.now }
-{
-    if limit == 0 {
-        return 20;
+    if bars[owner as usize - 1] != 0 {
+        return Err(Refusal::BarAgainstOwner);
     }
-    if m < limit {
-        return 20;
-    }
-    let wrong = bars_wrong(bars, n, m);
-    let own = bar_for(bars, owner);
-    if wrong {
-        return 21;
-    }
-    if own != 0 {
-        return 22;
-    }
-    0
+    Ok(())
 }
 
 // The bars together.
 fn sum_bars(bars: &[u8]) -> usize
-    requires { length bars.now ≤ 64 }
-    ensures { result ≡ bars_to bars.now (length bars.now) }
+    requires few { length bars.now ≤ 64 }
+    requires low { (i : ℕ) → i < length bars.now → get_or bars.now i 0 ≤ 16 }
+    ensures together { result ≡ bars_to bars.now (length bars.now) }
+    ensures most { result ≤ 1024 }
 {
-    let mut sum: usize = 0;
-    let mut i: usize = 0;
-    while i < bars.len() {
-        sum += bars[i] as usize;
-        i += 1;
-    }
-    sum
+    bars.iter().map(|bar| usize::from(*bar)).sum()
 }
 
 // A constraint as the number of its four bytes, low byte first: the owner is the lowest.
@@ -144,10 +92,7 @@ pub fn word_of(owner: Bidder, own: Slot, other: Bidder, others: Slot) -> u32
     requires { (owner.0 < 256) × (own.0 < 256) × (other.0 < 256) × (others.0 < 256) }
     ensures { result ≡ word_of owner.0 own.0 other.0 others.0 }
 {
-    owner.0 as u32
-        + OWN_STEP * own.0 as u32
-        + OTHER_STEP * other.0 as u32
-        + OTHERS_STEP * others.0 as u32
+    u32::from_le_bytes([owner.0 as u8, own.0, other.0 as u8, others.0])
 }
 
 // Numbers are written at an offset one after another, each a step above the one before it.
@@ -156,67 +101,54 @@ pub fn put_run(res: &mut [u8], at: usize, first: u32, step: u32, count: usize)
     ensures { res.new ≡ sets res.old at (joined (λ k. bytes32 (first + step * k)) count) }
 {
     let mut word = first;
-    let mut k: usize = 0;
-    while k < count {
+    for k in 0..count {
         basis::put_word32(res, at + 4 * k, word);
         word += step;
-        k += 1;
     }
 }
 
 // The constraints of all bars are written at an offset: for each bidder, by its number, those that keep it from slots 1 to its bar.
 fn put_all_barred(res: &mut [u8], start: usize, owner: Bidder, bars: &[u8])
-    requires { (length bars.now ≤ 64) × (owner.0 ≤ 64) × ((i : ℕ) → i < length bars.now → get_or bars.now i 0 ≤ 16) × (start + 4 * bars_to bars.now (length bars.now) ≤ length res.old) }
+    requires few { length bars.now ≤ 64 }
+    requires bidder { owner.0 ≤ 64 }
+    requires low { (i : ℕ) → i < length bars.now → get_or bars.now i 0 ≤ 16 }
+    requires room { start + 4 * bars_to bars.now (length bars.now) ≤ length res.old }
     ensures { res.new ≡ sets res.old start (quads (joined (λ i. barred owner.0 (suc i) (bar_for bars.now (suc i))) (length bars.now))) }
 {
     let mut at = start;
-    let mut i: usize = 0;
-    while i < bars.len() {
-        let bar = bars[i] as usize;
+    for (i, bar) in bars.iter().enumerate() {
+        let bar = usize::from(*bar);
         let top = word_of(owner, Slot(0), Bidder(i as u16 + 1), Slot(1));
         put_run(res, at, top, OTHERS_STEP, bar);
         at += 4 * bar;
-        i += 1;
     }
 }
 
-// The number of the first rule that the call breaks, 4, 5, 16, 20 to 22 or 19, with every byte of the buffer as it was; or 0 and how many constraints
-// are written, which stand at the front of the buffer, with every later byte as it was.
-pub fn write(n: u32, m: u32, owner: u32, limit: u32, bars: &[u8], res: &mut [u8]) -> Written
-    ensures { SlotTermsWritten n m owner limit bars.now res.old result res.new }
+// How many constraints are written, which stand at the front of the buffer, with every later byte as it was; or the first rule that the call breaks,
+// of 4, 5, 16, 20 to 22 and 19, with every byte of the buffer as it was.
+pub fn write(
+    n: u32,
+    m: u32,
+    owner: u32,
+    limit: u32,
+    bars: &[u8],
+    res: &mut [u8],
+) -> Result<u32, Refusal>
+    ensures { SlotTermsWritten n m owner limit bars.now res.old (written_in result) res.new }
 {
-    let nobody = owner_refusal(n, m, owner);
-    if nobody != 0 {
-        return refused(nobody);
-    }
-    let wrong = profile_refusal(n, m, owner, limit, bars);
-    if wrong != 0 {
-        return refused(wrong);
-    }
+    check_owner(n, m, owner)?;
+    check_profile(n, m, owner, limit, bars)?;
     let by_bars = sum_bars(bars);
     let first = limit + 1;
     let by_limit = (m + 1 - first) as usize;
     let bars_length = 4 * by_bars;
     let limit_length = 4 * by_limit;
     if res.len() < bars_length + limit_length {
-        return refused(19);
+        return Err(Refusal::ResultTooShort);
     }
     let owner = Bidder(owner as u16);
     put_all_barred(res, 0, owner, bars);
     let below = word_of(owner, Slot(first as u8), Bidder(0), Slot(0));
     put_run(res, bars_length, below, OWN_STEP, by_limit);
-    Written {
-        refusal: 0,
-        count: (by_bars + by_limit) as u32,
-    }
-}
-
-// A refusal's number alone.
-pub fn refused(number: u32) -> Written
-    ensures { result ≡ record { refusal = number; count = 0 } }
-{
-    Written {
-        refusal: number,
-        count: 0,
-    }
+    Ok((by_bars + by_limit) as u32)
 }

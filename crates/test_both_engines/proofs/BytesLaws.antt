@@ -1,23 +1,12 @@
--- What the comparisons of buffers say, and the steps of their loops, which go from the last byte to the first. Assumes nothing.
-use Rattle.std.proofs.Common.{◌≡◌, ℕ, ◌+◌, ◌-◌, ◌<◌, ◌≤◌, Bool, true, false, ◌⊎◌, List, length, get_or, sym, ap, ◌∙◌, ⊎_elim, eq-or-lt_of_le, arith, ext_get_or, ltb-true, eq-eqb, ne_eqb, eqb-true, leb-true}
+-- What the comparisons of buffers say, and the steps of their loops. Assumes nothing.
+use Rattle.std.proofs.Common.{◌≡◌, ℕ, ◌+◌, ◌<◌, ◌≤◌, Bool, true, false, ◌⊎◌, List, length, get_or, sym, ap, ◌∙◌, ⊎_elim, arith, ext_get_or, ltb-true, eq-eqb, ne_eqb, eqb-true, leb-true}
 use Rattle.basis.specs.Tests.{all_below}
 use Rattle.basis.proofs.TestLaws.{fails, not_both, all-at, at_all, and_parts, or_parts, or_left, or_right, or_fails}
 use Rattle.test_both_engines.specs.Bytes.{same_at, same_bytes, in_part, kept_at, untouched_bytes}
 
--- A test over the indices below n, of which those from m on have passed.
-module _ (f : ℕ → Bool) (n m : ℕ) where
-  -- one more passes
-  pub passed_more : ((k : ℕ) → m ≤ k → k < n → f k ≡ true) → 0 < m → f (m - 1) ≡ true → (k : ℕ) → m - 1 ≤ k → k < n → f k ≡ true
-  passed_more passed some next k l b =
-      ⊎_elim (λ (q : m - 1 ≡ k). ap f (sym q) ∙ next) (λ (lt : m - 1 < k). passed k (omega arith) b) (eq-or-lt_of_le l)
-
-  -- one fails
-  pub one_failed : m < n → f m ≡ false → all_below f n ≡ false
-  one_failed l e = fails (all_below f n) (λ h. not_both (all-at f n h m l) e)
-
-  -- all have passed
-  pub all-passed : ((k : ℕ) → m ≤ k → k < n → f k ≡ true) → m ≤ 0 → all_below f n ≡ true
-  all-passed passed none = at_all f n (λ k b. passed k (omega arith) b)
+-- a test over the indices below n fails at one
+pub one_failed : (f : ℕ → Bool) (n m : ℕ) → m < n → f m ≡ false → all_below f n ≡ false
+one_failed f n m l e = fails (all_below f n) (λ h. not_both (all-at f n h m l) e)
 
 module _ (first second : List ℕ) where
   pub is_same : (i : ℕ) → get_or first i 0 ≡ get_or second i 0 → same_at first second i ≡ true

@@ -17,8 +17,7 @@ fn same_pages(
     tally: &mut [u64],
     sheet: &[u8],
     written: &[u8],
-    floors: &[u32],
-    floored: bool,
+    floors: Option<&[u32]>,
     count: u32,
 ) -> io::Result<()> {
     let mut first = [0u8; PAGE];
@@ -26,8 +25,8 @@ fn same_pages(
     let one: &mut [u8] = &mut first;
     let two: &mut [u8] = &mut second;
     let room = PAGE as u32;
-    let number = calls::play_by_library(sheet, floors, floored, one, 0, room);
-    let other = calls::play_by_library(written, floors, floored, two, 0, room);
+    let number = calls::play_by_library(sheet, floors, one, 0, room);
+    let other = calls::play_by_library(written, floors, two, 0, room);
     let same = bytes::same(one, two, PAGE);
     counts::hold(rt, tally, number == other, b"one sheet, number of its page")?;
     counts::hold(rt, tally, same, b"one sheet, its page and prices")?;
@@ -102,14 +101,13 @@ fn same_answers(
 ) -> io::Result<()> {
     let bidder = calls::bidder(state, sheet);
     let worth = calls::worth(state);
-    same_pages(rt, tally, sheet, written, &[], false, counts::SAME_PAGES)?;
+    same_pages(rt, tally, sheet, written, None, counts::SAME_PAGES)?;
     same_pages(
         rt,
         tally,
         sheet,
         written,
-        floors,
-        true,
+        Some(floors),
         counts::SAME_FLOORED_PAGES,
     )?;
     same_best(rt, tally, sheet, written)?;
@@ -168,10 +166,8 @@ fn repeat_one(state: &mut u64, from: &[u8], to: &mut [u8], count: u32) {
 // Constraints of the sheet once more, as many as it has at most.
 fn repeat_some(state: &mut u64, from: &[u8], to: &mut [u8]) {
     let count = parts::constraints(from);
-    let mut left = count;
-    while 0 < left {
+    for _ in 0..count {
         repeat_one(state, from, to, count);
-        left -= 1;
     }
 }
 
@@ -209,10 +205,8 @@ fn same_rounds(
 
 // One tick more, or less where that is too much.
 fn another_bid(bid: u32, tick: u32) -> u32 {
-    if bid <= MAX_BID {
-        if tick <= MAX_BID - bid {
-            return bid + tick;
-        }
+    if bid <= MAX_BID && tick <= MAX_BID - bid {
+        return bid + tick;
     }
     if tick <= bid {
         return bid - tick;

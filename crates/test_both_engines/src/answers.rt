@@ -21,6 +21,11 @@ pub fn by_form(form: Form, first: u32, second: u32) -> u32 {
     if form.floored { second } else { first }
 }
 
+// The floors that a call is lent.
+fn lent_floors(form: Form, floors: &[u32]) -> Option<&[u32]> {
+    if form.floored { Some(floors) } else { None }
+}
+
 // A difference names the form too.
 fn hold(rt: &impl Print, tally: &mut [u64], form: Form, same: bool, name: &[u8]) -> io::Result<()> {
     if form.floored && !same {
@@ -61,14 +66,6 @@ pub fn check(rt: &impl Print, tally: &mut [u64], sheet: &[u8], rule: u32) -> io:
         library == rule,
         b"check, the fault that was put in",
     )
-}
-
-// What may have been written.
-fn written(number: u32, bytes: u32) -> u32 {
-    if number == 0 {
-        return bytes;
-    }
-    0
 }
 
 // The same random bytes for both engines, and to compare with.
@@ -119,7 +116,7 @@ fn lend(state: &mut u64, bytes: u32) -> Lent {
     Lent {
         start: number::up_to(state, 9),
         size: calls::result_size(state, bytes),
-        bytes: bytes,
+        bytes,
     }
 }
 
@@ -135,10 +132,11 @@ fn play_by_library(
 ) -> io::Result<u32> {
     let start = lent.start;
     let bytes = lent.bytes;
-    let number = calls::play_by_library(sheet, floors, form.floored, one, start, lent.size);
+    let list = lent_floors(form, floors);
+    let number = calls::play_by_library(sheet, list, one, start, lent.size);
     let call = by_form(form, counts::PLAY, counts::PLAY_FLOORS);
     note_number(rt, tally, form, call, number, b"play, the number due")?;
-    let kept_rest = bytes::untouched(one, kept, start, written(number, bytes));
+    let kept_rest = bytes::untouched(one, kept, start, calls::written(number, bytes));
     hold(
         rt,
         tally,
@@ -171,7 +169,7 @@ fn play_with_zeros(
     let zeros = [0u32; floor_lists::ROOM];
     parts::copy(kept, two, RESULT);
     let list = floor_lists::part(&zeros, 0, floor_lists::count(sheet));
-    let other = calls::play_by_library(sheet, list, true, two, lent.start, lent.size);
+    let other = calls::play_by_library(sheet, Some(list), two, lent.start, lent.size);
     counts::hold(rt, tally, number == other, b"play with floors of 0, number")?;
     let same = bytes::same(one, two, RESULT);
     counts::hold(rt, tally, same, b"play with floors of 0, page")?;
@@ -197,7 +195,8 @@ pub fn play(
     prepare(state, one, two, kept);
     let lent = lend(state, 5 * floor_lists::count(sheet));
     let number = play_by_library(rt, tally, sheet, floors, form, one, kept, lent)?;
-    let other = calls::play_by_other(sheet, floors, form.floored, two, lent.start, lent.size);
+    let list = lent_floors(form, floors);
+    let other = calls::play_by_other(sheet, list, two, lent.start, lent.size);
     hold(rt, tally, form, number == other, b"play, number")?;
     let same = bytes::same(one, two, RESULT);
     hold(rt, tally, form, same, b"play, page")?;
@@ -305,52 +304,18 @@ struct Gained {
     gain: i64,
 }
 
-fn gain_by_library(
-    played: &[u8],
-    floors: &[u32],
-    floored: bool,
-    truth: &[u8],
-    asked: Asked,
-) -> Gained {
+fn gain_by_library(played: &[u8], floors: Option<&[u32]>, truth: &[u8], asked: Asked) -> Gained {
     let mut gain = asked.preset;
     let bidder = asked.bidder;
-    let number = calls::gain_by_library(
-        played,
-        floors,
-        floored,
-        truth,
-        bidder,
-        asked.worth,
-        &mut gain,
-    );
-    Gained {
-        number: number,
-        gain: gain,
-    }
+    let number = calls::gain_by_library(played, floors, truth, bidder, asked.worth, &mut gain);
+    Gained { number, gain }
 }
 
-fn gain_by_other(
-    played: &[u8],
-    floors: &[u32],
-    floored: bool,
-    truth: &[u8],
-    asked: Asked,
-) -> Gained {
+fn gain_by_other(played: &[u8], floors: Option<&[u32]>, truth: &[u8], asked: Asked) -> Gained {
     let mut gain = asked.preset;
     let bidder = asked.bidder;
-    let number = calls::gain_by_other(
-        played,
-        floors,
-        floored,
-        truth,
-        bidder,
-        asked.worth,
-        &mut gain,
-    );
-    Gained {
-        number: number,
-        gain: gain,
-    }
+    let number = calls::gain_by_other(played, floors, truth, bidder, asked.worth, &mut gain);
+    Gained { number, gain }
 }
 
 // The first form gives what the second gives with floors of 0.
@@ -368,7 +333,7 @@ fn gain_with_zeros(
     }
     let zeros = [0u32; floor_lists::ROOM];
     let list = floor_lists::part(&zeros, 0, floor_lists::count(played));
-    let other = gain_by_library(played, list, true, truth, asked);
+    let other = gain_by_library(played, Some(list), truth, asked);
     let same = given.number == other.number;
     counts::hold(rt, tally, same, b"gain with floors of 0, number")?;
     let equal = given.gain == other.gain;
@@ -408,8 +373,9 @@ pub fn gain(
     truth: &[u8],
 ) -> io::Result<bool> {
     let asked = ask_gain(state, sheet);
-    let one = gain_by_library(sheet, floors, form.floored, truth, asked);
-    let two = gain_by_other(sheet, floors, form.floored, truth, asked);
+    let list = lent_floors(form, floors);
+    let one = gain_by_library(sheet, list, truth, asked);
+    let two = gain_by_other(sheet, list, truth, asked);
     note_gain(rt, tally, form, one.number, one.gain, asked.preset)?;
     compare_gains(rt, tally, form, one, two)?;
     gain_with_zeros(rt, tally, sheet, form, truth, asked, one)?;
@@ -417,10 +383,10 @@ pub fn gain(
 }
 
 // The total of the page that playing gives.
-fn greedy_total(sheet: &[u8], floors: &[u32], floored: bool) -> u64 {
+fn greedy_total(sheet: &[u8], floors: Option<&[u32]>) -> u64 {
     let mut space = [0u8; RESULT];
     let page: &mut [u8] = &mut space;
-    if calls::play_by_library(sheet, floors, floored, page, 0, RESULT as u32) != 0 {
+    if calls::play_by_library(sheet, floors, page, 0, RESULT as u32) != 0 {
         return 0;
     }
     pages::total(sheet, page, 0, true)
@@ -438,7 +404,7 @@ fn note_best(
     total: u64,
 ) -> io::Result<()> {
     let own = pages::total(sheet, res, start, false);
-    let greedy = greedy_total(sheet, floors, form.floored);
+    let greedy = greedy_total(sheet, lent_floors(form, floors));
     hold(rt, tally, form, total == own, b"best, total of the page")?;
     hold(
         rt,
@@ -477,18 +443,11 @@ fn best_by_library(
     let start = lent.start;
     let bytes = lent.bytes;
     let mut total = preset;
-    let number = calls::best_by_library(
-        sheet,
-        floors,
-        form.floored,
-        one,
-        start,
-        lent.size,
-        &mut total,
-    );
+    let list = lent_floors(form, floors);
+    let number = calls::best_by_library(sheet, list, one, start, lent.size, &mut total);
     let call = by_form(form, counts::BEST, counts::BEST_FLOORS);
     note_number(rt, tally, form, call, number, b"best, the number due")?;
-    let kept_rest = bytes::untouched(one, kept, start, written(number, bytes));
+    let kept_rest = bytes::untouched(one, kept, start, calls::written(number, bytes));
     hold(
         rt,
         tally,
@@ -503,9 +462,9 @@ fn best_by_library(
         hold(rt, tally, form, same, b"best, answer of a refused call")?;
     }
     Ok(Found {
-        number: number,
-        total: total,
-        preset: preset,
+        number,
+        total,
+        preset,
     })
 }
 
@@ -522,15 +481,8 @@ fn compare_best(
 ) -> io::Result<()> {
     let start = lent.start;
     let mut total = found.preset;
-    let other = calls::best_by_other(
-        sheet,
-        floors,
-        form.floored,
-        two,
-        start,
-        lent.size,
-        &mut total,
-    );
+    let list = lent_floors(form, floors);
+    let other = calls::best_by_other(sheet, list, two, start, lent.size, &mut total);
     hold(rt, tally, form, found.number == other, b"best, number")?;
     hold(rt, tally, form, found.total == total, b"best, total")?;
     let same = bytes::same(one, two, RESULT);
@@ -557,7 +509,7 @@ fn best_with_zeros(
     let mut total = found.preset;
     parts::copy(kept, two, RESULT);
     let list = floor_lists::part(&zeros, 0, floor_lists::count(sheet));
-    let other = calls::best_by_library(sheet, list, true, two, lent.start, lent.size, &mut total);
+    let other = calls::best_by_library(sheet, Some(list), two, lent.start, lent.size, &mut total);
     let number = found.number;
     counts::hold(rt, tally, number == other, b"best with floors of 0, number")?;
     let equal = found.total == total;

@@ -6,21 +6,17 @@ use test_chance::{floor_lists, number, parts};
 
 // Random bytes.
 pub fn fill(state: &mut u64, to: &mut [u8], count: usize) {
-    let mut left = count;
-    while 0 < left {
-        left -= 1;
+    for at in (0..count).rev() {
         let value = number::up_to(state, 255);
-        parts::set_byte(to, left, value);
+        parts::set_byte(to, at, value);
     }
 }
 
 // The first bytes of another buffer, from a start on.
 pub fn paste(from: &[u8], to: &mut [u8], start: u32, count: u32) {
-    let mut left = count;
-    while 0 < left {
-        left -= 1;
-        let at = start as usize + left as usize;
-        parts::set_byte(to, at, parts::byte(from, left as usize));
+    let start = start as usize;
+    for at in 0..count as usize {
+        parts::set_byte(to, start + at, parts::byte(from, at));
     }
 }
 
@@ -28,10 +24,8 @@ pub fn paste(from: &[u8], to: &mut [u8], start: u32, count: u32) {
 pub fn same(first: &[u8], second: &[u8], count: usize) -> bool
     ensures { result ≡ same_bytes first.now second.now count }
 {
-    let mut left = count;
-    while 0 < left {
-        left -= 1;
-        if parts::byte(first, left) != parts::byte(second, left) {
+    for at in 0..count {
+        if parts::byte(first, at) != parts::byte(second, at) {
             return false;
         }
     }
@@ -42,10 +36,8 @@ pub fn same(first: &[u8], second: &[u8], count: usize) -> bool
 pub fn same_floors(first: &[u32], second: &[u32], count: u32) -> bool
     ensures { result ≡ same_bytes first.now second.now count }
 {
-    let mut left = count;
-    while 0 < left {
-        left -= 1;
-        if floor_lists::of(first, left) != floor_lists::of(second, left) {
+    for at in 0..count {
+        if floor_lists::of(first, at) != floor_lists::of(second, at) {
             return false;
         }
     }
@@ -53,26 +45,21 @@ pub fn same_floors(first: &[u32], second: &[u32], count: u32) -> bool
 }
 
 // Whether a byte lies in the part from the start on that may have been written.
+#[tactic(auto, unfolding(crate::specs::Bytes::in_part))]
 fn within(at: usize, start: u32, written: u32) -> bool
     ensures { result ≡ in_part start written at }
 {
-    if at < start as usize {
-        return false;
-    }
-    at < start as usize + written as usize
+    let start = start as usize;
+    start <= at && at < start + written as usize
 }
 
 // Whether each byte but those that may have been written is what it was.
 pub fn untouched(after: &[u8], before: &[u8], start: u32, written: u32) -> bool
     ensures { result ≡ untouched_bytes after.now before.now start written }
 {
-    let mut left = before.len();
-    while 0 < left {
-        left -= 1;
-        if parts::byte(after, left) != parts::byte(before, left) {
-            if !within(left, start, written) {
-                return false;
-            }
+    for at in 0..before.len() {
+        if parts::byte(after, at) != parts::byte(before, at) && !within(at, start, written) {
+            return false;
         }
     }
     true

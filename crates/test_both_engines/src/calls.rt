@@ -6,110 +6,100 @@ const OUT_OF_ROOM: u32 = 1000;
 
 pub fn play_by_library(
     sheet: &[u8],
-    floors: &[u32],
-    floored: bool,
+    floors: Option<&[u32]>,
     res: &mut [u8],
     start: u32,
     size: u32,
 ) -> u32 {
     let from = start as usize;
-    let end = from + size as usize;
-    if res.len() < end {
+    let Some(part) = res.get_mut(from..from + size as usize) else {
         return OUT_OF_ROOM;
+    };
+    match floors {
+        Some(list) => pas::pas_play_floors(sheet, list, part),
+        None => pas::pas_play(sheet, part),
     }
-    if floored {
-        return pas::pas_play_floors(sheet, floors, &mut res[from..end]);
-    }
-    pas::pas_play(sheet, &mut res[from..end])
 }
 
 pub fn play_by_other(
     sheet: &[u8],
-    floors: &[u32],
-    floored: bool,
+    floors: Option<&[u32]>,
     res: &mut [u8],
     start: u32,
     size: u32,
 ) -> u32 {
     let from = start as usize;
-    let end = from + size as usize;
-    if res.len() < end {
+    let Some(part) = res.get_mut(from..from + size as usize) else {
         return OUT_OF_ROOM;
+    };
+    match floors {
+        Some(list) => test_plain::play_floors(sheet, list, part),
+        None => test_plain::play(sheet, part),
     }
-    if floored {
-        return test_plain::play_floors(sheet, floors, &mut res[from..end]);
-    }
-    test_plain::play(sheet, &mut res[from..end])
 }
 
 pub fn gain_by_library(
     played: &[u8],
-    floors: &[u32],
-    floored: bool,
+    floors: Option<&[u32]>,
     truth: &[u8],
     bidder: u32,
     worth: u32,
     gain: &mut i64,
 ) -> u32 {
-    if floored {
-        return pas::pas_gain_floors(played, floors, truth, bidder, worth, gain);
+    match floors {
+        Some(list) => pas::pas_gain_floors(played, list, truth, bidder, worth, gain),
+        None => pas::pas_gain(played, truth, bidder, worth, gain),
     }
-    pas::pas_gain(played, truth, bidder, worth, gain)
 }
 
 pub fn gain_by_other(
     played: &[u8],
-    floors: &[u32],
-    floored: bool,
+    floors: Option<&[u32]>,
     truth: &[u8],
     bidder: u32,
     worth: u32,
     gain: &mut i64,
 ) -> u32 {
-    if floored {
-        return test_plain::gain_floors(played, floors, truth, bidder, worth, gain);
+    match floors {
+        Some(list) => test_plain::gain_floors(played, list, truth, bidder, worth, gain),
+        None => test_plain::gain(played, truth, bidder, worth, gain),
     }
-    test_plain::gain(played, truth, bidder, worth, gain)
 }
 
 pub fn best_by_library(
     sheet: &[u8],
-    floors: &[u32],
-    floored: bool,
+    floors: Option<&[u32]>,
     res: &mut [u8],
     start: u32,
     size: u32,
     total: &mut u64,
 ) -> u32 {
     let from = start as usize;
-    let end = from + size as usize;
-    if res.len() < end {
+    let Some(part) = res.get_mut(from..from + size as usize) else {
         return OUT_OF_ROOM;
+    };
+    match floors {
+        Some(list) => pas::pas_best_floors(sheet, list, part, total),
+        None => pas::pas_best(sheet, part, total),
     }
-    if floored {
-        return pas::pas_best_floors(sheet, floors, &mut res[from..end], total);
-    }
-    pas::pas_best(sheet, &mut res[from..end], total)
 }
 
 pub fn best_by_other(
     sheet: &[u8],
-    floors: &[u32],
-    floored: bool,
+    floors: Option<&[u32]>,
     res: &mut [u8],
     start: u32,
     size: u32,
     total: &mut u64,
 ) -> u32 {
     let from = start as usize;
-    let end = from + size as usize;
-    if res.len() < end {
+    let Some(part) = res.get_mut(from..from + size as usize) else {
         return OUT_OF_ROOM;
+    };
+    match floors {
+        Some(list) => test_plain::best_floors(sheet, list, part, total),
+        None => test_plain::best(sheet, part, total),
     }
-    if floored {
-        return test_plain::best_floors(sheet, floors, &mut res[from..end], total);
-    }
-    test_plain::best(sheet, &mut res[from..end], total)
 }
 
 pub fn canonical_by_library(
@@ -120,11 +110,10 @@ pub fn canonical_by_library(
     written: &mut usize,
 ) -> u32 {
     let from = start as usize;
-    let end = from + size as usize;
-    if res.len() < end {
+    let Some(part) = res.get_mut(from..from + size as usize) else {
         return OUT_OF_ROOM;
-    }
-    pas::pas_canonical(sheet, &mut res[from..end], written)
+    };
+    pas::pas_canonical(sheet, part, written)
 }
 
 pub fn canonical_by_other(
@@ -135,11 +124,15 @@ pub fn canonical_by_other(
     written: &mut usize,
 ) -> u32 {
     let from = start as usize;
-    let end = from + size as usize;
-    if res.len() < end {
+    let Some(part) = res.get_mut(from..from + size as usize) else {
         return OUT_OF_ROOM;
-    }
-    test_plain::canonical(sheet, &mut res[from..end], written)
+    };
+    test_plain::canonical(sheet, part, written)
+}
+
+// What may have been written, by the number that the call returned.
+pub fn written(number: u32, bytes: u32) -> u32 {
+    if number == 0 { bytes } else { 0 }
 }
 
 // The bytes to lend where so many are to be written: none, one too few, fewer, just as many or more.
@@ -148,7 +141,7 @@ pub fn result_size(state: &mut u64, written: u32) -> u32 {
     match drawn {
         0 => 0,
         1 => number::up_to(state, written),
-        2 => less(written),
+        2 => written.saturating_sub(1),
         3 | 4 | 5 => written,
         _ => more(state, written),
     }
@@ -164,13 +157,6 @@ pub fn sheet_size(state: &mut u64, written: u32) -> u32 {
         return written + number::up_to(state, 12);
     }
     size
-}
-
-fn less(written: u32) -> u32 {
-    if 0 < written {
-        return written - 1;
-    }
-    0
 }
 
 fn more(state: &mut u64, written: u32) -> u32 {

@@ -5,6 +5,7 @@ ghost use Rattle.test_tally.specs.Tally.{counted};
 
 use std::io;
 
+// Kept: no enum, since these are places in the tally.
 // The calls, by their order in document 01 and then document 02, with a place for each number from 0 to 31.
 pub const CHECK: u32 = 0;
 
@@ -263,17 +264,16 @@ pub const ROOM: usize = 560;
 
 // Where a count by shape stands.
 pub fn by_shape(first: u32, shape: u32) -> u32 {
-    std::num::wrapping_add_u32(first, shape)
+    first.wrapping_add(shape)
 }
 
 // Where a call's number is counted. No call has another one: that would be a difference.
+#[tactic(auto, unfolding(crate::specs::Counts::place_of))]
 pub fn place(call: u32, number: u32) -> u32
     ensures { result ≡ place_of call number }
 {
-    if call < CALLS {
-        if number < NUMBERS {
-            return call * NUMBERS + number;
-        }
+    if call < CALLS && number < NUMBERS {
+        return call * NUMBERS + number;
     }
     DIFFERENCES
 }
@@ -285,6 +285,7 @@ pub fn add_call(tally: &mut [u64], call: u32, number: u32)
 }
 
 // A difference is counted, and a line names the call and the round, so that it can be found.
+#[tactic(auto, unfolding(crate::specs::Counts::held))]
 pub fn hold(rt: &impl Print, tally: &mut [u64], same: bool, name: &[u8]) -> io::Result<()>
     ensures { tally.new ≡ held tally.old same }
 {

@@ -28,10 +28,7 @@ fn play_without(sheet: &[u8], list: &[u32], slot: u32, res: &mut [u8]) {
 }
 
 fn is_multiple(amount: u32, tick: u32) -> bool {
-    if tick == 0 {
-        return false;
-    }
-    amount % tick == 0
+    tick != 0 && amount % tick == 0
 }
 
 // A price from the floor to the winner's bid that is a multiple of the tick, and 0 for an empty slot.
@@ -62,7 +59,7 @@ fn look_at(sheet: &[u8], list: &[u32], res: &[u8], start: u32, slot: u32) -> See
     let priced = bidder != 0 && pages::price(other, 0, slot) < price;
     Seen {
         emptied: bidder == 0 && pages::bidder(other, 0, slot) != 0,
-        priced: priced,
+        priced,
         between: priced && !is_multiple(floor, tick),
         reached: bidder != 0 && 0 < floor && bid == floor,
         dearer: priced && is_above_cheaper(res, start, slot, price),
@@ -90,11 +87,8 @@ fn look(sheet: &[u8], list: &[u32], res: &[u8], start: u32) -> Seen {
         dearer: false,
         wrong: false,
     };
-    let mut left = floor_lists::count(sheet);
-    while 0 < left {
-        left -= 1;
-        let more = either(seen, look_at(sheet, list, res, start, left));
-        seen = more;
+    for slot in 0..floor_lists::count(sheet) {
+        seen = either(seen, look_at(sheet, list, res, start, slot));
     }
     seen
 }
@@ -125,14 +119,10 @@ pub fn note_page(
 
 // "The best page obeys floors as well.": each bidder of the page has a bid at or above its floor.
 fn obeys(sheet: &[u8], list: &[u32], res: &[u8], start: u32) -> bool {
-    let mut left = floor_lists::count(sheet);
-    while 0 < left {
-        left -= 1;
-        let bidder = pages::best_bidder(res, start, left);
-        if bidder != 0 {
-            if pages::bid(sheet, bidder) < floor_lists::of(list, left) {
-                return false;
-            }
+    for slot in 0..floor_lists::count(sheet) {
+        let bidder = pages::best_bidder(res, start, slot);
+        if bidder != 0 && pages::bid(sheet, bidder) < floor_lists::of(list, slot) {
+            return false;
         }
     }
     true

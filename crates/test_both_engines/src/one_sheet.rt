@@ -38,14 +38,7 @@ fn due(rule: u32, lent: Lent) -> u32 {
     0
 }
 
-// What may have been written, and what the length's memory then holds.
-fn written(number: u32, bytes: u32) -> u32 {
-    if number == 0 {
-        return bytes;
-    }
-    0
-}
-
+// What the length's memory holds after the call.
 fn length_after(number: u32, bytes: u32) -> usize {
     if number == 0 {
         return bytes as usize;
@@ -75,17 +68,14 @@ fn by_library(
     )?;
     let same = length == length_after(number, bytes);
     counts::hold(rt, tally, same, b"one sheet, length")?;
-    let kept_rest = bytes::untouched(one, kept, start, written(number, bytes));
+    let kept_rest = bytes::untouched(one, kept, start, calls::written(number, bytes));
     counts::hold(
         rt,
         tally,
         kept_rest,
         b"one sheet, bytes that are not the sheet's",
     )?;
-    Ok(Given {
-        number: number,
-        length: length,
-    })
+    Ok(Given { number, length })
 }
 
 fn compare_other(
@@ -138,7 +128,7 @@ fn both(
     let lent = Lent {
         start: number::up_to(state, 9),
         size: calls::sheet_size(state, bytes),
-        bytes: bytes,
+        bytes,
     };
     let given = by_library(rt, tally, sheet, rule, one, kept, lent)?;
     compare_other(rt, tally, sheet, one, two, lent, given)
@@ -163,8 +153,8 @@ fn is_written_in(
     prepare(state, one, two, kept, bytes);
     let lent = Lent {
         start: number::up_to(state, 9),
-        size: size,
-        bytes: bytes,
+        size,
+        bytes,
     };
     let given = by_library(rt, tally, sheet, 0, one, kept, lent)?;
     let same = bytes::same(parts::part(one, lent.start, bytes), whole, bytes as usize);

@@ -4,6 +4,7 @@ use std::io;
 use test_chance::parts;
 
 // The second engine's answer: its number, or 0 with where the part starts and how long it is. Both are 0 with any other number.
+// Kept: no Result, since a refused call is held to the empty part at the sheet's start as well.
 #[derive(Clone, Copy)]
 struct Found {
     number: u32,
@@ -87,8 +88,10 @@ fn compare_check(
     bidder: u32,
     found: Found,
 ) -> io::Result<()> {
-    let checked = owner_part::check_part(sheet, bidder);
-    let number = checked.refusal;
+    let (number, bytes) = match owner_part::check_part(sheet, bidder) {
+        Ok(bytes) => (0, bytes),
+        Err(refusal) => (refusal.number(), 0),
+    };
     counts::add_call(tally, counts::CHECK_PART, number);
     counts::hold(
         rt,
@@ -99,17 +102,14 @@ fn compare_check(
     counts::hold(
         rt,
         tally,
-        checked.bytes == found.start,
+        bytes == found.start,
         b"check of a part, bytes before it",
     )
 }
 
 // The sheet from a start on, and all of it where it has not so many bytes.
 fn rest(sheet: &[u8], start: usize) -> &[u8] {
-    if start <= sheet.len() {
-        return &sheet[start..];
-    }
-    sheet
+    sheet.get(start..).unwrap_or(sheet)
 }
 
 // "A refused call hands back the empty part at the sheet's start".
@@ -179,10 +179,8 @@ fn ask(rt: &impl Print, tally: &mut [u64], sheet: &[u8], rule: u32, bidder: u32)
 
 // Every bidder of the sheet.
 fn ask_all(rt: &impl Print, tally: &mut [u64], sheet: &[u8], rule: u32) -> io::Result<()> {
-    let mut left = parts::bidders(sheet);
-    while 0 < left {
-        ask(rt, tally, sheet, rule, left)?;
-        left -= 1;
+    for bidder in (1..=parts::bidders(sheet)).rev() {
+        ask(rt, tally, sheet, rule, bidder)?;
     }
     Ok(())
 }

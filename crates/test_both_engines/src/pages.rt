@@ -36,37 +36,17 @@ pub fn best_bidder(res: &[u8], start: u32, slot: u32) -> u32 {
 }
 
 pub fn has_empty_slot(res: &[u8], start: u32, slots: u32) -> bool {
-    let mut left = slots;
-    while 0 < left {
-        left -= 1;
-        if bidder(res, start, left) == 0 {
-            return true;
-        }
-    }
-    false
+    (0..slots).any(|slot| bidder(res, start, slot) == 0)
 }
 
 pub fn has_price(res: &[u8], start: u32, slots: u32) -> bool {
-    let mut left = slots;
-    while 0 < left {
-        left -= 1;
-        if 0 < price(res, start, left) {
-            return true;
-        }
-    }
-    false
+    (0..slots).any(|slot| 0 < price(res, start, slot))
 }
 
 // Whether a bidder with a higher number than the one given bids so much.
 fn is_bid_after(sheet: &[u8], bidder: u32, bid: u32) -> bool {
-    let mut left = parts::bidders(sheet);
-    while bidder < left {
-        left -= 1;
-        if parts::word(sheet, parts::bid_at(sheet, left)) == bid {
-            return true;
-        }
-    }
-    false
+    (bidder..parts::bidders(sheet)).any(|after| parts::word(sheet, parts::bid_at(sheet, after))
+        == bid)
 }
 
 // Whether the price can only be a rival's bid and a tick: it is above 0, and no bidder with a higher number than the winner's bids it. Such
@@ -77,18 +57,11 @@ fn is_raised(sheet: &[u8], res: &[u8], start: u32, slot: u32) -> bool {
 }
 
 pub fn has_raised_price(sheet: &[u8], res: &[u8], start: u32, slots: u32) -> bool {
-    let mut left = slots;
-    while 0 < left {
-        left -= 1;
-        if is_raised(sheet, res, start, left) {
-            return true;
-        }
-    }
-    false
+    (0..slots).any(|slot| is_raised(sheet, res, start, slot))
 }
 
 fn product(bid: u32, effect: u32) -> u64 {
-    (bid as u64) * (effect as u64)
+    u64::from(bid) * u64::from(effect)
 }
 
 // "bid x effect" of a bidder at a slot, 0 for an empty slot.
@@ -102,11 +75,9 @@ fn worth_at(sheet: &[u8], bidder: u32, slot: u32) -> u64 {
 // "A page's total is the sum of bid x effect over filled places."
 pub fn total(sheet: &[u8], res: &[u8], start: u32, played: bool) -> u64 {
     let mut sum: u64 = 0;
-    let mut left = parts::slots(sheet);
-    while 0 < left {
-        left -= 1;
-        let bidder = parts::byte(res, bidder_at(start, left, played));
-        sum = std::num::wrapping_add_u64(sum, worth_at(sheet, bidder, left));
+    for slot in 0..parts::slots(sheet) {
+        let bidder = parts::byte(res, bidder_at(start, slot, played));
+        sum = sum.wrapping_add(worth_at(sheet, bidder, slot));
     }
     sum
 }

@@ -17,7 +17,7 @@ pub const UNTOUCHED_COUNT: u32 = 165165;
 
 // The number that the call returns.
 pub fn number(rt: &impl Print, refusal: u32) -> io::Result<()> {
-    line::number(rt, b": ", refusal as u64)
+    line::number(rt, b": ", u64::from(refusal))
 }
 
 // Whether a thing was left as it was.
@@ -29,20 +29,10 @@ pub fn kept(rt: &impl Print, thing: &[u8], same: bool) -> io::Result<()> {
     line::text(rt, b" changed")
 }
 
-fn is_untouched(buffer: &[u8], from: usize) -> bool {
-    let mut at = from;
-    while at < buffer.len() {
-        if buffer[at] != UNTOUCHED {
-            return false;
-        }
-        at += 1;
-    }
-    true
-}
-
 // Whether the bytes of a buffer from an offset on were left as they were.
 pub fn untouched(rt: &impl Print, thing: &[u8], buffer: &[u8], from: usize) -> io::Result<()> {
-    kept(rt, thing, is_untouched(buffer, from))
+    let same = buffer.iter().skip(from).all(|byte| *byte == UNTOUCHED);
+    kept(rt, thing, same)
 }
 
 // A bidder of the page, in document 01's words.
@@ -62,20 +52,17 @@ fn separate(rt: &impl Print, index: usize) -> io::Result<()> {
 }
 
 // "page": the bidders by slot, whose numbers stand `width` bytes apart.
-pub fn page(rt: &impl Print, buffer: &[u8], slots: usize, width: usize) -> io::Result<()>
+pub fn page(rt: &impl Print, buffer: &[u8], slots: u8, width: usize) -> io::Result<()>
     requires { width ≤ 5 }
 {
     line::text(rt, b"; page")?;
-    let mut at = 0;
-    let mut slot = 0;
-    while slot < slots {
+    for slot in 0..usize::from(slots) {
+        let at = width * slot;
         if buffer.len() <= at {
             return Ok(());
         }
         separate(rt, slot)?;
         bidder(rt, buffer[at])?;
-        at += width;
-        slot += 1;
     }
     Ok(())
 }
@@ -92,18 +79,15 @@ fn price(buffer: &[u8], at: usize) -> u32 {
 }
 
 // "prices", by slot.
-pub fn prices(rt: &impl Print, buffer: &[u8], slots: usize) -> io::Result<()> {
+pub fn prices(rt: &impl Print, buffer: &[u8], slots: u8) -> io::Result<()> {
     line::text(rt, b"; prices")?;
-    let mut at = 0;
-    let mut slot = 0;
-    while slot < slots {
+    for slot in 0..usize::from(slots) {
+        let at = 5 * slot;
         if buffer.len() <= at {
             return Ok(());
         }
         separate(rt, slot)?;
-        line::number(rt, b"", price(buffer, at) as u64)?;
-        at += 5;
-        slot += 1;
+        line::number(rt, b"", u64::from(price(buffer, at)))?;
     }
     Ok(())
 }
@@ -119,37 +103,24 @@ pub fn yes_or_no(rt: &impl Print, yes: u8) -> io::Result<()> {
     line::text(rt, b"; neither yes nor no")
 }
 
-// A number without its sign. The smallest has a size that its own type does not hold, so one is added back after the cast.
-fn size(value: i64) -> u64 {
-    if value >= 0 {
-        return value as u64;
-    }
-    ((0 - (value + 1)) as u64) + 1
-}
-
 pub fn signed(rt: &impl Print, value: i64) -> io::Result<()> {
     if value < 0 {
         line::text(rt, b"-")?;
     }
-    line::number(rt, b"", size(value))
+    line::number(rt, b"", value.unsigned_abs())
 }
 
 // A byte of a part, 0 past its end.
 fn byte(part: &[u8], at: usize) -> u8 {
-    if at < part.len() {
-        return part[at];
-    }
-    0
+    if at < part.len() { part[at] } else { 0 }
 }
 
-// The condition at an offset.
-fn condition(rt: &impl Print, part: &[u8], at: usize) -> io::Result<()>
-    requires { at ≤ 65536 }
-{
-    line::byte(rt, b" (", byte(part, at))?;
-    line::byte(rt, b",", byte(part, at + 1))?;
-    line::byte(rt, b",", byte(part, at + 2))?;
-    line::byte(rt, b",", byte(part, at + 3))?;
+// A condition, by its four bytes.
+fn condition(rt: &impl Print, bytes: &[u8]) -> io::Result<()> {
+    line::byte(rt, b" (", byte(bytes, 0))?;
+    line::byte(rt, b",", byte(bytes, 1))?;
+    line::byte(rt, b",", byte(bytes, 2))?;
+    line::byte(rt, b",", byte(bytes, 3))?;
     line::text(rt, b")")
 }
 
@@ -161,12 +132,9 @@ pub fn conditions(rt: &impl Print, part: &[u8]) -> io::Result<()> {
         return Ok(());
     }
     line::text(rt, b":")?;
-    condition(rt, part, 0)?;
-    if length <= 65536 {
-        line::text(rt, b" to")?;
-        condition(rt, part, length - 4)?;
-    }
-    Ok(())
+    condition(rt, &part[..4])?;
+    line::text(rt, b" to")?;
+    condition(rt, &part[length - 4..])
 }
 
 // Two bytes, low byte first.
@@ -174,32 +142,24 @@ fn half(part: &[u8], at: usize) -> u64
     requires { at ≤ 65536 }
     ensures { result ≤ 65535 }
 {
-    basis::wide(byte(part, at)) as u64 + 256 * (basis::wide(byte(part, at + 1)) as u64)
+    u64::from(byte(part, at)) + 256 * u64::from(byte(part, at + 1))
 }
 
 // Numbers of four bytes, low byte first, from an offset on.
 fn words(rt: &impl Print, part: &[u8], from: usize, count: u8) -> io::Result<()>
     requires { from ≤ 2000 }
 {
-    let mut index: u8 = 0;
-    while index < count {
-        let at = from + 4 * (index as usize);
-        separate(rt, index as usize)?;
+    for index in 0..usize::from(count) {
+        let at = from + 4 * index;
+        separate(rt, index)?;
         line::number(rt, b"", half(part, at) + 65536 * half(part, at + 2))?;
-        index += 1;
     }
     Ok(())
 }
 
-// All conditions from an offset on.
-fn each_condition(rt: &impl Print, part: &[u8], from: usize) -> io::Result<()> {
-    let mut at = from;
-    while at < part.len() {
-        if 65536 < at {
-            return Ok(());
-        }
-        condition(rt, part, at)?;
-        at += 4;
+fn each_condition(rt: &impl Print, part: &[u8]) -> io::Result<()> {
+    for bytes in part.chunks(4) {
+        condition(rt, bytes)?;
     }
     Ok(())
 }
@@ -209,11 +169,12 @@ pub fn last_part(rt: &impl Print, part: &[u8], from: usize) -> io::Result<()> {
     if part.len() < from {
         return line::text(rt, b"; too short");
     }
-    if part.len() - from <= 64 {
+    let rest = &part[from..];
+    if rest.len() <= 64 {
         line::text(rt, b"; conditions")?;
-        return each_condition(rt, part, from);
+        return each_condition(rt, rest);
     }
-    conditions(rt, &part[from..])
+    conditions(rt, rest)
 }
 
 // What a call leaves that writes an owner's conditions and how many they are.
@@ -223,7 +184,7 @@ pub fn terms(rt: &impl Print, refusal: u32, count: u32, buffer: &[u8]) -> io::Re
         untouched(rt, b"; every byte", buffer, 0)?;
         return kept(rt, b", count", count == UNTOUCHED_COUNT);
     }
-    line::number(rt, b"; count ", count as u64)?;
+    line::number(rt, b"; count ", u64::from(count))?;
     let bytes = 4 * count as usize;
     last_part(rt, line::front(buffer, bytes), 0)?;
     untouched(rt, b"; later bytes", buffer, bytes)
@@ -232,16 +193,14 @@ pub fn terms(rt: &impl Print, refusal: u32, count: u32, buffer: &[u8]) -> io::Re
 // "order": the bytes up to the first that was left as it was, and how many they are.
 pub fn order(rt: &impl Print, buffer: &[u8]) -> io::Result<usize> {
     line::text(rt, b"; order")?;
-    let mut at = 0;
-    while at < buffer.len() {
-        if buffer[at] == UNTOUCHED {
+    for (at, member) in buffer.iter().enumerate() {
+        if *member == UNTOUCHED {
             return Ok(at);
         }
         separate(rt, at)?;
-        line::byte(rt, b"", buffer[at])?;
-        at += 1;
+        line::byte(rt, b"", *member)?;
     }
-    Ok(at)
+    Ok(buffer.len())
 }
 
 // The mark, the version, n, m, c and the tick.
@@ -260,8 +219,8 @@ fn header(rt: &impl Print, part: &[u8]) -> io::Result<()> {
 pub fn sheet(rt: &impl Print, part: &[u8]) -> io::Result<()> {
     let bidders = byte(part, 5);
     let slots = byte(part, 6);
-    let bids = 13 + 4 * (basis::wide(slots) as usize);
-    let rest = bids + 4 * (basis::wide(bidders) as usize);
+    let bids = 13 + 4 * usize::from(slots);
+    let rest = bids + 4 * usize::from(bidders);
     header(rt, part)?;
     line::text(rt, b"; effects")?;
     words(rt, part, 13, slots)?;

@@ -8,23 +8,17 @@ use test_edge_sheets::build;
 fn count_after(words: &[u8], before: u16) -> u16
     ensures { result + before ≤ 65535 }
 {
-    let numbers = script::count(words);
-    if numbers < before {
-        return 0;
-    }
-    numbers - before
+    script::count(words).saturating_sub(before)
 }
 
 // These, and how many there are.
 pub fn write(words: &[u8], before: u16, list: &mut [u8]) -> usize {
     let count = count_after(words, before);
-    let mut at: u16 = 0;
-    while at < count {
+    for at in 0..count {
         let value = build::low(script::number(words, before + 1 + at));
-        build::set_byte(list, at as usize, value);
-        at += 1;
+        build::set_byte(list, usize::from(at), value);
     }
-    count as usize
+    usize::from(count)
 }
 
 // The bytes from an offset on, or all where there are fewer.

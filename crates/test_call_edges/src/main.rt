@@ -38,16 +38,14 @@ fn call_with_floors(
     rt: &impl Print,
     words: &[u8],
     sheet: &[u8],
-    floors: &[u32],
+    floors: &[u32; listed_floors::ROOM],
     truth: &[u8],
     length: usize,
 ) -> io::Result<()> {
-    let mut space = [0u32; listed_floors::ROOM];
-    let kept: &mut [u32] = &mut space;
-    listed_floors::copy(floors, kept);
+    let kept = *floors;
     let list = listed_floors::front(floors, length);
     calls::answer_with_floors(rt, words, sheet, list, truth)?;
-    answers::kept(rt, b"; floors", listed_floors::is_same(floors, kept))
+    answers::kept(rt, b"; floors", *floors == kept)
 }
 
 // The answer where the line is a call.
@@ -55,26 +53,26 @@ fn call(
     rt: &impl Print,
     words: &[u8],
     sheet: &[u8],
-    floors: &[u32],
+    floors: &[u32; listed_floors::ROOM],
     truth: &[u8],
     length: usize,
 ) -> io::Result<()> {
-    if script::begins(words, b"with floors") {
+    if words.starts_with(b"with floors") {
         return call_with_floors(rt, words, sheet, floors, truth, length);
     }
-    if script::begins(words, b"one sheet") {
+    if words.starts_with(b"one sheet") {
         return calls::one_sheet(rt, words, sheet);
     }
-    if script::begins(words, b"loss") {
+    if words.starts_with(b"loss") {
         return calls::loss(rt, sheet);
     }
-    if script::begins(words, b"terms") {
+    if words.starts_with(b"terms") {
         return terms::answer(rt, words);
     }
-    if script::begins(words, b"rivals") {
+    if words.starts_with(b"rivals") {
         return rivals::named(rt, words);
     }
-    if script::begins(words, b"share") {
+    if words.starts_with(b"share") {
         return rivals::share(rt, words);
     }
     calls::answer(rt, words, sheet, truth)
@@ -85,67 +83,57 @@ fn call(
 fn step(
     rt: &impl Print,
     words: &[u8],
-    sheet: &mut [u8],
-    truth: &mut [u8],
-    floors: &mut [u32],
+    sheet: &mut [u8; build::ROOM],
+    truth: &mut [u8; build::ROOM],
+    floors: &mut [u32; listed_floors::ROOM],
     lengths: Lengths,
 ) -> io::Result<Lengths> {
     line::text(rt, words)?;
-    if script::begins(words, b"truth") {
-        sheets::copy(sheet, truth);
+    if words.starts_with(b"truth") {
+        *truth = *sheet;
         line::text(rt, b"\n")?;
         return Ok(Lengths {
-            sheet: lengths.sheet,
             truth: lengths.sheet,
-            floors: lengths.floors,
+            ..lengths
         });
     }
-    if script::begins(words, b"floors") {
+    if words.starts_with(b"floors") {
         let count = listed_floors::write(words, floors);
         line::text(rt, b"\n")?;
         return Ok(Lengths {
-            sheet: lengths.sheet,
-            truth: lengths.truth,
             floors: count,
+            ..lengths
         });
     }
     let length = sheets::write(words, sheet, lengths.sheet);
-    let truth_length = lengths.truth;
-    let count = lengths.floors;
     call(
         rt,
         words,
         line::front(sheet, length),
         floors,
-        line::front(truth, truth_length),
-        count,
+        line::front(truth, lengths.truth),
+        lengths.floors,
     )?;
     line::text(rt, b"\n")?;
     Ok(Lengths {
         sheet: length,
-        truth: truth_length,
-        floors: count,
+        ..lengths
     })
 }
 
 // Each line in turn.
 fn run(rt: &impl Print, text: &[u8]) -> io::Result<()> {
-    let mut sheet_space = [0u8; build::ROOM];
-    let sheet: &mut [u8] = &mut sheet_space;
-    let mut truth_space = [0u8; build::ROOM];
-    let truth: &mut [u8] = &mut truth_space;
-    let mut floors_space = [0u32; listed_floors::ROOM];
-    let floors: &mut [u32] = &mut floors_space;
+    let mut sheet = [0u8; build::ROOM];
+    let mut truth = [0u8; build::ROOM];
+    let mut floors = [0u32; listed_floors::ROOM];
     let mut lengths = Lengths {
         sheet: 0,
         truth: 0,
         floors: 0,
     };
-    let mut at = 0;
-    while at < text.len() {
-        let end = script::line_end(text, at);
-        lengths = step(rt, &text[at..end], sheet, truth, floors, lengths)?;
-        at = end + 1;
+    for line in text.split_inclusive(|letter| *letter == b'\n') {
+        let words = line.strip_suffix(b"\n").unwrap_or(line);
+        lengths = step(rt, words, &mut sheet, &mut truth, &mut floors, lengths)?;
     }
     Ok(())
 }

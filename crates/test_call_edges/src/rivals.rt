@@ -23,36 +23,27 @@ fn write_into(
     let bidders = script::number(words, 2);
     let slots = script::number(words, 3);
     let owner = script::number(words, 4);
-    if buffer.len() < length {
+    let Some(lent) = buffer.get_mut(..length) else {
         return calls::OUT_OF_ROOM;
-    }
-    pas::pas_above_terms(
-        bidders,
-        slots,
-        owner,
-        rivals,
-        &mut buffer[..length],
-        written,
-    )
+    };
+    pas::pas_above_terms(bidders, slots, owner, rivals, lent, written)
 }
 
 // "rivals into LENGTH for N M OWNER RIVAL RIVAL .."
 pub fn named(rt: &impl Print, words: &[u8]) -> io::Result<()> {
-    let mut list_space = [0u8; LIST_ROOM];
-    let list: &mut [u8] = &mut list_space;
-    let count = listed_bytes::write(words, BEFORE_LISTS, list);
-    let mut space = [answers::UNTOUCHED; build::ROOM];
-    let buffer: &mut [u8] = &mut space;
+    let mut list = [0u8; LIST_ROOM];
+    let count = listed_bytes::write(words, BEFORE_LISTS, &mut list);
+    let mut buffer = [answers::UNTOUCHED; build::ROOM];
     let mut written = answers::UNTOUCHED_COUNT;
     let length = script::number(words, 1) as usize;
     let refusal = write_into(
         words,
-        line::front(list, count),
-        buffer,
+        line::front(&list, count),
+        &mut buffer,
         length,
         &mut written,
     );
-    answers::terms(rt, refusal, written, buffer)
+    answers::terms(rt, refusal, written, &buffer)
 }
 
 // The same of sharing, with the members and then the sets in one list.
@@ -62,10 +53,10 @@ fn share_into(words: &[u8], list: &[u8], buffer: &mut [u8], length: usize, answe
     let count = script::number(words, 4) as usize;
     let members = line::front(list, count);
     let sets = listed_bytes::after(list, count);
-    if buffer.len() < length {
+    let Some(lent) = buffer.get_mut(..length) else {
         return calls::OUT_OF_ROOM;
-    }
-    pas::pas_share_page(bidders, slots, members, sets, &mut buffer[..length], answer)
+    };
+    pas::pas_share_page(bidders, slots, members, sets, lent, answer)
 }
 
 // What is left by the call. A no leaves every byte.
@@ -85,13 +76,17 @@ fn show(rt: &impl Print, refusal: u32, answer: u8, buffer: &[u8]) -> io::Result<
 
 // "share into LENGTH for N M COUNT MEMBER .. BYTE .."
 pub fn share(rt: &impl Print, words: &[u8]) -> io::Result<()> {
-    let mut list_space = [0u8; LIST_ROOM];
-    let list: &mut [u8] = &mut list_space;
-    let count = listed_bytes::write(words, BEFORE_LISTS, list);
-    let mut space = [answers::UNTOUCHED; ORDER_ROOM];
-    let buffer: &mut [u8] = &mut space;
+    let mut list = [0u8; LIST_ROOM];
+    let count = listed_bytes::write(words, BEFORE_LISTS, &mut list);
+    let mut buffer = [answers::UNTOUCHED; ORDER_ROOM];
     let mut answer = answers::UNTOUCHED;
     let length = script::number(words, 1) as usize;
-    let refusal = share_into(words, line::front(list, count), buffer, length, &mut answer);
-    show(rt, refusal, answer, buffer)
+    let refusal = share_into(
+        words,
+        line::front(&list, count),
+        &mut buffer,
+        length,
+        &mut answer,
+    );
+    show(rt, refusal, answer, &buffer)
 }

@@ -23,10 +23,10 @@ fn new_sheet(words: &[u8], sheet: &mut [u8]) -> usize {
 // What a line writes on the sheet, and the sheet's length after it. A line of any other word writes nothing.
 // "length L": that many bytes are lent, whatever the counts say.
 pub fn write(words: &[u8], sheet: &mut [u8], length: usize) -> usize {
-    if script::begins(words, b"sheet") {
+    if words.starts_with(b"sheet") {
         return new_sheet(words, sheet);
     }
-    if script::begins(words, b"length") {
+    if words.starts_with(b"length") {
         return script::number(words, 1) as usize;
     }
     write_fields(words, sheet);
@@ -36,69 +36,51 @@ pub fn write(words: &[u8], sheet: &mut [u8], length: usize) -> usize {
 // "byte AT VALUE": one byte, at an offset from 0. "rising C": from this condition on, each is the next above the one before. The other lines
 // give the first fields of a kind their values.
 fn write_fields(words: &[u8], sheet: &mut [u8]) {
-    if script::begins(words, b"byte") {
+    if words.starts_with(b"byte") {
         build::set_byte(sheet, script::number(words, 1) as usize, small(words, 2));
         return;
     }
-    if script::begins(words, b"effects") {
+    if words.starts_with(b"effects") {
         write_effects(words, sheet);
         return;
     }
-    if script::begins(words, b"bids") {
+    if words.starts_with(b"bids") {
         write_bids(words, sheet);
         return;
     }
-    if script::begins(words, b"conditions") {
+    if words.starts_with(b"conditions") {
         write_constraints(words, sheet);
         return;
     }
-    if script::begins(words, b"rising") {
+    if words.starts_with(b"rising") {
         build::rise(sheet, (script::number(words, 1) % 65536) as u16);
     }
 }
 
 // "effects E E ..", from slot 1 on.
 fn write_effects(words: &[u8], sheet: &mut [u8]) {
-    let count = script::count(words);
-    let mut slot: u16 = 0;
-    while slot < count {
-        slot += 1;
+    for slot in 1..=script::count(words) {
         build::set_effect(sheet, (slot % 256) as u8, script::number(words, slot));
     }
 }
 
 // "bids B B ..", from bidder 1 on.
 fn write_bids(words: &[u8], sheet: &mut [u8]) {
-    let count = script::count(words);
-    let mut bidder: u16 = 0;
-    while bidder < count {
-        bidder += 1;
+    for bidder in 1..=script::count(words) {
         build::set_bid(sheet, (bidder % 256) as u8, script::number(words, bidder));
     }
 }
 
 // "conditions (O,P,B,P) (O,P,B,P) ..", from the first on: owner, own place, other, other's place.
 fn write_constraints(words: &[u8], sheet: &mut [u8]) {
-    let count = script::count(words) / 4;
-    let mut constraint: u16 = 0;
-    while constraint < count {
-        let before = constraint * 4;
-        constraint += 1;
+    for constraint in 0..script::count(words) / 4 {
+        let before = 4 * constraint;
         let fields = [
             small(words, before + 1),
             small(words, before + 2),
             small(words, before + 3),
             small(words, before + 4),
         ];
-        build::set_constraint(sheet, constraint, fields);
-    }
-}
-
-// The bytes of one buffer into another, as many as both have.
-pub fn copy(from: &[u8], to: &mut [u8]) {
-    let mut at = 0;
-    while at < from.len() {
-        build::set_byte(to, at, from[at]);
-        at += 1;
+        build::set_constraint(sheet, constraint + 1, fields);
     }
 }

@@ -21,35 +21,25 @@ fn write_into(
     let slots = script::number(words, 3);
     let owner = script::number(words, 4);
     let limit = script::number(words, 5);
-    if buffer.len() < length {
+    let Some(lent) = buffer.get_mut(..length) else {
         return calls::OUT_OF_ROOM;
-    }
-    pas::pas_slot_terms(
-        bidders,
-        slots,
-        owner,
-        limit,
-        bars,
-        &mut buffer[..length],
-        written,
-    )
+    };
+    pas::pas_slot_terms(bidders, slots, owner, limit, bars, lent, written)
 }
 
 // "terms into LENGTH for N M OWNER LIMIT BAR BAR .."
 pub fn answer(rt: &impl Print, words: &[u8]) -> io::Result<()> {
-    let mut bars_space = [0u8; BARS_ROOM];
-    let bars: &mut [u8] = &mut bars_space;
-    let count = listed_bytes::write(words, BEFORE_BARS, bars);
-    let mut space = [answers::UNTOUCHED; build::ROOM];
-    let buffer: &mut [u8] = &mut space;
+    let mut bars = [0u8; BARS_ROOM];
+    let count = listed_bytes::write(words, BEFORE_BARS, &mut bars);
+    let mut buffer = [answers::UNTOUCHED; build::ROOM];
     let mut written = answers::UNTOUCHED_COUNT;
     let length = script::number(words, 1) as usize;
     let refusal = write_into(
         words,
-        line::front(bars, count),
-        buffer,
+        line::front(&bars, count),
+        &mut buffer,
         length,
         &mut written,
     );
-    answers::terms(rt, refusal, written, buffer)
+    answers::terms(rt, refusal, written, &buffer)
 }

@@ -11,13 +11,13 @@ pub fn up_to_most(state: &mut u64, most: u32) -> u32 {
 
 // A number that is not from 1 to the most: next to these, the same in its lowest bytes, or any.
 pub fn outside(state: &mut u64, value: u32, most: u32) -> u32 {
-    let above = std::num::wrapping_add_u32(most, 1);
+    let above = most.wrapping_add(1);
     let drawn = number::up_to(state, 5);
     match drawn {
         0 | 1 => 0,
         2 => above,
-        3 => std::num::wrapping_add_u32(value, 256),
-        4 => std::num::wrapping_add_u32(value, 65536),
+        3 => value.wrapping_add(256),
+        4 => value.wrapping_add(65536),
         _ => number::between(state, above, 4294967295),
     }
 }
@@ -27,7 +27,7 @@ fn enough_for(bytes: u32, drawn: u32, more: u32) -> u32 {
     if drawn < 4 {
         return bytes;
     }
-    std::num::wrapping_add_u32(bytes, more)
+    bytes.wrapping_add(more)
 }
 
 // A length for the result: enough, or at times too short by one byte or by more.

@@ -48,59 +48,34 @@ pub fn set(floors: &mut [u32], at: u32, floor: u32) {
 
 // The first floors of another list, from a start on.
 pub fn paste(from: &[u32], to: &mut [u32], start: u32, count: u32) {
-    let mut left = count;
-    while 0 < left {
-        left -= 1;
-        set(to, std::num::wrapping_add_u32(start, left), of(from, left));
+    for at in 0..count {
+        set(to, start.wrapping_add(at), of(from, at));
     }
 }
 
 // So many floors from a start on, to be lent; all where there are fewer.
 pub fn part(floors: &[u32], start: u32, count: u32) -> &[u32] {
     let from = start as usize;
-    let end = from + count as usize;
-    if end <= floors.len() {
-        return &floors[from..end];
-    }
-    floors
+    floors.get(from..from + count as usize).unwrap_or(floors)
 }
 
 // The floors that a sheet asks for, also where its m is not allowed.
 pub fn count(sheet: &[u8]) -> u32
     ensures { result ≤ 16 }
 {
-    let slots = parts::slots(sheet);
-    if slots < MAX_SLOTS { slots } else { MAX_SLOTS }
-}
-
-fn at_most_max(floor: u32) -> u32 {
-    if MAX_FLOOR < floor { MAX_FLOOR } else { floor }
+    parts::slots(sheet).min(MAX_SLOTS)
 }
 
 // Higher by so much, as far as a floor goes.
 fn more(floor: u32, by: u32) -> u32 {
-    if MAX_FLOOR <= floor {
-        return MAX_FLOOR;
-    }
-    if MAX_FLOOR - floor <= by {
-        return MAX_FLOOR;
-    }
-    floor + by
-}
-
-// Lower by so much, and never below 0.
-fn less(floor: u32, by: u32) -> u32 {
-    if by < floor {
-        return floor - by;
-    }
-    0
+    floor.saturating_add(by).min(MAX_FLOOR)
 }
 
 fn bid_of(sheet: &[u8], bidder: u32) -> u32 {
     if bidder == 0 {
         return 0;
     }
-    at_most_max(parts::word(sheet, parts::bid_at(sheet, bidder - 1)))
+    parts::word(sheet, parts::bid_at(sheet, bidder - 1)).min(MAX_FLOOR)
 }
 
 fn any_bid(state: &mut u64, sheet: &[u8]) -> u32 {
@@ -110,24 +85,14 @@ fn any_bid(state: &mut u64, sheet: &[u8]) -> u32 {
 
 fn highest_bid(sheet: &[u8]) -> u32 {
     let mut highest: u32 = 0;
-    let mut left = parts::bidders(sheet);
-    while 0 < left {
-        let bid = bid_of(sheet, left);
-        highest = if highest < bid { bid } else { highest };
-        left -= 1;
+    for bidder in 1..=parts::bidders(sheet) {
+        highest = highest.max(bid_of(sheet, bidder));
     }
     highest
 }
 
 fn is_bid(sheet: &[u8], amount: u32) -> bool {
-    let mut left = parts::bidders(sheet);
-    while 0 < left {
-        if bid_of(sheet, left) == amount {
-            return true;
-        }
-        left -= 1;
-    }
-    false
+    (1..=parts::bidders(sheet)).any(|bidder| bid_of(sheet, bidder) == amount)
 }
 
 // A bid, one more or less than it, or a tick more or less.
@@ -138,9 +103,9 @@ fn near_bid(state: &mut u64, sheet: &[u8]) -> u32 {
     match drawn {
         0 | 1 => bid,
         2 => more(bid, 1),
-        3 => less(bid, 1),
+        3 => bid.saturating_sub(1),
         4 => more(bid, tick),
-        _ => less(bid, tick),
+        _ => bid.saturating_sub(tick),
     }
 }
 
@@ -155,7 +120,7 @@ fn off_tick(state: &mut u64, sheet: &[u8]) -> u32 {
     if by < bid {
         return bid - by;
     }
-    at_most_max(by)
+    by.min(MAX_FLOOR)
 }
 
 // Above every bid: by 1, by any number, or the highest floor; no more than this where a bid is as high.
@@ -193,11 +158,9 @@ fn one(state: &mut u64, shape: u32, sheet: &[u8]) -> u32 {
 }
 
 fn set_each(state: &mut u64, shape: u32, sheet: &[u8], floors: &mut [u32], slots: u32) {
-    let mut left = slots;
-    while 0 < left {
-        left -= 1;
+    for at in (0..slots).rev() {
         let floor = one(state, shape, sheet);
-        set(floors, left, floor);
+        set(floors, at, floor);
     }
 }
 
@@ -206,18 +169,10 @@ fn on_tick(floor: u32, tick: u32) -> u32 {
     if tick == 0 {
         return floor;
     }
-    less(floor, floor % tick)
+    floor - floor % tick
 }
 
-// Where the next of the floors left goes: from the first slot on, or from the last.
-fn next_at(slots: u32, left: u32, falling: bool) -> u32 {
-    if falling {
-        return less(left, 1);
-    }
-    less(slots, left)
-}
-
-// Floors that climb among the bids from slot to slot, or fall. They keep to multiples of a step.
+// Floors that climb among the bids from the first slot on, or from the last. They keep to multiples of a step.
 fn set_climbing(
     state: &mut u64,
     sheet: &[u8],
@@ -228,12 +183,11 @@ fn set_climbing(
 ) {
     let highest = highest_bid(sheet);
     let mut floor = number::up_to(state, highest / 2);
-    let mut left = slots;
-    while 0 < left {
-        set(floors, next_at(slots, left, falling), on_tick(floor, step));
+    for passed in 0..slots {
+        let at = if falling { slots - 1 - passed } else { passed };
+        set(floors, at, on_tick(floor, step));
         let by = number::up_to(state, highest / 4 + 1);
         floor = more(floor, by);
-        left -= 1;
     }
 }
 
@@ -318,11 +272,9 @@ fn passes(floors: &[u32], sheet: &[u8], at: u32, test: Test) -> bool {
 // How many of the first floors pass a test.
 pub fn how_many(floors: &[u32], sheet: &[u8], length: u32, test: Test) -> u32 {
     let mut found: u32 = 0;
-    let mut left = length;
-    while 0 < left {
-        left -= 1;
-        if passes(floors, sheet, left, test) {
-            found = std::num::wrapping_add_u32(found, 1);
+    for at in 0..length {
+        if passes(floors, sheet, at, test) {
+            found += 1;
         }
     }
     found

@@ -7,6 +7,7 @@ use crate::{number, parts};
 const MAX_CONSTRAINTS: u32 = 1024;
 
 // Kinds of lists; any larger number is a mixture of them.
+// Kept: no enum, since a kind is drawn as a number, also one above the last.
 pub const ANY: u32 = 0;
 
 pub const DOWNWARD: u32 = 1;
@@ -39,11 +40,9 @@ pub fn rank(buf: &[u8], constraint: u32) -> u32 {
 // How many constraints are not above the one before.
 pub fn falls(buf: &[u8]) -> u32 {
     let mut found: u32 = 0;
-    let mut left = parts::constraints(buf);
-    while 1 < left {
-        left -= 1;
-        if rank(buf, left) <= rank(buf, left - 1) {
-            found = std::num::wrapping_add_u32(found, 1);
+    for constraint in 1..parts::constraints(buf) {
+        if rank(buf, constraint) <= rank(buf, constraint - 1) {
+            found += 1;
         }
     }
     found
@@ -55,12 +54,10 @@ fn place(buf: &[u8], constraint: u32) -> u32 {
         return constraint;
     }
     let own = rank(buf, constraint);
-    let mut left = constraint;
-    while 0 < left {
-        if rank(buf, left - 1) <= own {
-            return left;
+    for before in (0..constraint).rev() {
+        if rank(buf, before) <= own {
+            return before + 1;
         }
-        left -= 1;
     }
     0
 }
@@ -78,10 +75,8 @@ fn is_repeat(buf: &[u8], constraint: u32, to: u32) -> bool {
 
 // Moves a constraint to an earlier place, and each one from there on by one.
 fn move_down(buf: &mut [u8], constraint: u32, to: u32) {
-    let mut left = constraint;
-    while to < left {
-        swap(buf, left - 1, left);
-        left -= 1;
+    for at in (to..constraint).rev() {
+        swap(buf, at, at + 1);
     }
 }
 
@@ -132,13 +127,8 @@ pub fn add_kind(buf: &mut [u8], kind: u32, owner: u32, own: u32, other: u32, oth
 
 // The same constraint for the own slot and each one below it on the page.
 fn add_lower(buf: &mut [u8], owner: u32, own: u32, other: u32, others: u32) {
-    let mut left = parts::slots(buf);
-    while 0 < left {
-        if left < own {
-            return;
-        }
-        add(buf, owner, left, other, others);
-        left -= 1;
+    for lower in (own.max(1)..=parts::slots(buf)).rev() {
+        add(buf, owner, lower, other, others);
     }
 }
 
@@ -175,41 +165,33 @@ pub fn add_downward(state: &mut u64, buf: &mut [u8], owner: u32) {
 // The owner and another bar each other from every slot.
 fn add_exclusion(state: &mut u64, buf: &mut [u8], owner: u32) {
     let other = another(state, buf, owner);
-    let mut left = parts::slots(buf);
-    while 0 < left {
-        if other == 0 {
-            return;
-        }
-        add(buf, owner, 0, other, left);
-        add(buf, other, 0, owner, left);
-        left -= 1;
+    if other == 0 {
+        return;
+    }
+    for slot in (1..=parts::slots(buf)).rev() {
+        add(buf, owner, 0, other, slot);
+        add(buf, other, 0, owner, slot);
     }
 }
 
 // The owner at the own slot does not bear the other at a slot above it.
 fn add_above_slot(buf: &mut [u8], owner: u32, own: u32, other: u32) {
-    let mut left = own;
-    while 1 < left {
-        left -= 1;
-        add(buf, owner, own, other, left);
+    for above in (1..own).rev() {
+        add(buf, owner, own, other, above);
     }
 }
 
 // The owner stands above the other or one of them has no slot.
 fn add_above(buf: &mut [u8], owner: u32, other: u32) {
-    let mut left = parts::slots(buf);
-    while 0 < left {
-        add_above_slot(buf, owner, left, other);
-        left -= 1;
+    for own in (1..=parts::slots(buf)).rev() {
+        add_above_slot(buf, owner, own, other);
     }
 }
 
 // Each bidder stands above the next.
 fn add_chain(buf: &mut [u8]) {
-    let mut left = parts::bidders(buf);
-    while 1 < left {
-        add_above(buf, left - 1, left);
-        left -= 1;
+    for bidder in (1..parts::bidders(buf)).rev() {
+        add_above(buf, bidder, bidder + 1);
     }
 }
 
@@ -233,24 +215,16 @@ pub fn copy(from: &[u8], to: &mut [u8], constraint: u32) {
 
 // The constraints of another sheet in place of the sheet's own: in their order, or in the order that the version asks for.
 pub fn copy_all(from: &[u8], to: &mut [u8]) {
-    let count = parts::constraints(from);
     parts::set_half(to, parts::CONSTRAINTS, 0);
-    let mut left = count;
-    while 0 < left {
-        if count < left {
-            return;
-        }
-        copy(from, to, count - left);
-        left -= 1;
+    for constraint in 0..parts::constraints(from) {
+        copy(from, to, constraint);
     }
 }
 
 // The first constraints of a list of four bytes each, added to a sheet.
 pub fn add_listed(buf: &mut [u8], list: &[u8], count: u32) {
-    let mut left = count;
-    while 0 < left {
-        left -= 1;
-        add_listed_at(buf, list, 4 * left as usize);
+    for constraint in (0..count).rev() {
+        add_listed_at(buf, list, 4 * constraint as usize);
     }
 }
 
@@ -295,14 +269,12 @@ fn add_some(state: &mut u64, buf: &mut [u8], lists: u32) {
 
 // Constraints until there are as many as aimed at, or more where the last ones belong together.
 pub fn add_lists(state: &mut u64, buf: &mut [u8], lists: u32, aim: u32) {
-    let mut left = aim;
-    while 0 < left {
+    for _ in 0..aim {
         if aim <= parts::constraints(buf) {
             return;
         }
         let kind = kind_of(state, lists);
         add_some(state, buf, kind);
-        left -= 1;
     }
 }
 
@@ -329,11 +301,9 @@ pub fn swap(buf: &mut [u8], first: u32, second: u32) {
 
 // The constraints in a random order.
 pub fn shuffle(state: &mut u64, buf: &mut [u8]) {
-    let mut left = parts::constraints(buf);
-    while 0 < left {
-        left -= 1;
-        let second = number::up_to(state, left);
-        swap(buf, left, second);
+    for first in (0..parts::constraints(buf)).rev() {
+        let second = number::up_to(state, first);
+        swap(buf, first, second);
     }
 }
 

@@ -22,7 +22,7 @@ pub fn up_to(state: &mut u64, most: u32) -> u32
 {
     let drawn = step(*state);
     *state = drawn;
-    remainder(drawn >> 20, most as u64 + 1)
+    remainder(drawn >> 20, u64::from(most) + 1)
 }
 
 // A number below the limit.

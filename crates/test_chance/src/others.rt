@@ -30,10 +30,8 @@ fn copy_of_another(state: &mut u64, honest: &[u8], other: &mut [u8], bidder: u32
 }
 
 fn copy_others(state: &mut u64, honest: &[u8], other: &mut [u8], bidder: u32) {
-    let mut left = parts::constraints(honest);
-    while 0 < left {
-        left -= 1;
-        copy_of_another(state, honest, other, bidder, left);
+    for constraint in (0..parts::constraints(honest)).rev() {
+        copy_of_another(state, honest, other, bidder, constraint);
     }
 }
 

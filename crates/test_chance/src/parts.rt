@@ -21,16 +21,14 @@ pub const TICK_VERSION: u32 = 2;
 
 const TICK_BYTES: usize = 4;
 
-fn wide(value: u8) -> u32
-    ensures { (result ≡ value) × (result < 256) }
-{
-    value as u32
-}
-
 pub fn byte(buf: &[u8], at: usize) -> u32
     ensures { (result ≡ slice_index buf.now at) × (result < 256) }
 {
-    if at < buf.len() { wide(buf[at]) } else { 0 }
+    if at < buf.len() {
+        u32::from(buf[at])
+    } else {
+        0
+    }
 }
 
 // The lowest byte of a number.
@@ -171,22 +169,19 @@ pub fn length(buf: &[u8]) -> usize
     constraint_at(buf, constraints(buf))
 }
 
-// The first bytes of another buffer.
+// The first bytes of another buffer, and zeros past its end.
 pub fn copy(from: &[u8], to: &mut [u8], count: usize) {
-    let mut left = count;
-    while 0 < left {
-        left -= 1;
-        set_byte(to, left, byte(from, left));
-    }
+    let end = count.min(to.len());
+    let both = end.min(from.len());
+    to[..both].copy_from_slice(&from[..both]);
+    to[both..end].fill(0);
 }
 
 // Another sheet's fields of 4 bytes after the header, each where the version of this one has it.
 fn copy_words(from: &[u8], to: &mut [u8], count: u32) {
-    let mut left = count;
-    while 0 < left {
-        left -= 1;
-        let value = word(from, word_at(from, left as usize));
-        let at = word_at(to, left as usize);
+    for index in 0..count as usize {
+        let value = word(from, word_at(from, index));
+        let at = word_at(to, index);
         set_word(to, at, value);
     }
 }
@@ -204,11 +199,7 @@ pub fn rewrite(from: &[u8], to: &mut [u8], version: u32, tick: u32) -> usize
 // A part of a buffer, to be lent; the whole where it is too short.
 pub fn part(space: &[u8], start: u32, bytes: u32) -> &[u8] {
     let from = start as usize;
-    let end = from + bytes as usize;
-    if end <= space.len() {
-        return &space[from..end];
-    }
-    space
+    space.get(from..from + bytes as usize).unwrap_or(space)
 }
 
 // A sheet's length, 0 where there is no room for it.

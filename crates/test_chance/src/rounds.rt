@@ -4,6 +4,7 @@ ghost use Rattle.std.specs.Prelude.{◌*◌, ◌<◌, ◌≤◌};
 use crate::{lists, number, parts};
 
 // Shapes. The first eight are small.
+// Kept: no enum, since the programs draw and count the shapes by number.
 pub const SMALL: u32 = 0;
 
 pub const TIES: u32 = 1;
@@ -166,26 +167,17 @@ fn effects_of(state: &mut u64) -> Effects {
 
 // Lower by so much, and never below 1.
 fn lower(value: u32, fall: u32) -> u32 {
-    if fall < value {
-        return value - fall;
-    }
-    1
+    value.saturating_sub(fall).max(1)
 }
 
 // The effects from the first, each at most `fall` below the one before.
 fn set_effects(state: &mut u64, buf: &mut [u8], first: u32, fall: u32) {
-    let slots = parts::slots(buf);
     let mut effect = first;
-    let mut left = slots;
-    while 0 < left {
-        if slots < left {
-            return;
-        }
-        let at = parts::effect_at(buf, slots - left);
+    for slot in 0..parts::slots(buf) {
+        let at = parts::effect_at(buf, slot);
         parts::set_word(buf, at, effect);
         let by = number::up_to(state, fall);
         effect = lower(effect, by);
-        left -= 1;
     }
 }
 
@@ -211,8 +203,7 @@ fn most_ticks(wanted: u32, tick: u32) -> u32
     requires { 0 < tick }
     ensures { result * tick ≤ 1000000000 }
 {
-    let legal = MAX_BID / tick;
-    if legal < wanted { legal } else { wanted }
+    wanted.min(MAX_BID / tick)
 }
 
 // "Every bid is a multiple of the tick.": 0 as many times in eight as said, once in eight the largest, else any.
@@ -232,11 +223,9 @@ fn bid(state: &mut u64, tick: u32, most: u32, zeros: u32) -> u32
 fn set_bids(state: &mut u64, buf: &mut [u8], tick: u32, most: u32, zeros: u32)
     requires { most * tick ≤ 1000000000 }
 {
-    let mut left = parts::bidders(buf);
-    while 0 < left {
-        left -= 1;
+    for bidder in (0..parts::bidders(buf)).rev() {
         let value = bid(state, tick, most, zeros);
-        let at = parts::bid_at(buf, left);
+        let at = parts::bid_at(buf, bidder);
         parts::set_word(buf, at, value);
     }
 }

@@ -1,5 +1,6 @@
 // The faults that a sheet can have, in the order in which they are checked: document 01's rules 1 to 13, with document 02's rule 1 for
 // version 2, its 26 and its 27 among them and its 28 after them.
+// Kept: no enum, since the programs draw the faults, compare them by order and count through them.
 
 pub const NO_HEADER: u32 = 1;
 

@@ -85,25 +85,15 @@ fn change_tick(state: &mut u64, buf: &mut [u8], length: usize) -> usize {
     let tick = wrong_tick(state);
     parts::set_version(buf, parts::TICK_VERSION, tick);
     let header = parts::effect_at(buf, 0);
-    if length < header { header } else { length }
+    length.max(header)
 }
 
 // The sum, or the first number alone where it is large.
 fn more(length: usize, by: usize) -> usize {
-    if length < parts::ROOM {
-        if by < parts::ROOM {
-            return length + by;
-        }
+    if length < parts::ROOM && by < parts::ROOM {
+        return length + by;
     }
     length
-}
-
-// The difference, or 0 where there is none.
-fn fewer(length: usize, by: usize) -> usize {
-    if length < by {
-        return 0;
-    }
-    length - by
 }
 
 fn is_tick(tick: u32) -> bool {
@@ -120,7 +110,7 @@ fn swap_version(buf: &mut [u8], length: usize) -> usize {
         parts::set_half(buf, parts::VERSION, parts::TICK_VERSION);
         return length;
     }
-    fewer(length, 1)
+    length.saturating_sub(1)
 }
 
 // "7. The length is not 9 + 4 x (m + n + c).", nor 4 more in version 2: a few bytes fewer or more, the header with too few bytes to be a
@@ -129,7 +119,7 @@ fn change_length(state: &mut u64, buf: &mut [u8], length: usize) -> usize {
     let by = number::up_to(state, 3) as usize;
     let drawn = number::up_to(state, 7);
     match drawn {
-        0 | 1 => fewer(length, 1 + by),
+        0 | 1 => length.saturating_sub(1 + by),
         2 | 3 => more(length, 1 + by),
         4 => more(parts::effect_at(buf, 0), by),
         _ => swap_version(buf, length),
@@ -480,10 +470,8 @@ fn put_in_at_times(state: &mut u64, buf: &mut [u8], fault: u32, length: usize) -
 // Some of the faults after this one, the last first, since the header says where the later fields stand.
 fn put_in_later(state: &mut u64, buf: &mut [u8], fault: u32, bytes: usize) -> usize {
     let mut changed = bytes;
-    let mut left = faults::FAULTS;
-    while fault < left {
-        changed = put_in_at_times(state, buf, left, changed);
-        left -= 1;
+    for before in (fault..faults::FAULTS).rev() {
+        changed = put_in_at_times(state, buf, before + 1, changed);
     }
     changed
 }

@@ -1,7 +1,7 @@
 // Lists of floors that are turned away: too short or too long, with a floor above the limit, or both.
 use test_chance::{floor_lists, number};
 
-// Faults.
+// Faults, each by its number.
 pub const LENGTH: u32 = 1;
 
 pub const TOO_HIGH: u32 = 2;
@@ -25,24 +25,15 @@ fn wrong_length(state: &mut u64, length: u32) -> u32 {
     let by = 1 + number::up_to(state, 4);
     match drawn {
         0 => 0,
-        1 => before(length),
+        1 => length.saturating_sub(1),
         2 => after(length, 1),
         _ => after(length, by),
     }
 }
 
-fn before(length: u32) -> u32 {
-    if 0 < length {
-        return length - 1;
-    }
-    0
-}
-
 fn after(length: u32, by: u32) -> u32 {
-    if length <= 16 {
-        if by <= 5 {
-            return length + by;
-        }
+    if length <= 16 && by <= 5 {
+        return length + by;
     }
     length
 }
@@ -62,8 +53,8 @@ fn any_place(state: &mut u64, length: u32) -> u32 {
     let drawn = number::up_to(state, 2);
     match drawn {
         0 => 0,
-        1 => before(length),
-        _ => number::up_to(state, before(length)),
+        1 => length.saturating_sub(1),
+        _ => number::up_to(state, length.saturating_sub(1)),
     }
 }
 

@@ -3,15 +3,13 @@
 // counts say, so a wrong version or count is written last.
 ghost use Rattle.std.specs.Prelude.{◌<◌, ◌≤◌};
 
-use basis::wide;
-
 // Room for the longest sheet here, 13 + 4 x (16 + 64 + 1,025) bytes. The longest that is right has 4,429.
 pub const ROOM: usize = 4608;
 
 // One byte, where the buffer reaches it.
 pub fn set_byte(buf: &mut [u8], at: usize, value: u8) {
-    if at < buf.len() {
-        buf[at] = value;
+    if let Some(byte) = buf.get_mut(at) {
+        *byte = value;
     }
 }
 
@@ -37,16 +35,11 @@ fn set_word(buf: &mut [u8], at: usize, value: u32) {
 }
 
 // The same four bytes `count` times.
-fn set_words(buf: &mut [u8], start: usize, count: u32, value: u32) {
-    let mut at = start;
-    let mut left = count;
-    while 0 < left {
-        if buf.len() <= at {
-            return;
-        }
-        set_word(buf, at, value);
-        at += 4;
-        left -= 1;
+fn set_words(buf: &mut [u8], start: usize, count: usize, value: u32)
+    requires { (start ≤ 1000000) × (count < 65536) }
+{
+    for index in 0..count {
+        set_word(buf, start + 4 * index, value);
     }
 }
 
@@ -84,14 +77,14 @@ pub fn set_tick(buf: &mut [u8], tick: u32) {
 
 // One byte, 0 past the buffer's end.
 fn byte(buf: &[u8], at: usize) -> u8 {
-    if at < buf.len() { buf[at] } else { 0 }
+    buf.get(at).copied().unwrap_or(0)
 }
 
 // A byte of the header: the version's low one at 3, n at 5, m at 6, those of c at 7 and 8.
 fn header(buf: &[u8], at: usize) -> u32
     ensures { result < 256 }
 {
-    wide(byte(buf, at))
+    u32::from(byte(buf, at))
 }
 
 // Where a field of four bytes starts, of those after the header, counted from 1. The header has 9 bytes, and in version 2 the tick's 4 more.
@@ -111,14 +104,14 @@ fn fill(buf: &mut [u8], bidders: u8, slots: u8, constraints: u16, bid: u32) -> u
     set_mark(buf);
     set_bidder_count(buf, bidders);
     set_slot_count(buf, slots);
-    set_constraint_count(buf, constraints as u32);
+    set_constraint_count(buf, u32::from(constraints));
     let effects = start(buf, 1);
-    let bids = effects + 4 * (slots as usize);
-    let rest = bids + 4 * (bidders as usize);
-    set_words(buf, effects, slots as u32, 1000);
-    set_words(buf, bids, bidders as u32, bid);
-    set_words(buf, rest, constraints as u32, 0x0101);
-    rest + 4 * (constraints as usize)
+    let bids = effects + 4 * usize::from(slots);
+    let rest = bids + 4 * usize::from(bidders);
+    set_words(buf, effects, usize::from(slots), 1000);
+    set_words(buf, bids, usize::from(bidders), bid);
+    set_words(buf, rest, usize::from(constraints), 0x0101);
+    rest + 4 * usize::from(constraints)
 }
 
 // A sheet of version 1 that is right where its counts are, and its length. Each bid is 5.
@@ -141,42 +134,34 @@ pub fn base_in_ticks(buf: &mut [u8], tick: u32, bidders: u8, slots: u8, constrai
 pub fn set_effects(buf: &mut [u8], value: u32) {
     let slots = header(buf, 6);
     let at = start(buf, 1);
-    set_words(buf, at, slots, value);
+    set_words(buf, at, slots as usize, value);
 }
 
 // The same, one of them.
 pub fn set_effect(buf: &mut [u8], slot: u8, value: u32) {
-    let at = start(buf, wide(slot));
+    let at = start(buf, u32::from(slot));
     set_word(buf, at, value);
 }
 
 // 4 bytes each: "bid of bidders 1 to n", one of them.
 pub fn set_bid(buf: &mut [u8], bidder: u8, value: u32) {
     let slots = header(buf, 6);
-    let at = start(buf, slots + wide(bidder));
+    let at = start(buf, slots + u32::from(bidder));
     set_word(buf, at, value);
-}
-
-// Four bytes in a row.
-fn set_fields(buf: &mut [u8], at: usize, fields: [u8; 4]) {
-    if at < buf.len() {
-        set_byte(buf, at, fields[0]);
-        set_byte(buf, at + 1, fields[1]);
-        set_byte(buf, at + 2, fields[2]);
-        set_byte(buf, at + 3, fields[3]);
-    }
 }
 
 // 4 bytes each: "condition: owner, own place, other bidder, other's place, one byte each", one of them.
 pub fn set_constraint(buf: &mut [u8], constraint: u16, fields: [u8; 4]) {
     let at = constraint_start(buf, constraint);
-    set_fields(buf, at, fields);
+    for (index, field) in fields.iter().enumerate() {
+        set_byte(buf, at + index, *field);
+    }
 }
 
 fn constraint_start(buf: &[u8], constraint: u16) -> usize
     ensures { result ≤ 280009 }
 {
-    start(buf, header(buf, 6) + header(buf, 5) + constraint as u32)
+    start(buf, header(buf, 6) + header(buf, 5) + u32::from(constraint))
 }
 
 // The four bytes of a constraint.
@@ -206,14 +191,9 @@ fn next_other(owner: u8, other: u8, bidders: u8) -> u8 {
 
 // The next constraint in order of owner, own slot, other and other's slot; the last of all is its own next.
 fn next_constraint(fields: [u8; 4], bidders: u8, slots: u8) -> [u8; 4] {
-    let owner = fields[0];
-    let own = fields[1];
-    let other = fields[2];
-    let others = fields[3];
-    if other != 0 {
-        if others < slots {
-            return [owner, own, other, others + 1];
-        }
+    let [owner, own, other, others] = fields;
+    if other != 0 && others < slots {
+        return [owner, own, other, others + 1];
     }
     let second = next_other(owner, other, bidders);
     if second != 0 {
@@ -229,23 +209,19 @@ fn next_constraint(fields: [u8; 4], bidders: u8, slots: u8) -> [u8; 4] {
 }
 
 // A constraint after the first: the next after the one before.
-fn rise_at(buf: &mut [u8], constraint: u32) {
-    let changed = (constraint % 65536) as u16;
-    if changed < 2 {
-        return;
-    }
-    let bidders = low(header(buf, 5));
-    let slots = low(header(buf, 6));
-    let next = next_constraint(constraint_of(buf, changed - 1), bidders, slots);
-    set_constraint(buf, changed, next);
+fn rise_at(buf: &mut [u8], constraint: u16)
+    requires { 0 < constraint }
+{
+    let bidders = byte(buf, 5);
+    let slots = byte(buf, 6);
+    let next = next_constraint(constraint_of(buf, constraint - 1), bidders, slots);
+    set_constraint(buf, constraint, next);
 }
 
 // The constraints from one on, as many as the header counts: each is the next after the one before.
 pub fn rise(buf: &mut [u8], from: u16) {
-    let count = header(buf, 7) + 256 * header(buf, 8);
-    let mut constraint = from as u32;
-    while constraint <= count {
+    let count = u16::from_le_bytes([byte(buf, 7), byte(buf, 8)]);
+    for constraint in from.max(2)..=count {
         rise_at(buf, constraint);
-        constraint += 1;
     }
 }

@@ -13,7 +13,7 @@ pub fn number(rt: &impl Print, words: &[u8], value: u64) -> io::Result<()> {
 
 // Words and a small number.
 pub fn byte(rt: &impl Print, words: &[u8], value: u8) -> io::Result<()> {
-    number(rt, words, value as u64)
+    number(rt, words, u64::from(value))
 }
 
 // The end of a line: its number.
@@ -24,8 +24,5 @@ pub fn end(rt: &impl Print, value: u64) -> io::Result<()> {
 
 // The first `length` bytes, or all where there are fewer.
 pub fn front(buf: &[u8], length: usize) -> &[u8] {
-    if length <= buf.len() {
-        return &buf[..length];
-    }
-    buf
+    buf.get(..length).unwrap_or(buf)
 }

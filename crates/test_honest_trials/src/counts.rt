@@ -15,7 +15,7 @@ const COUNTS: u32 = 9;
 pub const ROOM: usize = 96;
 
 // Without floors, and with floors that fall from place to place, that rise, that do both, and that are all the same.
-#[derive(Clone, Copy)]
+#[derive(Clone, Copy, PartialEq, Eq)]
 pub enum Floors {
     Without,
     Falling,
@@ -46,55 +46,21 @@ pub enum Count {
     SteppedLess,
 }
 
-fn offset(count: Count) -> u32
-    ensures { result < 9 }
-{
-    match count {
-        Count::All => 0,
-        Count::Placed => 1,
-        Count::Changed => 2,
-        Count::Mixed => 3,
-        Count::Stepped => 4,
-        Count::More => 5,
-        Count::Same => 6,
-        Count::Less => 7,
-        Count::SteppedLess => 8,
-    }
-}
-
-fn sort(floors: Floors) -> u32
-    ensures { result < 5 }
-{
-    match floors {
-        Floors::Without => 0,
-        Floors::Falling => 1,
-        Floors::Rising => 2,
-        Floors::Mixed => 3,
-        Floors::Level => 4,
-    }
-}
-
-pub fn is_floored(floors: Floors) -> bool {
-    sort(floors) != 0
-}
-
 // Where the comparisons with such floors are counted.
 pub fn comparisons(floors: Floors) -> u32 {
-    COMPARISONS + sort(floors)
+    COMPARISONS + floors as u32
 }
 
 // A number for each kind.
 fn number(kind: Kind) -> u32
     ensures { result < 10 }
 {
-    let floors = kind.floors;
-    let first = 2 * sort(floors);
-    if kind.downward { first + 1 } else { first }
+    2 * (kind.floors as u32) + u32::from(kind.downward)
 }
 
 // Where a count stands.
 pub fn place(kind: Kind, count: Count) -> u32 {
-    KINDS + COUNTS * number(kind) + offset(count)
+    KINDS + COUNTS * number(kind) + count as u32
 }
 
 fn count_line(
@@ -108,8 +74,7 @@ fn count_line(
 }
 
 fn change_line(rt: &impl Print, tally: &[u64], kind: Kind) -> io::Result<()> {
-    let floors = kind.floors;
-    if is_floored(floors) {
+    if kind.floors != Floors::Without {
         count_line(
             rt,
             tally,
@@ -171,11 +136,11 @@ fn lines(rt: &impl Print, tally: &[u64], kind: Kind) -> io::Result<()> {
 // The comparisons with such floors.
 fn report_with(rt: &impl Print, tally: &[u64], words: &[u8], floors: Floors) -> io::Result<()> {
     let other = Kind {
-        floors: floors,
+        floors,
         downward: false,
     };
     let downward = Kind {
-        floors: floors,
+        floors,
         downward: true,
     };
     test_tally::count_line(rt, tally, words, comparisons(floors))?;

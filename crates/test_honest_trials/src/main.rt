@@ -13,10 +13,8 @@ const SEED: u64 = 2463534242862342531;
 
 // Comparisons on rounds of a shape.
 fn comparisons(state: &mut u64, tally: &mut [u64], shape: u32, times: u32) {
-    let mut left = times;
-    while 0 < left {
+    for _ in 0..times {
         compare::one(state, tally, shape);
-        left -= 1;
     }
 }
 
@@ -37,9 +35,8 @@ fn list_shapes(state: &mut u64, tally: &mut [u64]) {
 
 fn main(rt: HostRuntime) -> io::Result<()> {
     let mut state = SEED;
-    let mut numbers = [0u64; counts::ROOM];
-    let tally: &mut [u64] = &mut numbers;
-    plain_shapes(&mut state, tally);
-    list_shapes(&mut state, tally);
-    counts::report(&rt, tally)
+    let mut tally = [0u64; counts::ROOM];
+    plain_shapes(&mut state, &mut tally);
+    list_shapes(&mut state, &mut tally);
+    counts::report(&rt, &tally)
 }

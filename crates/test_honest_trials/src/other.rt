@@ -3,37 +3,15 @@ use test_chance::{lists, number, others, parts};
 
 // A constraint of the bidder's own, two times in three.
 fn keep_own(state: &mut u64, honest: &[u8], other: &mut [u8], bidder: u32, constraint: u32) {
-    if parts::field(honest, constraint, 0) != bidder {
-        return;
+    if parts::field(honest, constraint, 0) == bidder && !number::once_in(state, 3) {
+        lists::copy(honest, other, constraint);
     }
-    if number::once_in(state, 3) {
-        return;
-    }
-    lists::copy(honest, other, constraint);
 }
 
 // Some of the bidder's true list.
 fn keep_some(state: &mut u64, honest: &[u8], other: &mut [u8], bidder: u32) {
-    let mut left = parts::constraints(honest);
-    while 0 < left {
-        left -= 1;
-        keep_own(state, honest, other, bidder, left);
-    }
-}
-
-fn add_downward(state: &mut u64, other: &mut [u8], bidder: u32, times: u32) {
-    let mut left = times;
-    while 0 < left {
-        lists::add_downward(state, other, bidder);
-        left -= 1;
-    }
-}
-
-fn add_any(state: &mut u64, other: &mut [u8], bidder: u32, times: u32) {
-    let mut left = times;
-    while 0 < left {
-        lists::add_any(state, other, bidder);
-        left -= 1;
+    for constraint in (0..parts::constraints(honest)).rev() {
+        keep_own(state, honest, other, bidder, constraint);
     }
 }
 
@@ -43,8 +21,16 @@ fn add_list(state: &mut u64, honest: &[u8], other: &mut [u8], bidder: u32) {
     let drawn = number::up_to(state, 7);
     match drawn {
         0 => {}
-        1 | 2 | 3 | 4 => add_downward(state, other, bidder, times),
-        5 | 6 => add_any(state, other, bidder, times),
+        1..=4 => {
+            for _ in 0..times {
+                lists::add_downward(state, other, bidder);
+            }
+        }
+        5 | 6 => {
+            for _ in 0..times {
+                lists::add_any(state, other, bidder);
+            }
+        }
         _ => keep_some(state, honest, other, bidder),
     }
 }

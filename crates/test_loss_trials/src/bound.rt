@@ -10,28 +10,25 @@ const PAGE: usize = 80;
 
 // The total of the page that is played, 0 for a sheet that is refused.
 fn played(sheet: &[u8]) -> u64 {
-    let mut space = [0u8; PAGE];
-    let page: &mut [u8] = &mut space;
-    pas::pas_play(sheet, page);
-    pages::total(sheet, page, 0, true)
+    let mut page = [0u8; PAGE];
+    pas::pas_play(sheet, &mut page);
+    pages::total(sheet, &page, 0, true)
 }
 
 // The largest total of all pages, be conditions broken or not: with no condition the highest bids are played in their order, and effects do not rise.
 fn largest(sheet: &[u8]) -> u64 {
-    let mut space = [0u8; parts::ROOM];
-    let free: &mut [u8] = &mut space;
-    parts::copy(sheet, free, sheet.len());
-    parts::set_half(free, parts::CONSTRAINTS, 0);
-    let bytes = parts::size(parts::length(free));
-    played(parts::part(free, 0, bytes))
+    let mut free = [0u8; parts::ROOM];
+    parts::copy(sheet, &mut free, sheet.len());
+    parts::set_half(&mut free, parts::CONSTRAINTS, 0);
+    let bytes = parts::size(parts::length(&free));
+    played(parts::part(&free, 0, bytes))
 }
 
 // The total of the best page, 0 where n or m is too large for it to be sought.
 fn best(sheet: &[u8]) -> u64 {
-    let mut space = [0u8; PAGE];
-    let page: &mut [u8] = &mut space;
+    let mut page = [0u8; PAGE];
     let mut total: u64 = 0;
-    pas::pas_best(sheet, page, &mut total);
+    pas::pas_best(sheet, &mut page, &mut total);
     total
 }
 
@@ -40,15 +37,15 @@ fn reaches(times: u32, played: u64, total: u64) -> bool {
     if times == 0 {
         return total == 0;
     }
-    let whole = total / times as u64;
-    let rest = total % times as u64;
-    (whole < played) | ((whole == played) & (rest == 0))
+    let whole = total / u64::from(times);
+    let rest = total % u64::from(times);
+    whole < played || (whole == played && rest == 0)
 }
 
 // Of a factor above 1 it is counted where the promise is met exactly, and where one less would not keep it.
 fn note_sharp(tally: &mut [u64], factor: u32, played: u64, total: u64, first: u32) {
-    let exact = !reaches(factor, played, std::num::wrapping_add_u64(total, 1));
-    let needed = !reaches(std::num::wrapping_sub_u32(factor, 1), played, total);
+    let exact = !reaches(factor, played, total.wrapping_add(1));
+    let needed = !reaches(factor.wrapping_sub(1), played, total);
     let can_lose = (1 < factor) & (0 < total);
     test_tally::add_if(tally, can_lose & exact, counts::after(first, 1));
     test_tally::add_if(tally, can_lose & needed, counts::after(first, 2));

@@ -2,7 +2,7 @@
 use crate::{bound, counts};
 use std::io;
 use test_both_engines::counts::hold;
-use test_rival_sheets::plain;
+use test_rival_sheets::{Kind, plain};
 
 // What the factor's memory and the memory beside it hold before a call. No factor is so large.
 const MARK: u32 = 173;
@@ -17,11 +17,11 @@ fn factor_due(sheet: &[u8], number: u32) -> u32 {
 
 // Whether the memory holds the factor, and beside it what it held.
 fn has_factor(lent: [u32; 3], factor: u32) -> bool {
-    (lent[0] == MARK) & (lent[1] == factor) & (lent[2] == MARK)
+    lent == [MARK, factor, MARK]
 }
 
 // The number, the factor and the memory beside it.
-pub fn both(rt: &impl Print, tally: &mut [u64], sheet: &[u8], kind: u32) -> io::Result<()> {
+pub fn both(rt: &impl Print, tally: &mut [u64], sheet: &[u8], kind: Kind) -> io::Result<()> {
     let mut lent = [MARK; 3];
     let number = pas::pas_loss_bound(sheet, &mut lent[1]);
     let due = test_plain::check(sheet);
@@ -36,12 +36,12 @@ fn note(
     rt: &impl Print,
     tally: &mut [u64],
     sheet: &[u8],
-    kind: u32,
+    kind: Kind,
     number: u32,
     factor: u32,
 ) -> io::Result<()> {
     counts::note(tally, kind, number, factor);
-    if (number == 0) & (factor != 0) {
+    if number == 0 && factor != 0 {
         bound::hold_promise(rt, tally, sheet, factor)?;
     }
     Ok(())

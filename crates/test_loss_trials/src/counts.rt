@@ -1,6 +1,7 @@
 // What is counted, and the lines that the program writes. Differences and rounds have the places that `test_both_engines` gives them, after these.
 use std::io;
 use test_both_engines::counts;
+use test_rival_sheets::Kind;
 
 // The calls by the number that they returned, 0 to 31, come first.
 const LAST_NUMBER: u32 = 31;
@@ -24,15 +25,15 @@ pub const BEST_PAGES: u32 = 163;
 pub const ROOM: usize = counts::ROOM;
 
 pub fn after(first: u32, by: u32) -> u32 {
-    std::num::wrapping_add_u32(first, by)
+    first.wrapping_add(by)
 }
 
 // A call, by its number, the kind of its sheet and, where it is not refused, its factor.
-pub fn note(tally: &mut [u64], kind: u32, number: u32, factor: u32) {
+pub fn note(tally: &mut [u64], kind: Kind, number: u32, factor: u32) {
     let accepted = number == 0;
     test_tally::add_if(tally, number <= LAST_NUMBER, number);
-    test_tally::add(tally, after(SHEETS, kind));
-    test_tally::add_if(tally, accepted & (0 < factor), after(WITH_FACTOR, kind));
+    test_tally::add(tally, SHEETS + kind as u32);
+    test_tally::add_if(tally, accepted && 0 < factor, WITH_FACTOR + kind as u32);
     test_tally::add_if(tally, accepted, after(FACTORS, factor));
 }
 
@@ -49,7 +50,7 @@ fn numbered_line(
         return Ok(());
     }
     test_tally::text(rt, words)?;
-    test_tally::number(rt, number as u64)?;
+    test_tally::number(rt, u64::from(number))?;
     test_tally::line(rt, b"", count)
 }
 
@@ -61,57 +62,45 @@ fn numbered_lines(
     first: u32,
     last: u32,
 ) -> io::Result<()> {
-    let mut number: u32 = 0;
-    while number < last {
-        number += 1;
+    for number in 1..=last {
         numbered_line(rt, tally, words, first, number)?;
     }
     Ok(())
 }
 
-fn kind_lines(rt: &impl Print, tally: &[u64], words: &[u8], kind: u32) -> io::Result<()> {
-    test_tally::count_line(rt, tally, words, after(SHEETS, kind))?;
+fn kind_lines(rt: &impl Print, tally: &[u64], words: &[u8], kind: Kind) -> io::Result<()> {
+    test_tally::count_line(rt, tally, words, SHEETS + kind as u32)?;
     test_tally::count_line(
         rt,
         tally,
         b"of these, with a factor",
-        after(WITH_FACTOR, kind),
+        WITH_FACTOR + kind as u32,
     )
 }
 
 fn sheet_lines(rt: &impl Print, tally: &[u64]) -> io::Result<()> {
-    kind_lines(
-        rt,
-        tally,
-        b"lists of the profile",
-        test_rival_sheets::PROFILE,
-    )?;
+    kind_lines(rt, tally, b"lists of the profile", Kind::Profile)?;
     kind_lines(
         rt,
         tally,
         b"the same in any order, with repeats",
-        test_rival_sheets::REPEATED,
+        Kind::Repeated,
     )?;
-    kind_lines(
-        rt,
-        tally,
-        b"one condition missing",
-        test_rival_sheets::MISSING,
-    )?;
+    kind_lines(rt, tally, b"one condition missing", Kind::Missing)?;
     kind_lines(
         rt,
         tally,
         b"one condition missing, another in its place",
-        test_rival_sheets::EXCHANGED,
+        Kind::Exchanged,
     )?;
     kind_lines(
         rt,
         tally,
         b"one condition foreign to the profile",
-        test_rival_sheets::FOREIGN,
+        Kind::Foreign,
     )?;
-    kind_lines(rt, tally, b"any lists", test_rival_sheets::ANY)?;
-    kind_lines(rt, tally, b"with a fault", test_rival_sheets::DAMAGED)
+    kind_lines(rt, tally, b"any lists", Kind::Any)?;
+    kind_lines(rt, tally, b"with a fault", Kind::Damaged)
 }
 
 fn promise_lines(rt: &impl Print, tally: &[u64], words: &[u8], first: u32) -> io::Result<()> {

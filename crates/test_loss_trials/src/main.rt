@@ -11,6 +11,7 @@ mod counts;
 use std::io;
 use test_both_engines::counts::ROUNDS;
 use test_chance::{parts, rounds};
+use test_rival_sheets::{KINDS, Kind};
 
 const SEED: u64 = 2685821657736338717;
 
@@ -20,16 +21,15 @@ fn round(
     state: &mut u64,
     tally: &mut [u64],
     shape: u32,
-    kind: u32,
+    kind: Kind,
 ) -> io::Result<()> {
-    let mut space = [0u8; parts::ROOM];
-    let buffer: &mut [u8] = &mut space;
-    let bytes = parts::size(test_rival_sheets::make(state, shape, kind, buffer));
+    let mut buffer = [0u8; parts::ROOM];
+    let bytes = parts::size(test_rival_sheets::make(state, shape, kind, &mut buffer));
     test_tally::add(tally, ROUNDS);
-    compare::both(rt, tally, parts::part(buffer, 0, bytes), kind)
+    compare::both(rt, tally, parts::part(&buffer, 0, bytes), kind)
 }
 
-// Sheets of a shape, the kinds in turn.
+// So many sheets of a shape of each kind, the kinds in turn, the last first.
 fn play_rounds(
     rt: &impl Print,
     state: &mut u64,
@@ -37,24 +37,23 @@ fn play_rounds(
     shape: u32,
     times: u32,
 ) -> io::Result<()> {
-    let mut left = times;
-    while 0 < left {
-        left -= 1;
-        round(rt, state, tally, shape, left % test_rival_sheets::KINDS)?;
+    for _ in 0..times {
+        for kind in KINDS.iter().rev() {
+            round(rt, state, tally, shape, *kind)?;
+        }
     }
     Ok(())
 }
 
 fn main(rt: HostRuntime) -> io::Result<()> {
     let mut state = SEED;
-    let mut numbers = [0u64; counts::ROOM];
-    let tally: &mut [u64] = &mut numbers;
-    play_rounds(&rt, &mut state, tally, rounds::SMALL, 14000)?;
-    play_rounds(&rt, &mut state, tally, rounds::TIES, 14000)?;
-    play_rounds(&rt, &mut state, tally, rounds::MORE_SLOTS, 7000)?;
-    play_rounds(&rt, &mut state, tally, rounds::EIGHT, 2800)?;
-    play_rounds(&rt, &mut state, tally, rounds::MIDDLE, 700)?;
-    play_rounds(&rt, &mut state, tally, rounds::LARGE, 700)?;
-    play_rounds(&rt, &mut state, tally, rounds::LARGEST, 70)?;
-    counts::report(&rt, tally)
+    let mut tally = [0u64; counts::ROOM];
+    play_rounds(&rt, &mut state, &mut tally, rounds::SMALL, 2000)?;
+    play_rounds(&rt, &mut state, &mut tally, rounds::TIES, 2000)?;
+    play_rounds(&rt, &mut state, &mut tally, rounds::MORE_SLOTS, 1000)?;
+    play_rounds(&rt, &mut state, &mut tally, rounds::EIGHT, 400)?;
+    play_rounds(&rt, &mut state, &mut tally, rounds::MIDDLE, 100)?;
+    play_rounds(&rt, &mut state, &mut tally, rounds::LARGE, 100)?;
+    play_rounds(&rt, &mut state, &mut tally, rounds::LARGEST, 10)?;
+    counts::report(&rt, &tally)
 }

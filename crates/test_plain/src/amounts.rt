@@ -5,12 +5,6 @@ ghost use Rattle.std.specs.Prelude.{◌≤◌};
 
 use crate::{fields, page, round};
 
-fn at_most(value: u32, limit: u32) -> u32
-    ensures { result ≤ limit }
-{
-    if limit < value { limit } else { value }
-}
-
 // A product of two numbers of which one is large.
 pub fn product(large: u64, small: u64) -> u64
     requires { (large ≤ 1000000000) × (small ≤ 1000000) }
@@ -24,8 +18,8 @@ fn over_clicks(amount: u32, effect: u32) -> u64
     ensures { result ≤ 1000000000000000 }
 {
     product(
-        at_most(amount, fields::MAX_BID) as u64,
-        at_most(effect, fields::MAX_EFFECT) as u64,
+        u64::from(amount.min(fields::MAX_BID)),
+        u64::from(effect.min(fields::MAX_EFFECT)),
     )
 }
 
@@ -41,11 +35,8 @@ fn added(sheet: &[u8], filled: [u8; 16], slot: u8) -> u64
 
 // "A page's total is the sum of bid × effect over filled places."
 pub fn total(sheet: &[u8], filled: [u8; 16]) -> u64 {
-    let slots = fields::slot_count(sheet);
     let mut sum: u64 = 0;
-    let mut slot: u8 = 0;
-    while slot < slots {
-        slot += 1;
+    for slot in 1..=fields::slot_count(sheet) {
         sum += added(sheet, filled, slot);
     }
     sum

@@ -37,19 +37,6 @@ pub const OTHER: usize = 2;
 
 pub const OTHER_SLOT: usize = 3;
 
-// A byte as an index, and as a digit of a larger number.
-pub fn wide(x: u8) -> usize
-    ensures { (result ≡ x) × (result < 256) }
-{
-    x as usize
-}
-
-fn digit(x: u8) -> u32
-    ensures { result < 256 }
-{
-    x as u32
-}
-
 pub fn byte(sheet: &[u8], at: usize) -> u8 {
     if at < sheet.len() { sheet[at] } else { 0 }
 }
@@ -61,7 +48,7 @@ fn half(sheet: &[u8], at: usize) -> u32
     if sheet.len() <= at {
         return 0;
     }
-    digit(byte(sheet, at)) + 256 * digit(byte(sheet, at + 1))
+    u32::from(byte(sheet, at)) + 256 * u32::from(byte(sheet, at + 1))
 }
 
 // Four bytes, "low byte first".
@@ -115,7 +102,9 @@ pub fn tick(sheet: &[u8]) -> u32 {
 // "Length is exactly 9 + 4 × (m + n + c)", and 4 more in version 2.
 pub fn length(sheet: &[u8]) -> usize {
     header(sheet)
-        + 4 * (wide(slot_count(sheet)) + wide(bidder_count(sheet)) + constraint_count(sheet))
+        + 4 * (usize::from(slot_count(sheet))
+            + usize::from(bidder_count(sheet))
+            + constraint_count(sheet))
 }
 
 // The effect of a slot ("place"), counted from 1.
@@ -123,7 +112,7 @@ pub fn effect(sheet: &[u8], slot: u8) -> u32 {
     if slot == 0 {
         return 0;
     }
-    word(sheet, header(sheet) + 4 * (wide(slot) - 1))
+    word(sheet, header(sheet) + 4 * (usize::from(slot) - 1))
 }
 
 // The bid of a bidder, counted from 1.
@@ -133,7 +122,7 @@ pub fn bid(sheet: &[u8], bidder: u8) -> u32 {
     }
     word(
         sheet,
-        header(sheet) + 4 * (wide(slot_count(sheet)) + wide(bidder) - 1),
+        header(sheet) + 4 * (usize::from(slot_count(sheet)) + usize::from(bidder) - 1),
     )
 }
 
@@ -142,7 +131,7 @@ pub fn floor(floors: &[u32], slot: u8) -> u32 {
     if slot == 0 {
         return 0;
     }
-    let at = wide(slot) - 1;
+    let at = usize::from(slot) - 1;
     if at < floors.len() { floors[at] } else { 0 }
 }
 
@@ -150,7 +139,7 @@ pub fn floor(floors: &[u32], slot: u8) -> u32 {
 pub fn before_constraint(sheet: &[u8], index: usize) -> usize
     requires { index < 65536 }
 {
-    header(sheet) + 4 * (wide(slot_count(sheet)) + wide(bidder_count(sheet)) + index)
+    header(sheet) + 4 * (usize::from(slot_count(sheet)) + usize::from(bidder_count(sheet)) + index)
 }
 
 // The bytes of all constraints, four for each; of a sheet that is shorter than its counts say, those that it has.
@@ -174,7 +163,7 @@ pub fn constraint(sheet: &[u8], index: usize) -> [u8; 4] {
     }
     four(
         sheet,
-        wide(slot_count(sheet)) + wide(bidder_count(sheet)) + index,
+        usize::from(slot_count(sheet)) + usize::from(bidder_count(sheet)) + index,
     )
 }
 

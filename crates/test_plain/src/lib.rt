@@ -6,6 +6,8 @@
 // 13 and 26 to 28, and with a list of floors then 30 and 31.
 #![tactic(auto)]
 
+ghost use Rattle.std.specs.Prelude.{◌<◌};
+
 mod amounts;
 mod fields;
 mod list;
@@ -23,23 +25,36 @@ const MAX_SEARCHED: u8 = 8;
 // "Playing writes 5 bytes a place to the result buffer"
 const BYTES_PER_SLOT: usize = 5;
 
+// What a call returns: 0, or the number of the rule that it breaks.
+fn number(outcome: Result<(), u32>) -> u32 {
+    outcome.err().unwrap_or(0)
+}
+
 // A sheet's rules.
 pub fn check(sheet: &[u8]) -> u32 {
-    rules::first_broken(sheet)
+    number(rules::sheet_rule(sheet))
 }
 
-// "Turned away: after 28 and before 14": a sheet's rules, 30 and 31.
-fn check_with(sheet: &[u8], floors: &[u32]) -> u32 {
-    let refusal = check(sheet);
-    if refusal != 0 {
-        return refusal;
+// "Turned away: after 28 and before 14": a sheet's rules, and with floors 30 and 31.
+fn round_rule(sheet: &[u8], floors: Option<&[u32]>) -> Result<(), u32> {
+    rules::sheet_rule(sheet)?;
+    match floors {
+        Some(list) => rules::floors_rule(sheet, list),
+        None => Ok(()),
     }
-    rules::floors_rule(sheet, floors)
 }
 
-fn set_byte(res: &mut [u8], at: usize, value: u32) {
+fn set_byte(res: &mut [u8], at: usize, value: u8) {
     if at < res.len() {
-        res[at] = (value % 256) as u8;
+        res[at] = value;
+    }
+}
+
+fn set_four(res: &mut [u8], at: usize, bytes: [u8; 4])
+    requires { at < 1000000 }
+{
+    for (index, byte) in bytes.iter().enumerate() {
+        set_byte(res, at + index, *byte);
     }
 }
 
@@ -48,59 +63,47 @@ fn write_slot(res: &mut [u8], slot: u8, bidder: u8, price: u32) {
     if slot == 0 {
         return;
     }
-    let at = BYTES_PER_SLOT * (fields::wide(slot) - 1);
-    set_byte(res, at, bidder as u32);
-    set_byte(res, at + 1, price);
-    set_byte(res, at + 2, price / 256);
-    set_byte(res, at + 3, price / 65536);
-    set_byte(res, at + 4, price / 16777216);
+    let at = BYTES_PER_SLOT * (usize::from(slot) - 1);
+    set_byte(res, at, bidder);
+    set_four(res, at + 1, price.to_le_bytes());
 }
 
 // The page, with a price for each slot.
 fn write_page(res: &mut [u8], sheet: &[u8], floors: &[u32], bids: [u32; 64], filled: [u8; 16]) {
-    let slots = fields::slot_count(sheet);
-    let mut slot: u8 = 0;
-    while slot < slots {
-        slot += 1;
+    for slot in 1..=fields::slot_count(sheet) {
         let bidder = page::at(filled, slot);
         let price = round::price(sheet, floors, bids, bidder, slot);
         write_slot(res, slot, bidder, price);
     }
 }
 
-// 19; or the page and its prices.
-fn play_right(sheet: &[u8], floors: &[u32], res: &mut [u8]) -> u32 {
+// A round's rules and 19; or the page and its prices.
+fn play_round(sheet: &[u8], floors: Option<&[u32]>, res: &mut [u8]) -> Result<(), u32> {
+    round_rule(sheet, floors)?;
     let slots = fields::slot_count(sheet);
-    if res.len() < BYTES_PER_SLOT * fields::wide(slots) {
-        return 19;
+    if res.len() < BYTES_PER_SLOT * usize::from(slots) {
+        return Err(19);
     }
+    let floors = floors.unwrap_or(&[]);
     let bids = round::bids(sheet);
     let filled = round::fill(sheet, floors, bids, slots);
     write_page(res, sheet, floors, bids, filled);
-    0
+    Ok(())
 }
 
 // A sheet's rules and 19; or the page and its prices.
 pub fn play(sheet: &[u8], res: &mut [u8]) -> u32 {
-    let refusal = check(sheet);
-    if refusal != 0 {
-        return refusal;
-    }
-    play_right(sheet, &[], res)
+    number(play_round(sheet, None, res))
 }
 
 // The same with floors.
 pub fn play_floors(sheet: &[u8], floors: &[u32], res: &mut [u8]) -> u32 {
-    let refusal = check_with(sheet, floors);
-    if refusal != 0 {
-        return refusal;
-    }
-    play_right(sheet, floors, res)
+    number(play_round(sheet, Some(floors), res))
 }
 
 // "The bidder named in the call is 0 or above n."
 fn is_bad_bidder(sheet: &[u8], bidder: u32) -> bool {
-    bidder == 0 || (fields::bidder_count(sheet) as u32) < bidder
+    bidder == 0 || u32::from(fields::bidder_count(sheet)) < bidder
 }
 
 // A bidder's number as a page has it.
@@ -108,21 +111,24 @@ fn narrow(bidder: u32) -> u8 {
     (bidder % 256) as u8
 }
 
+// A sheet's rules and 16; or whether the bidder's list is downward monotonic.
+fn list_answer(sheet: &[u8], bidder: u32) -> Result<bool, u32> {
+    rules::sheet_rule(sheet)?;
+    if is_bad_bidder(sheet, bidder) {
+        return Err(16);
+    }
+    Ok(list::is_downward(sheet, narrow(bidder)))
+}
+
 // A sheet's rules and 16; or 1 in the answer where the bidder's list is downward monotonic, and 0 where it is not.
 pub fn downward(sheet: &[u8], bidder: u32, answer: &mut u8) -> u32 {
-    let refusal = check(sheet);
-    if refusal != 0 {
-        return refusal;
+    match list_answer(sheet, bidder) {
+        Ok(is_downward) => {
+            *answer = u8::from(is_downward);
+            0
+        }
+        Err(rule) => rule,
     }
-    if is_bad_bidder(sheet, bidder) {
-        return 16;
-    }
-    if list::is_downward(sheet, narrow(bidder)) {
-        *answer = 1;
-    } else {
-        *answer = 0;
-    }
-    0
 }
 
 // "The truth sheet has another n or m."
@@ -132,46 +138,40 @@ fn has_another_size(played: &[u8], truth: &[u8]) -> bool {
 }
 
 // Rules 14 to 17.
-fn gain_rule(played: &[u8], truth: &[u8], bidder: u32, worth: u32) -> u32 {
-    if check(truth) != 0 {
-        return 14;
+fn gain_rule(played: &[u8], truth: &[u8], bidder: u32, worth: u32) -> Result<(), u32> {
+    if rules::sheet_rule(truth).is_err() {
+        return Err(14);
     }
     if has_another_size(played, truth) {
-        return 15;
+        return Err(15);
     }
     if is_bad_bidder(played, bidder) {
-        return 16;
+        return Err(16);
     }
     if MAX_WORTH < worth {
-        return 17;
+        return Err(17);
     }
-    0
+    Ok(())
 }
 
-// 14 to 17; or the bidder's gain from the played sheet, by its constraints in the truth sheet.
-fn gain_right(
+// A round's rules and 14 to 17; or the bidder's gain from the played sheet, by its constraints in the truth sheet.
+fn gain_in(
     played: &[u8],
-    floors: &[u32],
+    floors: Option<&[u32]>,
     truth: &[u8],
     bidder: u32,
     worth: u32,
     gain: &mut i64,
-) -> u32 {
-    let refusal = gain_rule(played, truth, bidder, worth);
-    if refusal != 0 {
-        return refusal;
-    }
-    *gain = amounts::gain(played, floors, truth, narrow(bidder), worth);
-    0
+) -> Result<(), u32> {
+    round_rule(played, floors)?;
+    gain_rule(played, truth, bidder, worth)?;
+    *gain = amounts::gain(played, floors.unwrap_or(&[]), truth, narrow(bidder), worth);
+    Ok(())
 }
 
 // A sheet's rules and 14 to 17; or the bidder's gain from the played sheet, by its constraints in the truth sheet.
 pub fn gain(played: &[u8], truth: &[u8], bidder: u32, worth: u32, gain: &mut i64) -> u32 {
-    let refusal = check(played);
-    if refusal != 0 {
-        return refusal;
-    }
-    gain_right(played, &[], truth, bidder, worth, gain)
+    number(gain_in(played, None, truth, bidder, worth, gain))
 }
 
 // The same with floors under the played sheet's slots.
@@ -183,102 +183,92 @@ pub fn gain_floors(
     worth: u32,
     gain: &mut i64,
 ) -> u32 {
-    let refusal = check_with(played, floors);
-    if refusal != 0 {
-        return refusal;
-    }
-    gain_right(played, floors, truth, bidder, worth, gain)
+    number(gain_in(played, Some(floors), truth, bidder, worth, gain))
 }
 
 fn write_bidders(res: &mut [u8], filled: [u8; 16], slots: u8) {
-    let mut slot: u8 = 0;
-    while slot < slots {
-        let bidder = page::at(filled, slot + 1);
-        set_byte(res, fields::wide(slot), bidder as u32);
-        slot += 1;
+    for slot in 0..slots {
+        set_byte(res, usize::from(slot), page::at(filled, slot + 1));
     }
 }
 
 // Rules 18 and 19.
-fn best_rule(sheet: &[u8], room: usize) -> u32 {
+fn best_rule(sheet: &[u8], room: usize) -> Result<(), u32> {
     let slots = fields::slot_count(sheet);
     if MAX_SEARCHED < fields::bidder_count(sheet) || MAX_SEARCHED < slots {
-        return 18;
+        return Err(18);
     }
-    if room < fields::wide(slots) {
-        return 19;
+    if room < usize::from(slots) {
+        return Err(19);
     }
-    0
+    Ok(())
 }
 
-// 18 and 19; or the best page's bidder numbers, a byte a slot, and its total.
-fn best_right(sheet: &[u8], floors: &[u32], res: &mut [u8], total: &mut u64) -> u32 {
-    let refusal = best_rule(sheet, res.len());
-    if refusal != 0 {
-        return refusal;
-    }
-    let choice = search::best(sheet, floors);
-    let filled = choice.page;
-    write_bidders(res, filled, fields::slot_count(sheet));
+// A round's rules, 18 and 19; or the best page's bidder numbers, a byte a slot, and its total.
+fn best_in(
+    sheet: &[u8],
+    floors: Option<&[u32]>,
+    res: &mut [u8],
+    total: &mut u64,
+) -> Result<(), u32> {
+    round_rule(sheet, floors)?;
+    best_rule(sheet, res.len())?;
+    let choice = search::best(sheet, floors.unwrap_or(&[]));
+    write_bidders(res, choice.page, fields::slot_count(sheet));
     *total = choice.total;
-    0
+    Ok(())
 }
 
 // A sheet's rules, 18 and 19; or the best page's bidder numbers, a byte a slot, and its total.
 pub fn best(sheet: &[u8], res: &mut [u8], total: &mut u64) -> u32 {
-    let refusal = check(sheet);
-    if refusal != 0 {
-        return refusal;
-    }
-    best_right(sheet, &[], res, total)
+    number(best_in(sheet, None, res, total))
 }
 
 // The same with floors.
 pub fn best_floors(sheet: &[u8], floors: &[u32], res: &mut [u8], total: &mut u64) -> u32 {
-    let refusal = check_with(sheet, floors);
-    if refusal != 0 {
-        return refusal;
-    }
-    best_right(sheet, floors, res, total)
+    number(best_in(sheet, Some(floors), res, total))
 }
 
 // A sheet's rules, "29 where either call gets a version 1 sheet that is otherwise accepted, before 16", and 16.
-fn owner_part_rule(sheet: &[u8], bidder: u32) -> u32 {
-    let refusal = check(sheet);
-    if refusal != 0 {
-        return refusal;
-    }
+fn owner_part_rule(sheet: &[u8], bidder: u32) -> Result<(), u32> {
+    rules::sheet_rule(sheet)?;
     if fields::version(sheet) == fields::FIRST_VERSION {
-        return 29;
+        return Err(29);
     }
     if is_bad_bidder(sheet, bidder) {
-        return 16;
+        return Err(16);
     }
-    0
+    Ok(())
 }
 
 // A sheet's rules, 29 and 16; or where the part of the sheet with the bidder's constraints starts, and its length.
 pub fn owner_part(sheet: &[u8], bidder: u32, start: &mut usize, length: &mut usize) -> u32 {
-    let refusal = owner_part_rule(sheet, bidder);
-    if refusal != 0 {
-        return refusal;
+    let rule = owner_part_rule(sheet, bidder);
+    if rule.is_ok() {
+        *start = owner::start(sheet, narrow(bidder));
+        *length = owner::length(sheet, narrow(bidder));
     }
-    *start = owner::start(sheet, narrow(bidder));
-    *length = owner::length(sheet, narrow(bidder));
-    0
+    number(rule)
+}
+
+// A sheet's rules and 19; or the one sheet for the round at the front of the buffer, and its length.
+fn write_canonical(sheet: &[u8], res: &mut [u8]) -> Result<usize, u32> {
+    rules::sheet_rule(sheet)?;
+    let length = writer::length(sheet);
+    if res.len() < length {
+        return Err(19);
+    }
+    writer::write(res, sheet);
+    Ok(length)
 }
 
 // A sheet's rules and 19; or the one sheet for the round at the front of the buffer, and its length.
 pub fn canonical(sheet: &[u8], res: &mut [u8], written: &mut usize) -> u32 {
-    let refusal = check(sheet);
-    if refusal != 0 {
-        return refusal;
+    match write_canonical(sheet, res) {
+        Ok(length) => {
+            *written = length;
+            0
+        }
+        Err(rule) => rule,
     }
-    let length = writer::length(sheet);
-    if res.len() < length {
-        return 19;
-    }
-    writer::write(res, sheet);
-    *written = length;
-    0
 }

@@ -2,18 +2,16 @@
 // whole sheet.
 use crate::fields;
 
+// Kept: == and < of the arrays, here and in `rules::is_above`, were tried and are slower.
 pub fn is_same(one: [u8; 4], two: [u8; 4]) -> bool {
     one[0] == two[0] && one[1] == two[1] && one[2] == two[2] && one[3] == two[3]
 }
 
 fn lists(sheet: &[u8], constraint: [u8; 4]) -> bool {
-    let count = fields::constraint_count(sheet);
-    let mut index: usize = 0;
-    while index < count {
+    for index in 0..fields::constraint_count(sheet) {
         if is_same(fields::constraint(sheet, index), constraint) {
             return true;
         }
-        index += 1;
     }
     false
 }
@@ -22,10 +20,7 @@ fn lists(sheet: &[u8], constraint: [u8; 4]) -> bool {
 // part. Own place 0 asks for nothing further."
 fn is_followed(sheet: &[u8], constraint: [u8; 4]) -> bool {
     let own_slot = constraint[fields::OWN_SLOT];
-    if own_slot == 0 {
-        return true;
-    }
-    if fields::slot_count(sheet) <= own_slot {
+    if own_slot == 0 || fields::slot_count(sheet) <= own_slot {
         return true;
     }
     let mut next = constraint;
@@ -39,13 +34,9 @@ fn is_fine(sheet: &[u8], bidder: u8, constraint: [u8; 4]) -> bool {
 }
 
 pub fn is_downward(sheet: &[u8], bidder: u8) -> bool {
-    let count = fields::constraint_count(sheet);
-    let mut index: usize = 0;
-    while index < count {
-        if !is_fine(sheet, bidder, fields::constraint(sheet, index)) {
-            return false;
-        }
-        index += 1;
-    }
-    true
+    (0..fields::constraint_count(sheet)).all(|index| is_fine(
+        sheet,
+        bidder,
+        fields::constraint(sheet, index),
+    ))
 }

@@ -10,33 +10,25 @@ pub fn empty() -> [u8; 16] {
 
 // The bidder at a slot, 0 for none.
 pub fn at(page: [u8; 16], slot: u8) -> u8 {
-    if slot == 0 {
-        return 0;
+    bidder_at(&page, slot)
+}
+
+// Puts a bidder at a slot.
+pub fn set(page: &mut [u8; 16], slot: u8, bidder: u8) {
+    if slot != 0 && slot <= fields::MAX_SLOTS {
+        page[usize::from(slot) - 1] = bidder;
     }
-    if fields::MAX_SLOTS < slot {
-        return 0;
-    }
-    page[fields::wide(slot) - 1]
 }
 
 // The page with a bidder at a slot.
-pub fn put(page: [u8; 16], slot: u8, bidder: u8) -> [u8; 16] {
-    if slot == 0 {
-        return page;
-    }
-    if fields::MAX_SLOTS < slot {
-        return page;
-    }
-    let mut next = page;
-    next[fields::wide(slot) - 1] = bidder;
-    next
+pub fn put(mut page: [u8; 16], slot: u8, bidder: u8) -> [u8; 16] {
+    set(&mut page, slot, bidder);
+    page
 }
 
 // The slot where a bidder stands, 0 for none.
 pub fn slot_of(page: [u8; 16], bidder: u8) -> u8 {
-    let mut slot: u8 = 0;
-    while slot < fields::MAX_SLOTS {
-        slot += 1;
+    for slot in 1..=fields::MAX_SLOTS {
         if at(page, slot) == bidder {
             return slot;
         }
@@ -46,24 +38,15 @@ pub fn slot_of(page: [u8; 16], bidder: u8) -> u8 {
 
 // The bidder at a slot of a lent page, 0 for none.
 fn bidder_at(page: &[u8; 16], slot: u8) -> u8 {
-    let place = fields::wide(slot);
-    if place == 0 {
+    if slot == 0 || fields::MAX_SLOTS < slot {
         return 0;
     }
-    if 16 < place {
-        return 0;
-    }
-    page[place - 1]
+    page[usize::from(slot) - 1]
 }
 
 // Whether a bidder has any slot of a lent page.
 fn has_slot(page: &[u8; 16], bidder: u8) -> bool {
-    for standing in page {
-        if *standing == bidder {
-            return true;
-        }
-    }
-    false
+    page.contains(&bidder)
 }
 
 // "the owner is at the own place (or that is 0)", where "a condition binds only if its owner has a place".
@@ -105,14 +88,11 @@ pub fn breaks(page: [u8; 16], constraint: [u8; 4]) -> bool {
 // Whether any constraint of the sheet is broken.
 pub fn breaks_any(page: [u8; 16], sheet: &[u8]) -> bool {
     let constraints = fields::constraints(sheet);
-    let count = constraints.len() / 4;
-    let mut index: usize = 0;
-    while index < count {
+    for index in 0..constraints.len() / 4 {
         let at = 4 * index;
         if breaks_lent(&page, &constraints[at..at + 4]) {
             return true;
         }
-        index += 1;
     }
     false
 }
@@ -125,13 +105,5 @@ fn breaks_own_at(page: [u8; 16], sheet: &[u8], bidder: u8, index: usize) -> bool
 
 // Whether any of a bidder's constraints in the sheet is broken.
 pub fn breaks_own(page: [u8; 16], sheet: &[u8], bidder: u8) -> bool {
-    let count = fields::constraint_count(sheet);
-    let mut index: usize = 0;
-    while index < count {
-        if breaks_own_at(page, sheet, bidder, index) {
-            return true;
-        }
-        index += 1;
-    }
-    false
+    (0..fields::constraint_count(sheet)).any(|index| breaks_own_at(page, sheet, bidder, index))
 }

@@ -11,36 +11,25 @@ const FEW_TICKS: u64 = 32;
 // Every bid of the sheet, by bidder.
 pub fn bids(sheet: &[u8]) -> [u32; 64] {
     let mut copied = [0u32; 64];
-    let mut bidder: u8 = 0;
-    while bidder < fields::MAX_BIDDERS {
-        bidder += 1;
-        let next = with_bid(copied, bidder, fields::bid(sheet, bidder));
-        copied = next;
+    for bidder in 1..=fields::MAX_BIDDERS {
+        copied[usize::from(bidder) - 1] = fields::bid(sheet, bidder);
     }
     copied
 }
 
 fn bid_of(bids: &[u32; 64], bidder: u8) -> u32 {
-    if bidder == 0 {
+    if bidder == 0 || fields::MAX_BIDDERS < bidder {
         return 0;
     }
-    if fields::MAX_BIDDERS < bidder {
-        return 0;
-    }
-    bids[fields::wide(bidder) - 1]
+    bids[usize::from(bidder) - 1]
 }
 
 // The bids with one of them changed.
-fn with_bid(bids: [u32; 64], bidder: u8, bid: u32) -> [u32; 64] {
-    if bidder == 0 {
-        return bids;
+fn with_bid(mut bids: [u32; 64], bidder: u8, bid: u32) -> [u32; 64] {
+    if bidder != 0 && bidder <= fields::MAX_BIDDERS {
+        bids[usize::from(bidder) - 1] = bid;
     }
-    if fields::MAX_BIDDERS < bidder {
-        return bids;
-    }
-    let mut changed = bids;
-    changed[fields::wide(bidder) - 1] = bid;
-    changed
+    bids
 }
 
 // "An unplaced bidder is eligible for place k if, with the places already filled and it at k, neither its own conditions nor
@@ -78,11 +67,8 @@ fn outbids(bids: &[u32; 64], bidder: u8, leader: u8) -> bool {
 
 // "The eligible bidder with the highest bid wins; equal bids go to the lower number."
 fn winner(sheet: &[u8], floors: &[u32], bids: &[u32; 64], filled: [u8; 16], slot: u8) -> u8 {
-    let bidders = fields::bidder_count(sheet);
     let mut leader: u8 = 0;
-    let mut bidder: u8 = 0;
-    while bidder < bidders {
-        bidder += 1;
+    for bidder in 1..=fields::bidder_count(sheet) {
         if outbids(bids, bidder, leader) && is_eligible(sheet, floors, bids, filled, slot, bidder) {
             leader = bidder;
         }
@@ -93,11 +79,9 @@ fn winner(sheet: &[u8], floors: &[u32], bids: &[u32; 64], filled: [u8; 16], slot
 // The page of the first slots, as many as are asked for.
 pub fn fill(sheet: &[u8], floors: &[u32], bids: [u32; 64], slots: u8) -> [u8; 16] {
     let mut filled = page::empty();
-    let mut slot: u8 = 0;
-    while slot < slots {
-        slot += 1;
-        let next = page::put(filled, slot, winner(sheet, floors, &bids, filled, slot));
-        filled = next;
+    for slot in 1..=slots {
+        let bidder = winner(sheet, floors, &bids, filled, slot);
+        page::set(&mut filled, slot, bidder);
     }
     filled
 }
@@ -120,7 +104,7 @@ fn step_of(sheet: &[u8]) -> u32
     ensures { 0 < result }
 {
     let tick = fields::tick(sheet);
-    if tick == 0 { 1 } else { tick }
+    tick.max(1)
 }
 
 // One step above a bid, or the limit where that is no higher.
@@ -136,7 +120,7 @@ fn next_bid(bid: u32, step: u32, limit: u32) -> u32
 
 // Whether a bid has few ticks.
 fn is_small(bid: u32, step: u32) -> bool {
-    bid as u64 <= FEW_TICKS * (step as u64)
+    u64::from(bid) <= FEW_TICKS * u64::from(step)
 }
 
 // "the smallest bid that the sheet would accept and that still wins the place", "floor counted". "An empty place has price 0."
@@ -174,13 +158,10 @@ fn legal_below(floor: u32, step: u32) -> u32
 // The price by 0, each rival's bid, the last legal bid that is not above the floor, and the next legal one after each of these: what it
 // takes to pass a rival or to reach the floor is one of these.
 fn least_by_rivals(sheet: &[u8], floors: &[u32], bids: [u32; 64], winner: u8, slot: u8) -> u32 {
-    let bidders = fields::bidder_count(sheet);
     let low = legal_below(fields::floor(floors, slot), step_of(sheet));
     let most = tried(sheet, floors, bids, winner, slot, 0, bid_of(&bids, winner));
     let mut least = tried_both(sheet, floors, bids, winner, slot, low, most);
-    let mut rival: u8 = 0;
-    while rival < bidders {
-        rival += 1;
+    for rival in 1..=fields::bidder_count(sheet) {
         let bid = bid_of(&bids, rival);
         least = tried_both(sheet, floors, bids, winner, slot, bid, least);
     }

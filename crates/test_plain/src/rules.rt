@@ -2,94 +2,78 @@
 // constraints ("conditions") each in turn, with document 02's 28 after its 13. And document 02's rules for a list of floors.
 use crate::fields;
 
-// The number of the first rule that the sheet breaks, 0 for none.
-pub fn first_broken(sheet: &[u8]) -> u32 {
-    let form = form_rule(sheet);
-    if form != 0 {
-        return form;
-    }
-    let counts = counts_rule(sheet);
-    if counts != 0 {
-        return counts;
-    }
-    let amounts = amounts_rule(sheet);
-    if amounts != 0 {
-        return amounts;
-    }
+// The number of the first rule that the sheet breaks is the error, here and below.
+pub fn sheet_rule(sheet: &[u8]) -> Result<(), u32> {
+    form_rule(sheet)?;
+    counts_rule(sheet)?;
+    amounts_rule(sheet)?;
     constraints_rule(sheet)
 }
 
 // "30 for a list that is not m long and 31 for a floor above 1,000,000,000": the first that a list breaks with a sheet of m places.
-pub fn floors_rule(sheet: &[u8], floors: &[u32]) -> u32 {
-    if floors.len() != fields::wide(fields::slot_count(sheet)) {
-        return 30;
+pub fn floors_rule(sheet: &[u8], floors: &[u32]) -> Result<(), u32> {
+    if floors.len() != usize::from(fields::slot_count(sheet)) {
+        return Err(30);
     }
     if has_bad_floor(floors) {
-        return 31;
+        return Err(31);
     }
-    0
+    Ok(())
 }
 
 fn has_bad_floor(floors: &[u32]) -> bool {
-    let mut left = floors.len();
-    while 0 < left {
-        left -= 1;
-        if fields::MAX_FLOOR < floors[left] {
-            return true;
-        }
-    }
-    false
+    floors.iter().any(|floor| fields::MAX_FLOOR < *floor)
 }
 
 // Rules 1 to 3, and then 1 once more: it "also covers a version 2 sheet under 13 bytes, checked after 3".
-fn form_rule(sheet: &[u8]) -> u32 {
+fn form_rule(sheet: &[u8]) -> Result<(), u32> {
     if sheet.len() < fields::SHORTEST_HEADER {
-        return 1;
+        return Err(1);
     }
     if !has_mark(sheet) {
-        return 2;
+        return Err(2);
     }
     if !is_version(fields::version(sheet)) {
-        return 3;
+        return Err(3);
     }
     if sheet.len() < fields::header(sheet) {
-        return 1;
+        return Err(1);
     }
-    0
+    Ok(())
 }
 
 // Rules 4 to 6, "26 for a tick of 0 or above 1,000,000,000, after 6", and 7.
-fn counts_rule(sheet: &[u8]) -> u32 {
+fn counts_rule(sheet: &[u8]) -> Result<(), u32> {
     if is_bad_count(fields::bidder_count(sheet), fields::MAX_BIDDERS) {
-        return 4;
+        return Err(4);
     }
     if is_bad_count(fields::slot_count(sheet), fields::MAX_SLOTS) {
-        return 5;
+        return Err(5);
     }
     if fields::MAX_CONSTRAINTS < fields::constraint_count(sheet) {
-        return 6;
+        return Err(6);
     }
     if is_bad_tick(fields::tick(sheet)) {
-        return 26;
+        return Err(26);
     }
     if sheet.len() != fields::length(sheet) {
-        return 7;
+        return Err(7);
     }
-    0
+    Ok(())
 }
 
 // Rules 8 and 9, and "27 for a bid that is no multiple, after 9".
-fn amounts_rule(sheet: &[u8]) -> u32 {
+fn amounts_rule(sheet: &[u8]) -> Result<(), u32> {
     if has_bad_effect(sheet) {
-        return 8;
+        return Err(8);
     }
     if has_bad_bid(sheet) {
-        return 9;
+        return Err(9);
     }
     if has_bid_off_tick(sheet) {
-        return 27;
+        return Err(27);
     }
-    0
+    Ok(())
 }
 
 // "the letters P A S"
@@ -113,15 +97,7 @@ fn is_bad_tick(tick: u32) -> bool {
 }
 
 fn has_bad_effect(sheet: &[u8]) -> bool {
-    let slots = fields::slot_count(sheet);
-    let mut slot: u8 = 0;
-    while slot < slots {
-        slot += 1;
-        if is_bad_effect(sheet, slot) {
-            return true;
-        }
-    }
-    false
+    (1..=fields::slot_count(sheet)).any(|slot| is_bad_effect(sheet, slot))
 }
 
 // "An effect is 0, above 1,000,000 or above the one before it."
@@ -137,77 +113,50 @@ fn is_bad_effect(sheet: &[u8], slot: u8) -> bool {
 }
 
 fn has_bad_bid(sheet: &[u8]) -> bool {
-    let bidders = fields::bidder_count(sheet);
-    let mut bidder: u8 = 0;
-    while bidder < bidders {
-        bidder += 1;
-        if fields::MAX_BID < fields::bid(sheet, bidder) {
-            return true;
-        }
-    }
-    false
+    (1..=fields::bidder_count(sheet)).any(|bidder| fields::MAX_BID < fields::bid(sheet, bidder))
 }
 
 // "Every bid is a multiple of the tick." A tick of 0 is turned away before.
 fn is_off_tick(bid: u32, tick: u32) -> bool {
-    if tick == 0 {
-        return true;
-    }
-    bid % tick != 0
+    tick == 0 || bid % tick != 0
 }
 
 fn has_bid_off_tick(sheet: &[u8]) -> bool {
-    let bidders = fields::bidder_count(sheet);
-    let mut bidder: u8 = 0;
-    while bidder < bidders {
-        bidder += 1;
-        if is_off_tick(fields::bid(sheet, bidder), fields::tick(sheet)) {
-            return true;
-        }
-    }
-    false
+    let tick = fields::tick(sheet);
+    (1..=fields::bidder_count(sheet)).any(|bidder| is_off_tick(fields::bid(sheet, bidder), tick))
 }
 
 // "Conditions are taken in sheet order, each through 10 to 13."
-fn constraints_rule(sheet: &[u8]) -> u32 {
-    let count = fields::constraint_count(sheet);
-    let mut index: usize = 0;
-    while index < count {
-        let rule = rule_at(sheet, index);
-        if rule != 0 {
-            return rule;
-        }
-        index += 1;
+fn constraints_rule(sheet: &[u8]) -> Result<(), u32> {
+    for index in 0..fields::constraint_count(sheet) {
+        rule_at(sheet, index)?;
     }
-    0
+    Ok(())
 }
 
 // Rules 10 to 13, and "28 for a version 2 condition not above the one before, tested for each condition after its 13".
-fn rule_at(sheet: &[u8], index: usize) -> u32 {
-    let rule = constraint_rule(sheet, fields::constraint(sheet, index));
-    if rule != 0 {
-        return rule;
-    }
+fn rule_at(sheet: &[u8], index: usize) -> Result<(), u32> {
+    constraint_rule(sheet, fields::constraint(sheet, index))?;
     if is_out_of_order(sheet, index) {
-        return 28;
+        return Err(28);
     }
-    0
+    Ok(())
 }
 
-fn constraint_rule(sheet: &[u8], constraint: [u8; 4]) -> u32 {
+fn constraint_rule(sheet: &[u8], constraint: [u8; 4]) -> Result<(), u32> {
     if is_out_of_range(sheet, constraint) {
-        return 10;
+        return Err(10);
     }
     if constraint[fields::OTHER] == constraint[fields::OWNER] {
-        return 11;
+        return Err(11);
     }
     if (constraint[fields::OTHER] == 0) != (constraint[fields::OTHER_SLOT] == 0) {
-        return 12;
+        return Err(12);
     }
     if constraint[fields::OWN_SLOT] == 0 && constraint[fields::OTHER] == 0 {
-        return 13;
+        return Err(13);
     }
-    0
+    Ok(())
 }
 
 // "A condition has owner 0, owner or other bidder above n, or a place above m."
@@ -224,10 +173,7 @@ fn is_out_of_range(sheet: &[u8], constraint: [u8; 4]) -> bool {
 }
 
 fn is_out_of_order(sheet: &[u8], index: usize) -> bool {
-    if fields::version(sheet) != fields::TICK_VERSION {
-        return false;
-    }
-    if index == 0 {
+    if fields::version(sheet) != fields::TICK_VERSION || index == 0 {
         return false;
     }
     !is_above(

@@ -25,12 +25,10 @@ fn is_repeat(filled: [u8; 16], slot: u8) -> bool {
 
 // The last slot with a bidder, 0 on the empty page.
 fn last_filled(filled: [u8; 16], slots: u8) -> u8 {
-    let mut slot = slots;
-    while 0 < slot {
+    for slot in (1..=slots).rev() {
         if page::at(filled, slot) != 0 {
             return slot;
         }
-        slot -= 1;
     }
     0
 }
@@ -52,50 +50,29 @@ fn is_fine(sheet: &[u8], floors: &[u32], filled: [u8; 16], last: u8) -> bool {
         && !page::breaks_any(filled, sheet)
 }
 
-// The next page in dictionary order that differs at a slot up to the one given, after which all are empty; after the last page the
-// empty one.
-fn next(filled: [u8; 16], bidders: u8, from: u8) -> [u8; 16] {
-    let mut counter = filled;
-    let mut slot = from;
-    while 0 < slot {
-        let bidder = page::at(counter, slot);
+// Goes on to the next page in dictionary order that differs at a slot up to the one given, after which all are empty; after the last page
+// to the empty one.
+fn advance(filled: &mut [u8; 16], bidders: u8, from: u8) {
+    for slot in (1..=from).rev() {
+        let bidder = page::at(*filled, slot);
         if bidder < bidders {
-            return page::put(counter, slot, bidder + 1);
+            page::set(filled, slot, bidder + 1);
+            return;
         }
-        let rolled = page::put(counter, slot, 0);
-        counter = rolled;
-        slot -= 1;
+        page::set(filled, slot, 0);
     }
-    counter
 }
 
 // How many pages there are, those with a bidder twice included: (n + 1) to the m.
 fn count(bidders: u8, slots: u8) -> u64 {
     let mut pages: u64 = 1;
-    let mut slot: u8 = 0;
-    while slot < slots {
+    for _ in 0..slots {
         if MANY_PAGES < pages {
             return pages;
         }
-        pages = amounts::product(pages, fields::wide(bidders) as u64 + 1);
-        slot += 1;
+        pages = amounts::product(pages, u64::from(bidders) + 1);
     }
     pages
-}
-
-// The page where it is fine and has a larger total; else the choice as it was.
-fn better(sheet: &[u8], choice: Choice, filled: [u8; 16], fine: bool) -> Choice {
-    if !fine {
-        return choice;
-    }
-    let total = amounts::total(sheet, filled);
-    if total <= choice.total {
-        return choice;
-    }
-    Choice {
-        page: filled,
-        total,
-    }
 }
 
 // "among pages breaking no condition, one with the largest total; among those, the one whose list of bidder numbers by place (0
@@ -110,18 +87,22 @@ pub fn best(sheet: &[u8], floors: &[u32]) -> Choice {
         page: filled,
         total: 0,
     };
-    let mut left = count(bidders, slots);
-    while 0 < left {
+    for _ in 0..count(bidders, slots) {
         let fine = is_fine(sheet, floors, filled, last);
-        let chosen = better(sheet, choice, filled, fine);
-        choice = chosen;
-        let following = next(filled, bidders, if fine { slots } else { last });
-        filled = following;
+        if fine {
+            let total = amounts::total(sheet, filled);
+            if choice.total < total {
+                choice = Choice {
+                    page: filled,
+                    total,
+                };
+            }
+        }
+        advance(&mut filled, bidders, if fine { slots } else { last });
         last = last_filled(filled, slots);
         if last == 0 {
             return choice;
         }
-        left -= 1;
     }
     choice
 }

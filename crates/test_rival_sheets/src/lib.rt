@@ -9,21 +9,26 @@ use test_damage::faults;
 
 // Kinds of sheets: with the profile's lists, with these in any order and with repeats where the version leaves that free, with one condition less, with another
 // one in its place, with one more that the profile never writes, with any lists, and with a fault.
-pub const PROFILE: u32 = 0;
+#[derive(Clone, Copy, PartialEq, Eq)]
+pub enum Kind {
+    Profile,
+    Repeated,
+    Missing,
+    Exchanged,
+    Foreign,
+    Any,
+    Damaged,
+}
 
-pub const REPEATED: u32 = 1;
-
-pub const MISSING: u32 = 2;
-
-pub const EXCHANGED: u32 = 3;
-
-pub const FOREIGN: u32 = 4;
-
-pub const ANY: u32 = 5;
-
-pub const DAMAGED: u32 = 6;
-
-pub const KINDS: u32 = 7;
+pub const KINDS: [Kind; 7] = [
+    Kind::Profile,
+    Kind::Repeated,
+    Kind::Missing,
+    Kind::Exchanged,
+    Kind::Foreign,
+    Kind::Any,
+    Kind::Damaged,
+];
 
 // "c, conditions, 0 to 1,024"
 const MAX_CONSTRAINTS: u32 = 1024;
@@ -51,9 +56,7 @@ fn set_rivals(
     rivals: &mut [u8],
     count: u32,
 ) {
-    let mut left = count;
-    while 0 < left {
-        left -= 1;
+    for left in (0..count).rev() {
         let drawn = rival(state, sheet, owner, popular);
         parts::set_byte(rivals, left as usize, drawn);
     }
@@ -61,24 +64,22 @@ fn set_rivals(
 
 // The list that names these rivals, by the library, unless the sheet has no room for all of it.
 fn add_named(sheet: &mut [u8], owner: u32, rivals: &[u8]) {
-    let mut space = [0u8; LIST_ROOM];
-    let list: &mut [u8] = &mut space;
+    let mut list = [0u8; LIST_ROOM];
     let n = parts::bidders(sheet);
     let m = parts::slots(sheet);
     let mut count: u32 = 0;
-    pas::pas_above_terms(n, m, owner, rivals, list, &mut count);
-    if std::num::wrapping_add_u32(parts::constraints(sheet), count) <= MAX_CONSTRAINTS {
-        lists::add_listed(sheet, list, count);
+    pas::pas_above_terms(n, m, owner, rivals, &mut list, &mut count);
+    if parts::constraints(sheet).wrapping_add(count) <= MAX_CONSTRAINTS {
+        lists::add_listed(sheet, &list, count);
     }
 }
 
 // The list of one bidder.
 fn add_list(state: &mut u64, sheet: &mut [u8], owner: u32, popular: u32, most: u32) {
-    let mut space = [0u8; RIVALS_ROOM];
-    let rivals: &mut [u8] = &mut space;
+    let mut rivals = [0u8; RIVALS_ROOM];
     let count = number::up_to(state, most);
-    set_rivals(state, sheet, owner, popular, rivals, count);
-    add_named(sheet, owner, parts::part(rivals, 0, count));
+    set_rivals(state, sheet, owner, popular, &mut rivals, count);
+    add_named(sheet, owner, parts::part(&rivals, 0, count));
 }
 
 // How many of the first bidders are popular: one, two or all.
@@ -101,43 +102,37 @@ fn set_lists(state: &mut u64, sheet: &mut [u8]) {
     let bidders = parts::bidders(sheet);
     let popular = draw_popular(state, bidders);
     let most = draw_most(state);
-    let mut owner: u32 = 0;
     parts::set_half(sheet, parts::CONSTRAINTS, 0);
-    while owner < bidders {
-        owner += 1;
+    for owner in 1..=bidders {
         add_list(state, sheet, owner, popular, most);
     }
 }
 
 // At times in version 1 what was written in version 2, so that the conditions are in order where they need not be.
 fn leave_ticks(state: &mut u64, sheet: &mut [u8]) {
-    let mut space = [0u8; parts::ROOM];
-    let kept: &mut [u8] = &mut space;
     if number::once_in(state, 3) {
-        parts::copy(sheet, kept, parts::length(sheet));
-        parts::rewrite(kept, sheet, 1, 1);
+        let mut kept = [0u8; parts::ROOM];
+        parts::copy(sheet, &mut kept, parts::length(sheet));
+        parts::rewrite(&kept, sheet, 1, 1);
     }
 }
 
 // One condition less, any of them. Those after it move up, so that they stay in order.
 fn drop_any(state: &mut u64, sheet: &mut [u8]) {
     let count = parts::constraints(sheet);
-    let mut at = lists::one_of(state, count);
-    if at == 0 {
+    let first = lists::one_of(state, count);
+    if first == 0 {
         return;
     }
-    while at < count {
+    for at in first..count {
         lists::swap(sheet, at - 1, at);
-        at += 1;
     }
     parts::set_half(sheet, parts::CONSTRAINTS, count - 1);
 }
 
 // Conditions of the sheet once more, which version 2 does not take.
 fn repeat_some(state: &mut u64, sheet: &mut [u8], times: u32) {
-    let mut left = times;
-    while 0 < left {
-        left -= 1;
+    for _ in 0..times {
         let chosen = lists::one_of(state, parts::constraints(sheet));
         if 0 < chosen {
             lists::repeat(sheet, chosen - 1);
@@ -175,19 +170,19 @@ fn repeat_and_shuffle(state: &mut u64, sheet: &mut [u8]) {
 }
 
 // What makes a sheet with the profile's lists one of the kind.
-fn change(state: &mut u64, sheet: &mut [u8], kind: u32) {
+fn change(state: &mut u64, sheet: &mut [u8], kind: Kind) {
     match kind {
-        REPEATED => repeat_and_shuffle(state, sheet),
-        MISSING => drop_any(state, sheet),
-        EXCHANGED => exchange(state, sheet),
-        FOREIGN => add_foreign(state, sheet),
-        _ => {}
+        Kind::Repeated => repeat_and_shuffle(state, sheet),
+        Kind::Missing => drop_any(state, sheet),
+        Kind::Exchanged => exchange(state, sheet),
+        Kind::Foreign => add_foreign(state, sheet),
+        Kind::Profile | Kind::Any | Kind::Damaged => {}
     }
 }
 
 // The same, with its length, and with a fault for the kind that has one.
-fn change_or_damage(state: &mut u64, sheet: &mut [u8], kind: u32) -> usize {
-    if kind == DAMAGED {
+fn change_or_damage(state: &mut u64, sheet: &mut [u8], kind: Kind) -> usize {
+    if kind == Kind::Damaged {
         let fault = lists::one_of(state, faults::FAULTS);
         return test_damage::damage(state, sheet, fault);
     }
@@ -196,9 +191,9 @@ fn change_or_damage(state: &mut u64, sheet: &mut [u8], kind: u32) -> usize {
 }
 
 // A sheet of the shape and the kind at the buffer's start, and its length.
-pub fn make(state: &mut u64, shape: u32, kind: u32, sheet: &mut [u8]) -> usize {
+pub fn make(state: &mut u64, shape: u32, kind: Kind, sheet: &mut [u8]) -> usize {
     let length = rounds::make(state, shape, sheet);
-    if kind == ANY {
+    if kind == Kind::Any {
         return length;
     }
     set_lists(state, sheet);

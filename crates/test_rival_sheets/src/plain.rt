@@ -12,14 +12,7 @@ const PAIRS: u32 = 256;
 
 // Whether one of the first conditions has these bytes.
 fn occurs(sheet: &[u8], first: u32, bytes: u32, wanted: u32) -> bool {
-    let mut left = first;
-    while 0 < left {
-        left -= 1;
-        if lists::rank(sheet, left) & bytes == wanted {
-            return true;
-        }
-    }
-    false
+    (0..first).rev().any(|constraint| lists::rank(sheet, constraint) & bytes == wanted)
 }
 
 // Whether no condition before this one has the same owner and the same other bidder.
@@ -49,14 +42,7 @@ fn has_pair(sheet: &[u8], bidders: u32, index: u32) -> bool {
 
 // "all pairs in which the rival's place is above the owner's", of the bidders of a condition.
 fn has_pairs(sheet: &[u8], bidders: u32) -> bool {
-    let mut left: u32 = PAIRS;
-    while 0 < left {
-        left -= 1;
-        if !has_pair(sheet, bidders, left) {
-            return false;
-        }
-    }
-    true
+    (0..PAIRS).all(|index| has_pair(sheet, bidders, index))
 }
 
 // Whether the profile can have written a condition: it is a pair with the rival above, and all others of its bidders are there too.
@@ -70,24 +56,17 @@ fn is_of_profile(sheet: &[u8], constraint: u32) -> bool {
 }
 
 fn all_of_profile(sheet: &[u8]) -> bool {
-    let mut left = parts::constraints(sheet);
-    while 0 < left {
-        left -= 1;
-        if !is_of_profile(sheet, left) {
-            return false;
-        }
-    }
-    true
+    (0..parts::constraints(sheet))
+        .rev()
+        .all(|constraint| is_of_profile(sheet, constraint))
 }
 
 // How many bidders name a rival.
 fn naming(sheet: &[u8], rival: u32) -> u32 {
     let mut found: u32 = 0;
-    let mut left = parts::constraints(sheet);
-    while 0 < left {
-        left -= 1;
-        if parts::field(sheet, left, 2) == rival && is_first(sheet, left) {
-            found = std::num::wrapping_add_u32(found, 1);
+    for constraint in 0..parts::constraints(sheet) {
+        if parts::field(sheet, constraint, 2) == rival && is_first(sheet, constraint) {
+            found += 1;
         }
     }
     found
@@ -96,11 +75,8 @@ fn naming(sheet: &[u8], rival: u32) -> u32 {
 // "the largest number of bidders that name one same rival"
 fn most_naming(sheet: &[u8]) -> u32 {
     let mut most: u32 = 0;
-    let mut left = parts::bidders(sheet);
-    while 0 < left {
-        let found = naming(sheet, left);
-        most = if most < found { found } else { most };
-        left -= 1;
+    for rival in 1..=parts::bidders(sheet) {
+        most = most.max(naming(sheet, rival));
     }
     most
 }
@@ -108,7 +84,7 @@ fn most_naming(sheet: &[u8]) -> u32 {
 // The factor of an accepted sheet: d + 1 where all lists come from the profile, and 0 where not.
 pub fn factor(sheet: &[u8]) -> u32 {
     if all_of_profile(sheet) {
-        return std::num::wrapping_add_u32(most_naming(sheet), 1);
+        return most_naming(sheet).wrapping_add(1);
     }
     0
 }

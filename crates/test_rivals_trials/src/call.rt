@@ -17,6 +17,7 @@ pub const SETS_ROOM: usize = 640;
 const MOST_MEMBERS: u32 = 6;
 
 // A call of the profile, which names an owner, or of sharing, which has rival sets: its numbers, how many rivals or members are lent, and how many bytes of sets.
+// Kept: an enum of the two kinds would be no plainer, since a fault may give either kind another owner or other bytes.
 #[derive(Clone, Copy)]
 pub struct Call {
     pub sharing: bool,
@@ -41,9 +42,7 @@ fn another(state: &mut u64, n: u32, owner: u32) -> u32 {
 
 // Bidders other than the owner, from an offset on, some of them at times twice.
 fn set_bidders(state: &mut u64, list: &mut [u8], start: u32, count: u32, n: u32, owner: u32) {
-    let mut left = count;
-    while 0 < left {
-        left -= 1;
+    for left in (0..count).rev() {
         let bidder = another(state, n, owner);
         parts::set_byte(list, start as usize + left as usize, bidder);
     }
@@ -62,18 +61,16 @@ fn how_many(state: &mut u64, n: u32, most: u32) -> u32
 // The rival set of a bidder at an offset, and where it ends.
 fn set_set(state: &mut u64, sets: &mut [u8], at: u32, n: u32, owner: u32, most: u32) -> u32 {
     let count = how_many(state, n, most);
-    let start = std::num::wrapping_add_u32(at, 1);
+    let start = at.wrapping_add(1);
     parts::set_byte(sets, at as usize, count);
     set_bidders(state, sets, start, count, n, owner);
-    std::num::wrapping_add_u32(start, count)
+    start.wrapping_add(count)
 }
 
 // A rival set for each bidder, one after another, and how many bytes they take.
 fn set_sets(state: &mut u64, sets: &mut [u8], n: u32, most: u32) -> u32 {
     let mut at: u32 = 0;
-    let mut owner: u32 = 0;
-    while owner < n {
-        owner += 1;
+    for owner in 1..=n {
         at = set_set(state, sets, at, n, owner, most);
     }
     at
@@ -87,10 +84,10 @@ fn profile(state: &mut u64, n: u32, m: u32, list: &mut [u8]) -> Call {
     set_bidders(state, list, 0, listed, n, owner);
     Call {
         sharing: false,
-        n: n,
-        m: m,
-        owner: owner,
-        listed: listed,
+        n,
+        m,
+        owner,
+        listed,
         bytes: 0,
     }
 }
@@ -103,11 +100,11 @@ pub fn sharing(state: &mut u64, n: u32, m: u32, list: &mut [u8], sets: &mut [u8]
     let bytes = set_sets(state, sets, n, most);
     Call {
         sharing: true,
-        n: n,
-        m: m,
+        n,
+        m,
         owner: 0,
-        listed: listed,
-        bytes: bytes,
+        listed,
+        bytes,
     }
 }
 
@@ -130,7 +127,7 @@ fn doubtful(state: &mut u64, call: Call) -> u32 {
     let drawn = number::up_to(state, 4);
     match drawn {
         0 => 0,
-        1 => std::num::wrapping_add_u32(call.n, 1),
+        1 => call.n.wrapping_add(1),
         2 => call.owner,
         3 => lists::one_of(state, call.n),
         _ => number::up_to(state, 255),
@@ -142,7 +139,7 @@ fn other_length(state: &mut u64, bytes: u32) -> u32 {
     let drawn = number::up_to(state, 2);
     match drawn {
         0 => { if 0 < bytes { bytes - 1 } else { 1 } }
-        1 => std::num::wrapping_add_u32(bytes, 1),
+        1 => bytes.wrapping_add(1),
         _ => number::up_to(state, SETS_ROOM as u32),
     }
 }
@@ -166,7 +163,7 @@ pub fn with_fault(state: &mut u64, call: Call, list: &mut [u8], sets: &mut [u8])
     }
     let value = doubtful(state, call);
     let at = number::up_to(state, call.bytes);
-    let last = std::num::wrapping_sub_u32(call.bytes, 1);
+    let last = call.bytes.wrapping_sub(1);
     match fault {
         4 | 5 => parts::set_byte(list, number::up_to(state, call.listed) as usize, value),
         6 | 7 => parts::set_byte(sets, at as usize, value),

@@ -1,5 +1,6 @@
 // One call by the library and by the second engine, on the same bytes.
 use crate::call::Call;
+use crate::plain::Shared;
 use crate::{call, counts, plain};
 use std::io;
 use test_both_engines::bytes;
@@ -20,10 +21,10 @@ const PRESET: u32 = 173;
 // No call returns it.
 const OUT_OF_ROOM: u32 = 1000;
 
-// What is due: a rule's number but for 19, the bytes that are written, the count or the answer, and where it is counted.
+// What is due: the number of the rule that is broken, but for 19, the bytes that are written, the count or the answer, and where it is counted.
 #[derive(Clone, Copy)]
 struct Due {
-    rule: u32,
+    rule: Option<u32>,
     bytes: u32,
     value: u32,
     kind: u32,
@@ -50,11 +51,11 @@ fn share_into(
     let n = call.n;
     let m = call.m;
     let mut answer = PRESET as u8;
-    if res.len() < end {
+    let Some(part) = res.get_mut(from..end) else {
         return OUT_OF_ROOM;
-    }
-    let number = pas::pas_share_page(n, m, members, sets, &mut res[from..end], &mut answer);
-    *value = answer as u32;
+    };
+    let number = pas::pas_share_page(n, m, members, sets, part, &mut answer);
+    *value = u32::from(answer);
     number
 }
 
@@ -65,10 +66,10 @@ fn write_into(call: Call, rivals: &[u8], res: &mut [u8], lent: Lent, count: &mut
     let n = call.n;
     let m = call.m;
     let owner = call.owner;
-    if res.len() < end {
+    let Some(part) = res.get_mut(from..end) else {
         return OUT_OF_ROOM;
-    }
-    pas::pas_above_terms(n, m, owner, rivals, &mut res[from..end], count)
+    };
+    pas::pas_above_terms(n, m, owner, rivals, part, count)
 }
 
 fn by_library(
@@ -88,32 +89,30 @@ fn by_library(
 // For a refusal, any number of bytes, for a length.
 fn refused(state: &mut u64, rule: u32) -> Due {
     Due {
-        rule: rule,
+        rule: Some(rule),
         bytes: number::up_to(state, 20),
         value: 0,
         kind: counts::LISTS,
     }
 }
 
-fn shared(order: u32) -> Due {
-    let size = order == plain::TOO_MANY;
-    let no = size | (order == plain::NO_ORDER);
+fn shared(answer: Shared) -> Due {
+    let (bytes, value, kind) = match answer {
+        Shared::Order(members) => (members, 1, counts::YES),
+        Shared::NoOrder => (0, 0, counts::NO_ORDER),
+        Shared::TooMany => (0, 0, counts::TOO_MANY),
+    };
     Due {
-        rule: 0,
-        bytes: if no { 0 } else { order },
-        value: if no { 0 } else { 1 },
-        kind: if size {
-            counts::TOO_MANY
-        } else {
-            if no { counts::NO_ORDER } else { counts::YES }
-        },
+        rule: None,
+        bytes,
+        value,
+        kind,
     }
 }
 
 // What is due of a call, with the bytes in a list.
 fn due_of(state: &mut u64, call: Call, list: &[u8], sets: &[u8], written: &mut [u8]) -> Due {
-    let rule = plain::rule(call, list, sets);
-    if rule != 0 {
+    if let Some(rule) = plain::rule(call, list, sets) {
         return refused(state, rule);
     }
     if call.sharing {
@@ -124,7 +123,7 @@ fn due_of(state: &mut u64, call: Call, list: &[u8], sets: &[u8], written: &mut [
         return refused(state, 25);
     }
     Due {
-        rule: 0,
+        rule: None,
         bytes: 4 * count,
         value: count,
         kind: counts::LISTS,
@@ -133,10 +132,10 @@ fn due_of(state: &mut u64, call: Call, list: &[u8], sets: &[u8], written: &mut [
 
 // The number that is due: the rule's, or 19 for a result that is too short.
 fn number_of(due: Due, lent: Lent) -> u32 {
-    if due.rule != 0 {
-        return due.rule;
+    match due.rule {
+        Some(rule) => rule,
+        None => { if due.bytes <= lent.size { 0 } else { 19 } }
     }
-    if due.bytes <= lent.size { 0 } else { 19 }
 }
 
 fn note(tally: &mut [u64], call: Call, number: u32, due: Due, lent: Lent) {
@@ -151,7 +150,7 @@ fn note(tally: &mut [u64], call: Call, number: u32, due: Due, lent: Lent) {
     );
     test_tally::add_if(
         tally,
-        number == 19 && size as u64 + 1 == bytes as u64,
+        number == 19 && u64::from(size) + 1 == u64::from(bytes),
         counts::of_kind(call.sharing, counts::BYTE_SHORT),
     );
 }
@@ -169,25 +168,23 @@ fn hold(
     lent: Lent,
     written: &mut [u8],
 ) -> io::Result<()> {
-    let mut first = [0u8; ROOM];
-    let mut second = [0u8; ROOM];
-    let one: &mut [u8] = &mut first;
-    let two: &mut [u8] = &mut second;
+    let mut one = [0u8; ROOM];
+    let mut two = [0u8; ROOM];
     let number_due = number_of(due, lent);
     let mut value = PRESET;
-    bytes::fill(state, one, lent.size as usize + AROUND);
-    parts::copy(one, two, ROOM);
+    bytes::fill(state, &mut one, lent.size as usize + AROUND);
+    parts::copy(&one, &mut two, ROOM);
     if number_due == 0 {
-        bytes::paste(written, two, lent.start, due.bytes);
+        bytes::paste(written, &mut two, lent.start, due.bytes);
     }
-    let number = by_library(call, list, sets, one, lent, &mut value);
+    let number = by_library(call, list, sets, &mut one, lent, &mut value);
     let value_due = if number_due == 0 { due.value } else { PRESET };
     note(tally, call, number, due, lent);
     counts::hold(rt, tally, number == number_due, b"number")?;
     counts::hold(rt, tally, value == value_due, b"count or answer")?;
-    counts::hold(rt, tally, bytes::same(one, two, ROOM), b"bytes")?;
+    counts::hold(rt, tally, bytes::same(&one, &two, ROOM), b"bytes")?;
     parts::copy(
-        parts::part(one, lent.start, lent.size),
+        parts::part(&one, lent.start, lent.size),
         written,
         due.bytes as usize,
     );
@@ -222,10 +219,8 @@ fn with_faults(
     faults: u32,
 ) -> Call {
     let mut drawn = right;
-    let mut left = faults;
-    while 0 < left {
+    for _ in 0..faults {
         drawn = call::with_fault(state, drawn, list, sets);
-        left -= 1;
     }
     drawn
 }
@@ -239,20 +234,17 @@ pub fn alone(
     most: u32,
     faults: u32,
 ) -> io::Result<()> {
-    let mut list_space = [0u8; call::LIST_ROOM];
-    let list: &mut [u8] = &mut list_space;
-    let mut sets_space = [0u8; call::SETS_ROOM];
-    let sets: &mut [u8] = &mut sets_space;
-    let mut space = [0u8; ROOM];
-    let written: &mut [u8] = &mut space;
+    let mut list = [0u8; call::LIST_ROOM];
+    let mut sets = [0u8; call::SETS_ROOM];
+    let mut written = [0u8; ROOM];
     let n = calls::up_to_most(state, most);
     let few = lists::one_of(state, 5);
     let many = calls::up_to_most(state, call::MAX_SLOTS);
     let m = if number::once_in(state, 2) { few } else { many };
-    let right = call::right(state, sharing, n, m, list, sets);
-    let asked = with_faults(state, right, list, sets, faults);
-    let listed = parts::part(list, 0, asked.listed);
-    let lent = parts::part(sets, 0, asked.bytes);
-    both(rt, state, tally, asked, listed, lent, false, written)?;
+    let right = call::right(state, sharing, n, m, &mut list, &mut sets);
+    let asked = with_faults(state, right, &mut list, &mut sets, faults);
+    let listed = parts::part(&list, 0, asked.listed);
+    let lent = parts::part(&sets, 0, asked.bytes);
+    both(rt, state, tally, asked, listed, lent, false, &mut written)?;
     Ok(())
 }

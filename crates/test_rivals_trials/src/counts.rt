@@ -3,6 +3,7 @@
 use std::io;
 
 // The calls of the profile by the number that they returned, 0 to 25, come first, and then those of sharing.
+// Kept: these numbers are places in one tally, so an enum of the others would be no plainer.
 const NUMBERS: u32 = 26;
 
 pub const DIFFERENCES: u32 = 52;
@@ -39,11 +40,7 @@ pub const ROOM: usize = 67;
 
 // A count of the profile's calls, or the same of sharing.
 pub fn of_kind(sharing: bool, count: u32) -> u32 {
-    if sharing {
-        std::num::wrapping_add_u32(count, 1)
-    } else {
-        count
-    }
+    count.wrapping_add(u32::from(sharing))
 }
 
 // A call, by its number. No call has another one.
@@ -51,7 +48,7 @@ pub fn add_call(tally: &mut [u64], sharing: bool, number: u32) {
     let first = if sharing { NUMBERS } else { 0 };
     test_tally::add(tally, CALLS);
     if number < NUMBERS {
-        test_tally::add(tally, std::num::wrapping_add_u32(first, number));
+        test_tally::add(tally, first.wrapping_add(number));
     } else {
         test_tally::add(tally, DIFFERENCES);
     }

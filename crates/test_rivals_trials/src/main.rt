@@ -25,10 +25,8 @@ fn calls(
     faults: u32,
     times: u32,
 ) -> io::Result<()> {
-    let mut left = times;
-    while 0 < left {
+    for _ in 0..times {
         compare::alone(rt, state, tally, sharing, most, faults)?;
-        left -= 1;
     }
     Ok(())
 }
@@ -41,10 +39,8 @@ fn sheets(
     shape: u32,
     times: u32,
 ) -> io::Result<()> {
-    let mut left = times;
-    while 0 < left {
+    for _ in 0..times {
         page::on_sheet(rt, state, tally, shape)?;
-        left -= 1;
     }
     Ok(())
 }
@@ -65,13 +61,12 @@ fn all_calls(
 
 fn main(rt: HostRuntime) -> io::Result<()> {
     let mut state = SEED;
-    let mut numbers = [0u64; counts::ROOM];
-    let tally: &mut [u64] = &mut numbers;
-    all_calls(&rt, &mut state, tally, false, 64)?;
-    all_calls(&rt, &mut state, tally, true, 6)?;
-    calls(&rt, &mut state, tally, true, 8, 0, 6000)?;
-    calls(&rt, &mut state, tally, true, 64, 1, 6000)?;
-    sheets(&rt, &mut state, tally, rounds::SMALL, 4000)?;
-    sheets(&rt, &mut state, tally, rounds::MIDDLE, 500)?;
-    counts::report(&rt, tally)
+    let mut tally = [0u64; counts::ROOM];
+    all_calls(&rt, &mut state, &mut tally, false, 64)?;
+    all_calls(&rt, &mut state, &mut tally, true, 6)?;
+    calls(&rt, &mut state, &mut tally, true, 8, 0, 6000)?;
+    calls(&rt, &mut state, &mut tally, true, 64, 1, 6000)?;
+    sheets(&rt, &mut state, &mut tally, rounds::SMALL, 4000)?;
+    sheets(&rt, &mut state, &mut tally, rounds::MIDDLE, 500)?;
+    counts::report(&rt, &tally)
 }

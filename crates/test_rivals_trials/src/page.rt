@@ -21,18 +21,17 @@ fn add_list(
     rivals: &[u8],
     owner: u32,
 ) -> io::Result<()> {
-    let mut space = [0u8; compare::ROOM];
-    let list: &mut [u8] = &mut space;
+    let mut list = [0u8; compare::ROOM];
     let call = Call {
         sharing: false,
         n: parts::bidders(sheet),
         m: parts::slots(sheet),
-        owner: owner,
+        owner,
         listed: 0,
         bytes: 0,
     };
-    let count = compare::both(rt, state, tally, call, rivals, &[], true, list)?;
-    lists::add_listed(sheet, list, count);
+    let count = compare::both(rt, state, tally, call, rivals, &[], true, &mut list)?;
+    lists::add_listed(sheet, &list, count);
     Ok(())
 }
 
@@ -43,23 +42,19 @@ fn add_lists(
     sheet: &mut [u8],
     sets: &[u8],
 ) -> io::Result<()> {
-    let mut left = parts::bidders(sheet);
-    while 0 < left {
-        add_list(rt, state, tally, sheet, plain::set_of(sets, left), left)?;
-        left -= 1;
+    for owner in (1..=parts::bidders(sheet)).rev() {
+        add_list(rt, state, tally, sheet, plain::set_of(sets, owner), owner)?;
     }
     Ok(())
 }
 
 // "The lists written are downward monotonic".
 fn hold_downward(rt: &impl Print, tally: &mut [u64], sheet: &[u8]) -> io::Result<()> {
-    let mut left = parts::bidders(sheet);
-    while 0 < left {
+    for bidder in 1..=parts::bidders(sheet) {
         let mut answer: u8 = 2;
-        let number = pas::pas_downward(sheet, left, &mut answer);
+        let number = pas::pas_downward(sheet, bidder, &mut answer);
         counts::hold(rt, tally, number == 0 && answer == 1, b"downward monotonic")?;
         test_tally::add_if(tally, answer == 1, counts::DOWNWARD);
-        left -= 1;
     }
     Ok(())
 }
@@ -91,41 +86,28 @@ fn is_first(filled: [u8; 16], slot: u8) -> bool {
 
 // Whether a page has all the members, and nobody twice.
 fn has_all(filled: [u8; 16], members: &[u8]) -> bool {
-    let mut left = members.len();
-    while 0 < left {
-        left -= 1;
-        let member = (parts::byte(members, left) % 256) as u8;
-        if page::slot_of(filled, member) == 0 {
-            return false;
-        }
-    }
-    is_first(filled, 2) & is_first(filled, 3) & is_first(filled, 4)
+    members
+        .iter()
+        .all(|member| page::slot_of(filled, *member) != 0)
+        && is_first(filled, 2)
+        && is_first(filled, 3)
+        && is_first(filled, 4)
 }
 
 // Whether some page has all the members and breaks no condition.
 fn some_page(sheet: &[u8], members: &[u8]) -> bool {
-    let mut left: u32 = PAGES;
-    while 0 < left {
-        left -= 1;
-        let filled = page_of(sheet, left);
-        if has_all(filled, members) {
-            if !page::breaks_any(filled, sheet) {
-                return true;
-            }
-        }
-    }
-    false
+    (0..PAGES).rev().any(|index| {
+        let filled = page_of(sheet, index);
+        has_all(filled, members) && !page::breaks_any(filled, sheet)
+    })
 }
 
 // An order on the first slots.
 fn first_slots(order: &[u8]) -> [u8; 16] {
     let mut filled = page::empty();
-    let mut left: u8 = 16;
-    while 0 < left {
-        let bidder = (parts::byte(order, left as usize - 1) % 256) as u8;
-        let next = page::put(filled, left, bidder);
+    for (slot, bidder) in (1..=16).zip(order) {
+        let next = page::put(filled, slot, *bidder);
         filled = next;
-        left -= 1;
     }
     filled
 }
@@ -178,39 +160,35 @@ fn hold_sheet(
     members: &[u8],
     sets: &[u8],
 ) -> io::Result<()> {
-    let mut space = [0u8; compare::ROOM];
-    let order: &mut [u8] = &mut space;
-    let answer = compare::both(rt, state, tally, asked, members, sets, true, order)?;
+    let mut order = [0u8; compare::ROOM];
+    let answer = compare::both(rt, state, tally, asked, members, sets, true, &mut order)?;
     test_tally::add(tally, counts::SHEETS);
     counts::hold(rt, tally, pas::pas_check(sheet) == 0, b"check")?;
     hold_downward(rt, tally, sheet)?;
-    hold_order(rt, tally, sheet, answer == 1, order)?;
+    hold_order(rt, tally, sheet, answer == 1, &order)?;
     hold_pages(rt, tally, sheet, members, answer == 1)
 }
 
 // A sheet of the shape with these lists in place of its own. One that is then full may lack some conditions, and is left out.
 pub fn on_sheet(rt: &impl Print, state: &mut u64, tally: &mut [u64], shape: u32) -> io::Result<()> {
-    let mut sheet_space = [0u8; parts::ROOM];
-    let buffer: &mut [u8] = &mut sheet_space;
-    let mut list_space = [0u8; call::LIST_ROOM];
-    let list: &mut [u8] = &mut list_space;
-    let mut sets_space = [0u8; call::SETS_ROOM];
-    let sets: &mut [u8] = &mut sets_space;
-    rounds::make(state, shape, buffer);
-    parts::set_half(buffer, parts::CONSTRAINTS, 0);
-    let n = parts::bidders(buffer);
-    let m = parts::slots(buffer);
-    let asked = call::sharing(state, n, m, list, sets);
-    let members = parts::part(list, 0, asked.listed);
-    let lent = parts::part(sets, 0, asked.bytes);
-    add_lists(rt, state, tally, buffer, lent)?;
-    if parts::constraints(buffer) < compare::MAX_CONSTRAINTS {
-        let bytes = parts::size(parts::length(buffer));
+    let mut buffer = [0u8; parts::ROOM];
+    let mut list = [0u8; call::LIST_ROOM];
+    let mut sets = [0u8; call::SETS_ROOM];
+    rounds::make(state, shape, &mut buffer);
+    parts::set_half(&mut buffer, parts::CONSTRAINTS, 0);
+    let n = parts::bidders(&buffer);
+    let m = parts::slots(&buffer);
+    let asked = call::sharing(state, n, m, &mut list, &mut sets);
+    let members = parts::part(&list, 0, asked.listed);
+    let lent = parts::part(&sets, 0, asked.bytes);
+    add_lists(rt, state, tally, &mut buffer, lent)?;
+    if parts::constraints(&buffer) < compare::MAX_CONSTRAINTS {
+        let bytes = parts::size(parts::length(&buffer));
         hold_sheet(
             rt,
             state,
             tally,
-            parts::part(buffer, 0, bytes),
+            parts::part(&buffer, 0, bytes),
             asked,
             members,
             lent,

@@ -14,29 +14,27 @@ pub fn report(rt: &impl Print) -> io::Result<()> {
 
 // A page of one slot, so that no effect stands before or after.
 fn single(rt: &impl Print, value: u32) -> io::Result<()> {
-    let mut space = [0u8; build::ROOM];
-    let buf: &mut [u8] = &mut space;
-    let length = build::base(buf, 1, 1, 0);
-    build::set_effect(buf, 1, value);
-    line::number(rt, b"effect 1 of 1 is ", value as u64)?;
-    show::verdict(rt, buf, length)
+    let mut buf = [0u8; build::ROOM];
+    let length = build::base(&mut buf, 1, 1, 0);
+    build::set_effect(&mut buf, 1, value);
+    line::number(rt, b"effect 1 of 1 is ", u64::from(value))?;
+    show::verdict(rt, &buf, length)
 }
 
 // Sixteen slots, whose effects are all `rest` but one.
 fn effect(rt: &impl Print, slot: u8, value: u32, rest: u32) -> io::Result<()> {
-    let mut space = [0u8; build::ROOM];
-    let buf: &mut [u8] = &mut space;
-    let length = build::base(buf, 1, 16, 0);
-    build::set_effects(buf, rest);
-    build::set_effect(buf, slot, value);
+    let mut buf = [0u8; build::ROOM];
+    let length = build::base(&mut buf, 1, 16, 0);
+    build::set_effects(&mut buf, rest);
+    build::set_effect(&mut buf, slot, value);
     line::byte(rt, b"effect ", slot)?;
-    line::number(rt, b" of 16 is ", value as u64)?;
-    line::number(rt, b", the others ", rest as u64)?;
-    show::verdict(rt, buf, length)?;
-    let longer = build::base_in_ticks(buf, 1, 1, 16, 0);
-    build::set_effects(buf, rest);
-    build::set_effect(buf, slot, value);
-    show::case(rt, b"  in version 2 with tick 1", buf, longer)
+    line::number(rt, b" of 16 is ", u64::from(value))?;
+    line::number(rt, b", the others ", u64::from(rest))?;
+    show::verdict(rt, &buf, length)?;
+    let longer = build::base_in_ticks(&mut buf, 1, 1, 16, 0);
+    build::set_effects(&mut buf, rest);
+    build::set_effect(&mut buf, slot, value);
+    show::case(rt, b"  in version 2 with tick 1", &buf, longer)
 }
 
 // "8. An effect is 0, above 1,000,000 or above the one before it." The low bytes of 65,536 are 0, those of 16,777,217 are 1.
@@ -79,16 +77,15 @@ fn effects_in_order(rt: &impl Print) -> io::Result<()> {
 
 // Sixty-four bidders, whose bids are all 5 but one, in version 2 all 1.
 fn bid(rt: &impl Print, bidder: u8, value: u32) -> io::Result<()> {
-    let mut space = [0u8; build::ROOM];
-    let buf: &mut [u8] = &mut space;
-    let length = build::base(buf, 64, 1, 0);
-    build::set_bid(buf, bidder, value);
+    let mut buf = [0u8; build::ROOM];
+    let length = build::base(&mut buf, 64, 1, 0);
+    build::set_bid(&mut buf, bidder, value);
     line::byte(rt, b"bid ", bidder)?;
-    line::number(rt, b" of 64 is ", value as u64)?;
-    show::verdict(rt, buf, length)?;
-    let longer = build::base_in_ticks(buf, 1, 64, 1, 0);
-    build::set_bid(buf, bidder, value);
-    show::case(rt, b"  in version 2 with tick 1", buf, longer)
+    line::number(rt, b" of 64 is ", u64::from(value))?;
+    show::verdict(rt, &buf, length)?;
+    let longer = build::base_in_ticks(&mut buf, 1, 64, 1, 0);
+    build::set_bid(&mut buf, bidder, value);
+    show::case(rt, b"  in version 2 with tick 1", &buf, longer)
 }
 
 // "9. A bid is above 1,000,000,000." The low bytes of 1,073,741,824 are 0.

@@ -14,14 +14,13 @@ pub fn report(rt: &impl Print) -> io::Result<()> {
 
 // The one constraint of a sheet, in version 1 and in version 2.
 fn alone(rt: &impl Print, name: &[u8], bidders: u8, slots: u8, fields: [u8; 4]) -> io::Result<()> {
-    let mut space = [0u8; build::ROOM];
-    let buf: &mut [u8] = &mut space;
-    let length = build::base(buf, bidders, slots, 1);
-    build::set_constraint(buf, 1, fields);
-    show::case(rt, name, buf, length)?;
-    let longer = build::base_in_ticks(buf, 1, bidders, slots, 1);
-    build::set_constraint(buf, 1, fields);
-    show::case(rt, b"  in version 2 with tick 1", buf, longer)
+    let mut buf = [0u8; build::ROOM];
+    let length = build::base(&mut buf, bidders, slots, 1);
+    build::set_constraint(&mut buf, 1, fields);
+    show::case(rt, name, &buf, length)?;
+    let longer = build::base_in_ticks(&mut buf, 1, bidders, slots, 1);
+    build::set_constraint(&mut buf, 1, fields);
+    show::case(rt, b"  in version 2 with tick 1", &buf, longer)
 }
 
 // Among 3 bidders and 4 slots, so that a slot may have a number that no bidder has.
@@ -83,12 +82,11 @@ fn other_parts(rt: &impl Print) -> io::Result<()> {
 
 // One of 1,024 constraints, among 64 bidders and 16 slots.
 fn one_of_all(rt: &impl Print, name: &[u8], constraint: u16, fields: [u8; 4]) -> io::Result<()> {
-    let mut space = [0u8; build::ROOM];
-    let buf: &mut [u8] = &mut space;
-    let length = build::base(buf, 64, 16, 1024);
-    build::set_constraint(buf, constraint, fields);
-    line::number(rt, b"condition ", constraint as u64)?;
-    show::case(rt, name, buf, length)
+    let mut buf = [0u8; build::ROOM];
+    let length = build::base(&mut buf, 64, 16, 1024);
+    build::set_constraint(&mut buf, constraint, fields);
+    line::number(rt, b"condition ", u64::from(constraint))?;
+    show::case(rt, name, &buf, length)
 }
 
 // The largest numbers that pass, and rules 10 to 13.

@@ -22,19 +22,17 @@ fn cut(
     constraints: u16,
     length: usize,
 ) -> io::Result<()> {
-    let mut space = [0u8; build::ROOM];
-    let buf: &mut [u8] = &mut space;
-    build::base(buf, bidders, slots, constraints);
-    show::case(rt, name, buf, length)
+    let mut buf = [0u8; build::ROOM];
+    build::base(&mut buf, bidders, slots, constraints);
+    show::case(rt, name, &buf, length)
 }
 
 // The first `length` bytes of a sheet of 1 bidder and 1 slot, which has 17, with one letter of its mark wrong.
 fn mark(rt: &impl Print, name: &[u8], at: usize, letter: u8, length: usize) -> io::Result<()> {
-    let mut space = [0u8; build::ROOM];
-    let buf: &mut [u8] = &mut space;
-    build::base(buf, 1, 1, 0);
-    build::set_byte(buf, at, letter);
-    show::case(rt, name, buf, length)
+    let mut buf = [0u8; build::ROOM];
+    build::base(&mut buf, 1, 1, 0);
+    build::set_byte(&mut buf, at, letter);
+    show::case(rt, name, &buf, length)
 }
 
 // "1. The sheet has fewer than 9 bytes."
@@ -55,12 +53,11 @@ fn marks(rt: &impl Print) -> io::Result<()> {
 
 // A right sheet but for the version.
 fn version(rt: &impl Print, number: u16) -> io::Result<()> {
-    let mut space = [0u8; build::ROOM];
-    let buf: &mut [u8] = &mut space;
-    let length = build::base(buf, 1, 1, 0);
-    build::set_version(buf, number as u32);
-    line::number(rt, b"version ", number as u64)?;
-    show::verdict(rt, buf, length)
+    let mut buf = [0u8; build::ROOM];
+    let length = build::base(&mut buf, 1, 1, 0);
+    build::set_version(&mut buf, u32::from(number));
+    line::number(rt, b"version ", u64::from(number))?;
+    show::verdict(rt, &buf, length)
 }
 
 // "Refusal 3 is now for versions other than 1 and 2". A single byte of 256, 257, 258 or 512 would read as 1 or 2.
@@ -77,15 +74,14 @@ fn versions(rt: &impl Print) -> io::Result<()> {
 
 // A whole sheet of the counts, in version 1 and in version 2.
 fn whole(rt: &impl Print, bidders: u8, slots: u8, constraints: u16) -> io::Result<()> {
-    let mut space = [0u8; build::ROOM];
-    let buf: &mut [u8] = &mut space;
-    let length = build::base(buf, bidders, slots, constraints);
+    let mut buf = [0u8; build::ROOM];
+    let length = build::base(&mut buf, bidders, slots, constraints);
     line::byte(rt, b"bidders ", bidders)?;
     line::byte(rt, b", places ", slots)?;
-    line::number(rt, b", conditions ", constraints as u64)?;
-    show::verdict(rt, buf, length)?;
-    let longer = build::base_in_ticks(buf, 1, bidders, slots, constraints);
-    show::case(rt, b"  in version 2 with tick 1", buf, longer)
+    line::number(rt, b", conditions ", u64::from(constraints))?;
+    show::verdict(rt, &buf, length)?;
+    let longer = build::base_in_ticks(&mut buf, 1, bidders, slots, constraints);
+    show::case(rt, b"  in version 2 with tick 1", &buf, longer)
 }
 
 // "4. n is 0 or above 64."
@@ -118,11 +114,10 @@ fn constraint_counts(rt: &impl Print) -> io::Result<()> {
 
 // The largest count that the header can hold, over a sheet of one constraint.
 fn many_constraints(rt: &impl Print) -> io::Result<()> {
-    let mut space = [0u8; build::ROOM];
-    let buf: &mut [u8] = &mut space;
-    let length = build::base(buf, 1, 1, 1);
-    build::set_constraint_count(buf, 65535);
-    show::case(rt, b"conditions 65535 by the header", buf, length)
+    let mut buf = [0u8; build::ROOM];
+    let length = build::base(&mut buf, 1, 1, 1);
+    build::set_constraint_count(&mut buf, 65535);
+    show::case(rt, b"conditions 65535 by the header", &buf, length)
 }
 
 // "7. The length is not 9 + 4 x (m + n + c)."

@@ -20,112 +20,115 @@ fn right(buf: &mut [u8]) {
 }
 
 fn form(rt: &impl Print) -> io::Result<()> {
-    let mut space = [0u8; build::ROOM];
-    let buf: &mut [u8] = &mut space;
-    right(buf);
-    build::set_byte(buf, 0, b'Q');
-    show::case(rt, b"1 and 2, 8 bytes with a wrong mark", buf, 8)?;
-    build::set_version(buf, 3);
-    show::case(rt, b"2 and 3, mark and version wrong", buf, 37)
+    let mut buf = [0u8; build::ROOM];
+    right(&mut buf);
+    build::set_byte(&mut buf, 0, b'Q');
+    show::case(rt, b"1 and 2, 8 bytes with a wrong mark", &buf, 8)?;
+    build::set_version(&mut buf, 3);
+    show::case(rt, b"2 and 3, mark and version wrong", &buf, 37)
 }
 
 fn counts_and_form(rt: &impl Print) -> io::Result<()> {
-    let mut space = [0u8; build::ROOM];
-    let buf: &mut [u8] = &mut space;
-    right(buf);
-    build::set_bidder_count(buf, 0);
-    build::set_version(buf, 3);
-    show::case(rt, b"3 and 4, version 3 and no bidder", buf, 37)?;
-    build::set_version(buf, 1);
-    build::set_slot_count(buf, 0);
-    show::case(rt, b"4 and 5, no bidder and no place", buf, 37)
+    let mut buf = [0u8; build::ROOM];
+    right(&mut buf);
+    build::set_bidder_count(&mut buf, 0);
+    build::set_version(&mut buf, 3);
+    show::case(rt, b"3 and 4, version 3 and no bidder", &buf, 37)?;
+    build::set_version(&mut buf, 1);
+    build::set_slot_count(&mut buf, 0);
+    show::case(rt, b"4 and 5, no bidder and no place", &buf, 37)
 }
 
 fn counts(rt: &impl Print) -> io::Result<()> {
-    let mut space = [0u8; build::ROOM];
-    let buf: &mut [u8] = &mut space;
-    right(buf);
-    build::set_constraint_count(buf, 1025);
-    build::set_slot_count(buf, 17);
-    show::case(rt, b"5 and 6, 17 places and 1025 conditions", buf, 37)?;
-    build::set_slot_count(buf, 3);
-    show::case(rt, b"6 and 7, 1025 conditions and a wrong length", buf, 37)
+    let mut buf = [0u8; build::ROOM];
+    right(&mut buf);
+    build::set_constraint_count(&mut buf, 1025);
+    build::set_slot_count(&mut buf, 17);
+    show::case(rt, b"5 and 6, 17 places and 1025 conditions", &buf, 37)?;
+    build::set_slot_count(&mut buf, 3);
+    show::case(rt, b"6 and 7, 1025 conditions and a wrong length", &buf, 37)
 }
 
 fn counts_and_fields(rt: &impl Print) -> io::Result<()> {
-    let mut space = [0u8; build::ROOM];
-    let buf: &mut [u8] = &mut space;
-    right(buf);
-    build::set_effect(buf, 1, 0);
-    show::case(rt, b"7 and 8, a byte too many and effect 1 is 0", buf, 38)?;
-    right(buf);
-    build::set_effect(buf, 3, 0);
-    build::set_bid(buf, 1, 1000000001);
-    show::case(rt, b"8 and 9, effect 3 is 0 and bid 1 too large", buf, 37)?;
-    right(buf);
-    build::set_bid(buf, 2, 1000000001);
-    build::set_constraint(buf, 1, [0, 1, 0, 0]);
-    show::case(rt, b"9 and 10, bid 2 too large and an owner 0", buf, 37)
+    let mut buf = [0u8; build::ROOM];
+    right(&mut buf);
+    build::set_effect(&mut buf, 1, 0);
+    show::case(rt, b"7 and 8, a byte too many and effect 1 is 0", &buf, 38)?;
+    right(&mut buf);
+    build::set_effect(&mut buf, 3, 0);
+    build::set_bid(&mut buf, 1, 1000000001);
+    show::case(rt, b"8 and 9, effect 3 is 0 and bid 1 too large", &buf, 37)?;
+    right(&mut buf);
+    build::set_bid(&mut buf, 2, 1000000001);
+    build::set_constraint(&mut buf, 1, [0, 1, 0, 0]);
+    show::case(rt, b"9 and 10, bid 2 too large and an owner 0", &buf, 37)
 }
 
 // A sheet of version 2 with the same counts and tick 5 has 41 bytes. Its second 1, for a header that is too short, stands between 3 and 4.
 fn header_in_ticks(rt: &impl Print) -> io::Result<()> {
-    let mut space = [0u8; build::ROOM];
-    let buf: &mut [u8] = &mut space;
-    build::base_in_ticks(buf, 5, 2, 3, 2);
-    build::set_tick(buf, 0);
-    show::case(rt, b"26 and 27, a tick of 0 and bids of 5", buf, 41)?;
-    show::case(rt, b"26 and 7, a tick of 0 and a byte too many", buf, 42)?;
-    build::set_constraint_count(buf, 1025);
-    show::case(rt, b"6 and 26, 1025 conditions and a tick of 0", buf, 41)?;
-    build::set_bidder_count(buf, 0);
-    show::case(rt, b"1 and 4, 12 bytes of version 2 and no bidder", buf, 12)?;
-    build::set_byte(buf, 0, b'Q');
+    let mut buf = [0u8; build::ROOM];
+    build::base_in_ticks(&mut buf, 5, 2, 3, 2);
+    build::set_tick(&mut buf, 0);
+    show::case(rt, b"26 and 27, a tick of 0 and bids of 5", &buf, 41)?;
+    show::case(rt, b"26 and 7, a tick of 0 and a byte too many", &buf, 42)?;
+    build::set_constraint_count(&mut buf, 1025);
+    show::case(rt, b"6 and 26, 1025 conditions and a tick of 0", &buf, 41)?;
+    build::set_bidder_count(&mut buf, 0);
+    show::case(
+        rt,
+        b"1 and 4, 12 bytes of version 2 and no bidder",
+        &buf,
+        12,
+    )?;
+    build::set_byte(&mut buf, 0, b'Q');
     show::case(
         rt,
         b"2 and 1, 12 bytes of version 2 with a wrong mark",
-        buf,
+        &buf,
         12,
     )?;
     show::case(
         rt,
         b"1 and 2, 8 bytes of version 2 with a wrong mark",
-        buf,
+        &buf,
         8,
     )
 }
 
 fn fields_in_ticks(rt: &impl Print) -> io::Result<()> {
-    let mut space = [0u8; build::ROOM];
-    let buf: &mut [u8] = &mut space;
-    build::base_in_ticks(buf, 5, 2, 3, 2);
-    build::set_bid(buf, 1, 6);
-    build::set_constraint(buf, 1, [0, 1, 0, 0]);
-    show::case(rt, b"27 and 10, bid 1 off the tick and an owner 0", buf, 41)?;
-    build::set_bid(buf, 2, 1000000005);
+    let mut buf = [0u8; build::ROOM];
+    build::base_in_ticks(&mut buf, 5, 2, 3, 2);
+    build::set_bid(&mut buf, 1, 6);
+    build::set_constraint(&mut buf, 1, [0, 1, 0, 0]);
+    show::case(
+        rt,
+        b"27 and 10, bid 1 off the tick and an owner 0",
+        &buf,
+        41,
+    )?;
+    build::set_bid(&mut buf, 2, 1000000005);
     show::case(
         rt,
         b"9 and 27, bid 1 off the tick and bid 2 too large",
-        buf,
+        &buf,
         41,
     )?;
-    build::set_effect(buf, 3, 0);
+    build::set_effect(&mut buf, 3, 0);
     show::case(
         rt,
         b"8 and 27, effect 3 is 0 and bid 1 off the tick",
-        buf,
+        &buf,
         41,
     )
 }
 
 // Both constraints of the sheet.
 fn two(rt: &impl Print, name: &[u8], first: [u8; 4], second: [u8; 4]) -> io::Result<()> {
-    let mut space = [0u8; build::ROOM];
-    let buf: &mut [u8] = &mut space;
-    right(buf);
-    build::set_constraint(buf, 1, first);
-    build::set_constraint(buf, 2, second);
-    show::case(rt, name, buf, 37)
+    let mut buf = [0u8; build::ROOM];
+    right(&mut buf);
+    build::set_constraint(&mut buf, 1, first);
+    build::set_constraint(&mut buf, 2, second);
+    show::case(rt, name, &buf, 37)
 }
 
 // Two faults of the first constraint; the second is right.

@@ -19,14 +19,14 @@ fn counts(rt: &impl Print, round: Round) -> io::Result<()> {
     line::number(rt, b"  bidders ", round.bidders as u64)?;
     line::number(rt, b", places ", round.slots as u64)?;
     line::number(rt, b", conditions used ", round.used as u64)?;
-    line::number(rt, b", tick ", round.tick as u64)?;
+    line::number(rt, b", tick ", u64::from(round.tick))?;
     line::text(rt, b"\n")
 }
 
 // An element of an array: what it is, its index and its value.
 fn amount(rt: &impl Print, name: &[u8], index: usize, value: u32) -> io::Result<()> {
     line::number(rt, name, index as u64)?;
-    line::end(rt, value as u64)
+    line::end(rt, u64::from(value))
 }
 
 // The effect at an index.
@@ -118,26 +118,24 @@ fn constraints(rt: &impl Print, round: Round) -> io::Result<()> {
 // A line with the number that the check gives the first `length` bytes, and where it accepts them, what is read of them.
 fn reading(rt: &impl Print, name: &[u8], buf: &[u8], length: usize) -> io::Result<()> {
     let sheet = line::front(buf, length);
-    let refusal = sheet_check::check(sheet);
     line::text(rt, name)?;
-    line::end(rt, refusal as u64)?;
-    if refusal == 0 {
-        let round = sheet_read::accepted_round(sheet);
-        counts(rt, round)?;
-        effects(rt, round)?;
-        bids(rt, round)?;
-        constraints(rt, round)?;
+    if let Err(refusal) = sheet_check::check(sheet) {
+        return line::end(rt, u64::from(refusal.number()));
     }
-    Ok(())
+    line::end(rt, 0)?;
+    let round = sheet_read::accepted_round(sheet);
+    counts(rt, round)?;
+    effects(rt, round)?;
+    bids(rt, round)?;
+    constraints(rt, round)
 }
 
 // Six bidders, three slots and 0x0102 constraints, with a bid out of range.
 fn refused(rt: &impl Print) -> io::Result<()> {
-    let mut space = [0u8; build::ROOM];
-    let buf: &mut [u8] = &mut space;
-    let length = build::base(buf, 6, 3, 0x0102);
-    build::set_bid(buf, 6, 1000000001);
-    reading(rt, b"reading a refused sheet", buf, length)
+    let mut buf = [0u8; build::ROOM];
+    let length = build::base(&mut buf, 6, 3, 0x0102);
+    build::set_bid(&mut buf, 6, 1000000001);
+    reading(rt, b"reading a refused sheet", &buf, length)
 }
 
 // On a sheet of six bidders, three slots and 0x0102 constraints: the effects, the first and the last bid.
@@ -151,29 +149,27 @@ fn set_small(buf: &mut [u8], first_bid: u32, last_bid: u32) {
 
 // A constraint of each kind and the last one, in any order.
 fn small(rt: &impl Print) -> io::Result<()> {
-    let mut space = [0u8; build::ROOM];
-    let buf: &mut [u8] = &mut space;
-    let length = build::base(buf, 6, 3, 0x0102);
-    set_small(buf, 0x01020304, 0x04030201);
-    build::set_constraint(buf, 1, [2, 3, 4, 1]);
-    build::set_constraint(buf, 2, [3, 0, 1, 2]);
-    build::set_constraint(buf, 3, [4, 2, 0, 0]);
-    build::set_constraint(buf, 0x0102, [5, 1, 4, 3]);
-    reading(rt, b"reading a small sheet", buf, length)
+    let mut buf = [0u8; build::ROOM];
+    let length = build::base(&mut buf, 6, 3, 0x0102);
+    set_small(&mut buf, 0x01020304, 0x04030201);
+    build::set_constraint(&mut buf, 1, [2, 3, 4, 1]);
+    build::set_constraint(&mut buf, 2, [3, 0, 1, 2]);
+    build::set_constraint(&mut buf, 3, [4, 2, 0, 0]);
+    build::set_constraint(&mut buf, 0x0102, [5, 1, 4, 3]);
+    reading(rt, b"reading a small sheet", &buf, length)
 }
 
 // The same in version 2, where they rise.
 fn small_in_ticks(rt: &impl Print) -> io::Result<()> {
-    let mut space = [0u8; build::ROOM];
-    let buf: &mut [u8] = &mut space;
-    let length = build::base_in_ticks(buf, TICK, 6, 3, 0x0102);
-    set_small(buf, 3 * TICK, 57 * TICK);
-    build::set_constraint(buf, 1, [1, 0, 4, 2]);
-    build::set_constraint(buf, 2, [1, 2, 0, 0]);
-    build::set_constraint(buf, 3, [1, 3, 5, 2]);
-    build::rise(buf, 4);
-    build::set_constraint(buf, 0x0102, [6, 1, 4, 3]);
-    reading(rt, b"reading a small sheet of version 2", buf, length)
+    let mut buf = [0u8; build::ROOM];
+    let length = build::base_in_ticks(&mut buf, TICK, 6, 3, 0x0102);
+    set_small(&mut buf, 3 * TICK, 57 * TICK);
+    build::set_constraint(&mut buf, 1, [1, 0, 4, 2]);
+    build::set_constraint(&mut buf, 2, [1, 2, 0, 0]);
+    build::set_constraint(&mut buf, 3, [1, 3, 5, 2]);
+    build::rise(&mut buf, 4);
+    build::set_constraint(&mut buf, 0x0102, [6, 1, 4, 3]);
+    reading(rt, b"reading a small sheet of version 2", &buf, length)
 }
 
 // On a sheet of the largest counts: the last field of each kind.
@@ -184,12 +180,11 @@ fn set_full(buf: &mut [u8], last_bid: u32) {
 }
 
 fn full(rt: &impl Print) -> io::Result<()> {
-    let mut space = [0u8; build::ROOM];
-    let buf: &mut [u8] = &mut space;
-    let length = build::base(buf, 64, 16, 1024);
-    set_full(buf, 0x01020304);
-    reading(rt, b"reading a full sheet", buf, length)?;
-    let longer = build::base_in_ticks(buf, TICK, 64, 16, 1024);
-    set_full(buf, 57 * TICK);
-    reading(rt, b"reading a full sheet of version 2", buf, longer)
+    let mut buf = [0u8; build::ROOM];
+    let length = build::base(&mut buf, 64, 16, 1024);
+    set_full(&mut buf, 0x01020304);
+    reading(rt, b"reading a full sheet", &buf, length)?;
+    let longer = build::base_in_ticks(&mut buf, TICK, 64, 16, 1024);
+    set_full(&mut buf, 57 * TICK);
+    reading(rt, b"reading a full sheet of version 2", &buf, longer)
 }

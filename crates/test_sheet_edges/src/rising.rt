@@ -24,14 +24,13 @@ fn three(
     second: [u8; 4],
     third: [u8; 4],
 ) -> io::Result<()> {
-    let mut space = [0u8; build::ROOM];
-    let buf: &mut [u8] = &mut space;
-    let length = build::base_in_ticks(buf, 5, 3, 4, 3);
-    set(buf, first, second, third);
-    show::case(rt, name, buf, length)?;
-    let shorter = build::base(buf, 3, 4, 3);
-    set(buf, first, second, third);
-    show::case(rt, b"  in version 1", buf, shorter)
+    let mut buf = [0u8; build::ROOM];
+    let length = build::base_in_ticks(&mut buf, 5, 3, 4, 3);
+    set(&mut buf, first, second, third);
+    show::case(rt, name, &buf, length)?;
+    let shorter = build::base(&mut buf, 3, 4, 3);
+    set(&mut buf, first, second, third);
+    show::case(rt, b"  in version 1", &buf, shorter)
 }
 
 fn set(buf: &mut [u8], first: [u8; 4], second: [u8; 4], third: [u8; 4]) {
@@ -76,20 +75,19 @@ fn zeros(rt: &impl Print) -> io::Result<()> {
 
 // The largest numbers in the first of two constraints among 64 bidders and 16 slots.
 fn largest(rt: &impl Print) -> io::Result<()> {
-    let mut space = [0u8; build::ROOM];
-    let buf: &mut [u8] = &mut space;
-    let length = build::base_in_ticks(buf, 1, 64, 16, 2);
-    build::set_constraint(buf, 1, [63, 16, 64, 16]);
-    build::set_constraint(buf, 2, [64, 0, 1, 1]);
-    show::case(rt, b"owner 63 of 64 and then owner 64", buf, length)?;
-    build::set_constraint(buf, 1, [64, 0, 63, 16]);
-    build::set_constraint(buf, 2, [64, 16, 1, 1]);
-    show::case(rt, b"own place 0 and then 16 of 16", buf, length)?;
-    build::set_constraint(buf, 1, [64, 16, 63, 16]);
+    let mut buf = [0u8; build::ROOM];
+    let length = build::base_in_ticks(&mut buf, 1, 64, 16, 2);
+    build::set_constraint(&mut buf, 1, [63, 16, 64, 16]);
+    build::set_constraint(&mut buf, 2, [64, 0, 1, 1]);
+    show::case(rt, b"owner 63 of 64 and then owner 64", &buf, length)?;
+    build::set_constraint(&mut buf, 1, [64, 0, 63, 16]);
+    build::set_constraint(&mut buf, 2, [64, 16, 1, 1]);
+    show::case(rt, b"own place 0 and then 16 of 16", &buf, length)?;
+    build::set_constraint(&mut buf, 1, [64, 16, 63, 16]);
     show::case(
         rt,
         b"own place 16 of 16 twice, other 63 and then 1",
-        buf,
+        &buf,
         length,
     )
 }
@@ -188,23 +186,21 @@ fn after_a_fault(rt: &impl Print) -> io::Result<()> {
 }
 
 fn bid_and_order(rt: &impl Print) -> io::Result<()> {
-    let mut space = [0u8; build::ROOM];
-    let buf: &mut [u8] = &mut space;
-    let length = build::base_in_ticks(buf, 5, 3, 4, 2);
-    build::set_constraint(buf, 2, [1, 1, 0, 0]);
-    show::case(rt, b"28, condition 2 as condition 1", buf, length)?;
-    build::set_bid(buf, 3, 6);
-    show::case(rt, b"27 and 28, bid 3 off the tick too", buf, length)
+    let mut buf = [0u8; build::ROOM];
+    let length = build::base_in_ticks(&mut buf, 5, 3, 4, 2);
+    build::set_constraint(&mut buf, 2, [1, 1, 0, 0]);
+    show::case(rt, b"28, condition 2 as condition 1", &buf, length)?;
+    build::set_bid(&mut buf, 3, 6);
+    show::case(rt, b"27 and 28, bid 3 off the tick too", &buf, length)
 }
 
 // Among 64 bidders and 16 slots, 1,024 constraints that rise from (1,1,0,0), and then the constraint given changed.
 fn one_of_all(rt: &impl Print, name: &[u8], constraint: u16, fields: [u8; 4]) -> io::Result<()> {
-    let mut space = [0u8; build::ROOM];
-    let buf: &mut [u8] = &mut space;
-    let length = build::base_in_ticks(buf, 1, 64, 16, 1024);
-    build::set_constraint(buf, constraint, fields);
-    line::number(rt, b"condition ", constraint as u64)?;
-    show::case(rt, name, buf, length)
+    let mut buf = [0u8; build::ROOM];
+    let length = build::base_in_ticks(&mut buf, 1, 64, 16, 1024);
+    build::set_constraint(&mut buf, constraint, fields);
+    line::number(rt, b"condition ", u64::from(constraint))?;
+    show::case(rt, name, &buf, length)
 }
 
 // The 1,024 are (1,1,0,0), (1,1,2,1) to (1,1,64,16), (1,2,0,0) and (1,2,2,1) to (1,2,2,14).

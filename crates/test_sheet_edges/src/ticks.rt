@@ -17,13 +17,12 @@ pub fn report(rt: &impl Print) -> io::Result<()> {
 // The first `length` bytes of a sheet of 1 bidder and 1 slot with tick 1, which has 21, and the version written last. In version 1 the
 // tick stands for the effect, and the effect for the bid.
 fn cut(rt: &impl Print, version: u16, length: usize) -> io::Result<()> {
-    let mut space = [0u8; build::ROOM];
-    let buf: &mut [u8] = &mut space;
-    build::base_in_ticks(buf, 1, 1, 1, 0);
-    build::set_version(buf, version as u32);
-    line::number(rt, b"version ", version as u64)?;
+    let mut buf = [0u8; build::ROOM];
+    build::base_in_ticks(&mut buf, 1, 1, 1, 0);
+    build::set_version(&mut buf, u32::from(version));
+    line::number(rt, b"version ", u64::from(version))?;
     line::number(rt, b", bytes ", length as u64)?;
-    show::verdict(rt, buf, length)
+    show::verdict(rt, &buf, length)
 }
 
 // "1 also covers a version 2 sheet under 13 bytes, checked after 3", and version 1's "shortest header stays 9 bytes".
@@ -48,15 +47,14 @@ fn lengths(rt: &impl Print) -> io::Result<()> {
 
 // One slot, and bids that are all one tick but one.
 fn bid(rt: &impl Print, tick: u32, bidders: u8, bidder: u8, value: u32) -> io::Result<()> {
-    let mut space = [0u8; build::ROOM];
-    let buf: &mut [u8] = &mut space;
-    let length = build::base_in_ticks(buf, tick, bidders, 1, 0);
-    build::set_bid(buf, bidder, value);
-    line::number(rt, b"tick ", tick as u64)?;
+    let mut buf = [0u8; build::ROOM];
+    let length = build::base_in_ticks(&mut buf, tick, bidders, 1, 0);
+    build::set_bid(&mut buf, bidder, value);
+    line::number(rt, b"tick ", u64::from(tick))?;
     line::byte(rt, b", bid ", bidder)?;
     line::byte(rt, b" of ", bidders)?;
-    line::number(rt, b" is ", value as u64)?;
-    show::verdict(rt, buf, length)
+    line::number(rt, b" is ", u64::from(value))?;
+    show::verdict(rt, &buf, length)
 }
 
 // "26 for a tick of 0 or above 1,000,000,000". The low bytes of 16,777,216 are 0.

@@ -10,18 +10,17 @@ use std::io;
 pub fn of(tally: &[u64], which: u32) -> u64
     ensures { result ≡ slice_index tally.now which }
 {
-    let at = which as usize;
-    if at < tally.len() { tally[at] } else { 0 }
+    tally.get(which as usize).copied().unwrap_or(0)
 }
 
 // One more.
+#[tactic(auto, using(std::proofs::lemmas::List::set_past), unfolding(crate::specs::Tally::counted))]
 pub fn add(tally: &mut [u64], which: u32)
     ensures { tally.new ≡ counted tally.old which }
 {
     let at = which as usize;
-    let more = std::num::wrapping_add_u64(of(tally, which), 1);
     if at < tally.len() {
-        tally[at] = more;
+        tally[at] = tally[at].wrapping_add(1);
     }
 }
 

@@ -34,9 +34,7 @@ fn bar(state: &mut u64, kind: u32, m: u32) -> u32 {
 }
 
 fn set_bars(state: &mut u64, bars: &mut [u8], kind: u32, m: u32) {
-    let mut left = bars.len();
-    while 0 < left {
-        left -= 1;
+    for left in (0..bars.len()).rev() {
         let value = bar(state, kind, m);
         parts::set_byte(bars, left, value);
     }
@@ -66,9 +64,9 @@ pub fn right(state: &mut u64, n: u32, m: u32, bars: &mut [u8]) -> Call {
     let owner = lists::one_of(state, n);
     set_bar(bars, owner, 0);
     Call {
-        n: n,
-        m: m,
-        owner: owner,
+        n,
+        m,
+        owner,
         limit: limit(state, m),
         bars: n,
     }
@@ -79,7 +77,7 @@ fn other_length(state: &mut u64, n: u32) -> u32 {
     let drawn = number::up_to(state, 3);
     match drawn {
         0 => { if 0 < n { n - 1 } else { 1 } }
-        1 => std::num::wrapping_add_u32(n, 1),
+        1 => n.wrapping_add(1),
         2 => 0,
         _ => number::up_to(state, BARS_ROOM as u32),
     }
@@ -87,7 +85,7 @@ fn other_length(state: &mut u64, n: u32) -> u32 {
 
 // A bar above m: by 1, or any.
 fn too_high(state: &mut u64, m: u32) -> u32 {
-    let above = std::num::wrapping_add_u32(m, 1);
+    let above = m.wrapping_add(1);
     if number::once_in(state, 2) {
         return above;
     }

@@ -33,21 +33,24 @@ fn by_library(call: Call, bars: &[u8], res: &mut [u8], lent: Lent, count: &mut u
     let m = call.m;
     let owner = call.owner;
     let limit = call.limit;
-    if res.len() < end {
+    let Some(part) = res.get_mut(from..end) else {
         return OUT_OF_ROOM;
-    }
-    pas::pas_slot_terms(n, m, owner, limit, bars, &mut res[from..end], count)
+    };
+    pas::pas_slot_terms(n, m, owner, limit, bars, part, count)
 }
 
 // The number that is due: the rule's, or 19 for a result that is too short.
-fn due(rule: u32, lent: Lent) -> u32 {
-    if rule != 0 {
-        return rule;
+fn due(rule: Option<u32>, lent: Lent) -> u32 {
+    match rule {
+        Some(rule) => rule,
+        None => {
+            if 4 * u64::from(lent.count) <= u64::from(lent.size) {
+                0
+            } else {
+                19
+            }
+        }
     }
-    if lent.size as u64 >= 4 * lent.count as u64 {
-        return 0;
-    }
-    19
 }
 
 fn count_after(number: u32, count: u32) -> u32 {
@@ -56,7 +59,7 @@ fn count_after(number: u32, count: u32) -> u32 {
 
 // What the list is made of.
 fn note_kind(tally: &mut [u64], call: Call, count: u32) {
-    let below = std::num::wrapping_sub_u32(call.m, call.limit);
+    let below = call.m.wrapping_sub(call.limit);
     let bars = below < count;
     let limit = 0 < below;
     test_tally::add_if(tally, !bars & !limit, counts::EMPTY);
@@ -68,15 +71,15 @@ fn note_kind(tally: &mut [u64], call: Call, count: u32) {
 
 fn note(tally: &mut [u64], call: Call, number: u32, lent: Lent) {
     let count = lent.count;
-    let size = lent.size as u64;
+    let size = u64::from(lent.size);
     counts::add_call(tally, number);
     test_tally::add_if(
         tally,
-        number == 19 && size + 1 == 4 * count as u64,
+        number == 19 && size + 1 == 4 * u64::from(count),
         counts::BYTE_SHORT,
     );
     if number == 0 {
-        test_tally::add_if(tally, size == 4 * count as u64, counts::JUST_ROOM);
+        test_tally::add_if(tally, size == 4 * u64::from(count), counts::JUST_ROOM);
         note_kind(tally, call, count);
     }
 }
@@ -97,26 +100,24 @@ pub fn bytes_of(count: u32) -> u32 {
     if count < 1024 { 4 * count } else { 0 }
 }
 
-// The call with so much lent, held to what is due. The list that the library wrote takes the place of the second engine's; its count, or what was
-// there before.
+// The call with so much lent, held to what is due. The list that the library wrote takes the place of the second engine's; its count, none where the call
+// is refused.
 fn hold(
     rt: &impl Print,
     state: &mut u64,
     tally: &mut [u64],
     call: Call,
     bars: &[u8],
-    rule: u32,
+    rule: Option<u32>,
     lent: Lent,
     list: &mut [u8],
-) -> io::Result<u32> {
-    let mut first = [0u8; ROOM];
-    let mut second = [0u8; ROOM];
-    let one: &mut [u8] = &mut first;
-    let two: &mut [u8] = &mut second;
+) -> io::Result<Option<u32>> {
+    let mut one = [0u8; ROOM];
+    let mut two = [0u8; ROOM];
     let number_due = due(rule, lent);
-    prepare(state, one, two, list, lent, number_due);
+    prepare(state, &mut one, &mut two, list, lent, number_due);
     let mut count = PRESET;
-    let number = by_library(call, bars, one, lent, &mut count);
+    let number = by_library(call, bars, &mut one, lent, &mut count);
     note(tally, call, number, lent);
     counts::hold(rt, tally, number == number_due, b"number")?;
     counts::hold(
@@ -125,24 +126,24 @@ fn hold(
         count == count_after(number_due, lent.count),
         b"count",
     )?;
-    counts::hold(rt, tally, bytes::same(one, two, ROOM), b"bytes")?;
+    counts::hold(rt, tally, bytes::same(&one, &two, ROOM), b"bytes")?;
     parts::copy(
-        parts::part(one, lent.start, lent.size),
+        parts::part(&one, lent.start, lent.size),
         list,
         bytes_of(count) as usize,
     );
-    Ok(count)
+    Ok(if number == 0 { Some(count) } else { None })
 }
 
 // The list that is due, and how many conditions it has; of a call that breaks a rule, any number, for a length.
-fn due_list(state: &mut u64, call: Call, bars: &[u8], rule: u32, list: &mut [u8]) -> u32 {
-    if rule == 0 {
+fn due_list(state: &mut u64, call: Call, bars: &[u8], rule: Option<u32>, list: &mut [u8]) -> u32 {
+    if rule.is_none() {
         return plain::write(call, bars, list);
     }
     number::up_to(state, 20)
 }
 
-// Both engines on a call: the library's list, and its count, 1,024 or more where it is refused.
+// Both engines on a call: the library's list, and its count, none where the call is refused.
 pub fn both(
     rt: &impl Print,
     state: &mut u64,
@@ -151,7 +152,7 @@ pub fn both(
     bars: &[u8],
     enough: bool,
     list: &mut [u8],
-) -> io::Result<u32> {
+) -> io::Result<Option<u32>> {
     let lent_bars = parts::part(bars, 0, call.bars);
     let rule = plain::rule(call, lent_bars);
     let due_count = due_list(state, call, lent_bars, rule, list);
@@ -165,24 +166,20 @@ pub fn both(
 
 fn with_faults(state: &mut u64, right: Call, bars: &mut [u8], faults: u32) -> Call {
     let mut drawn = right;
-    let mut left = faults;
-    while 0 < left {
+    for _ in 0..faults {
         drawn = call::with_fault(state, drawn, bars);
-        left -= 1;
     }
     drawn
 }
 
 // A call with n and m of its own and so many faults.
 pub fn alone(rt: &impl Print, state: &mut u64, tally: &mut [u64], faults: u32) -> io::Result<()> {
-    let mut bars_space = [0u8; call::BARS_ROOM];
-    let bars: &mut [u8] = &mut bars_space;
-    let mut list_space = [0u8; ROOM];
-    let list: &mut [u8] = &mut list_space;
+    let mut bars = [0u8; call::BARS_ROOM];
+    let mut list = [0u8; ROOM];
     let n = calls::up_to_most(state, call::MAX_BIDDERS);
     let m = calls::up_to_most(state, call::MAX_SLOTS);
-    let right = call::right(state, n, m, bars);
-    let asked = with_faults(state, right, bars, faults);
-    both(rt, state, tally, asked, bars, false, list)?;
+    let right = call::right(state, n, m, &mut bars);
+    let asked = with_faults(state, right, &mut bars, faults);
+    both(rt, state, tally, asked, &bars, false, &mut list)?;
     Ok(())
 }

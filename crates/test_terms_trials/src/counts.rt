@@ -3,6 +3,7 @@
 use std::io;
 
 // The calls by the number that they returned, 0 to 22, come first.
+// Kept: these numbers are places in one tally, so an enum of the others would be no plainer.
 const NUMBERS: u32 = 23;
 
 pub const DIFFERENCES: u32 = 23;
@@ -98,25 +99,20 @@ fn gain_lines(rt: &impl Print, tally: &[u64], words: &[u8], first: u32) -> io::R
         rt,
         tally,
         b"the honest list pays more",
-        std::num::wrapping_add_u32(first, MORE),
+        first.wrapping_add(MORE),
     )?;
-    test_tally::count_line(
-        rt,
-        tally,
-        b"both pay the same",
-        std::num::wrapping_add_u32(first, SAME),
-    )?;
+    test_tally::count_line(rt, tally, b"both pay the same", first.wrapping_add(SAME))?;
     test_tally::count_line(
         rt,
         tally,
         b"the honest list pays less",
-        std::num::wrapping_add_u32(first, LESS),
+        first.wrapping_add(LESS),
     )?;
     test_tally::count_line(
         rt,
         tally,
         b"one of the two gains is not 0",
-        std::num::wrapping_add_u32(first, GAINED),
+        first.wrapping_add(GAINED),
     )
 }
 

@@ -24,10 +24,8 @@ fn calls(
     faults: u32,
     times: u32,
 ) -> io::Result<()> {
-    let mut left = times;
-    while 0 < left {
+    for _ in 0..times {
         compare::alone(rt, state, tally, faults)?;
-        left -= 1;
     }
     Ok(())
 }
@@ -40,10 +38,8 @@ fn lists(
     shape: u32,
     times: u32,
 ) -> io::Result<()> {
-    let mut left = times;
-    while 0 < left {
+    for _ in 0..times {
         sent::on_sheet(rt, state, tally, shape)?;
-        left -= 1;
     }
     Ok(())
 }
@@ -65,13 +61,12 @@ fn other_lists(rt: &impl Print, state: &mut u64, tally: &mut [u64]) -> io::Resul
 
 fn main(rt: HostRuntime) -> io::Result<()> {
     let mut state = SEED;
-    let mut numbers = [0u64; counts::ROOM];
-    let tally: &mut [u64] = &mut numbers;
-    calls(&rt, &mut state, tally, 0, 6000)?;
-    calls(&rt, &mut state, tally, 1, 20000)?;
-    calls(&rt, &mut state, tally, 2, 20000)?;
-    calls(&rt, &mut state, tally, 4, 10000)?;
-    small_lists(&rt, &mut state, tally)?;
-    other_lists(&rt, &mut state, tally)?;
-    counts::report(&rt, tally)
+    let mut tally = [0u64; counts::ROOM];
+    calls(&rt, &mut state, &mut tally, 0, 6000)?;
+    calls(&rt, &mut state, &mut tally, 1, 20000)?;
+    calls(&rt, &mut state, &mut tally, 2, 20000)?;
+    calls(&rt, &mut state, &mut tally, 4, 10000)?;
+    small_lists(&rt, &mut state, &mut tally)?;
+    other_lists(&rt, &mut state, &mut tally)?;
+    counts::report(&rt, &tally)
 }

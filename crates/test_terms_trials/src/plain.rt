@@ -21,38 +21,36 @@ fn is_from_one_to(value: u32, most: u32) -> bool {
 }
 
 fn has_above(bars: &[u8], m: u32) -> bool {
-    let mut left = bars.len();
-    while 0 < left {
-        left -= 1;
-        if m < parts::byte(bars, left) {
-            return true;
-        }
-    }
-    false
-}
-
-// A rule's number where it is broken, and else what the later rules say.
-fn first(holds: bool, number: u32, later: u32) -> u32 {
-    if holds { later } else { number }
+    bars.iter().any(|bar| m < u32::from(*bar))
 }
 
 // "20 for a limit of 0 or above m, 21 for a list of bars not n long or a bar above m, 22 for a bar other than 0 against the owner"
-fn terms_rule(call: Call, bars: &[u8]) -> u32 {
-    let listed = bars.len() == call.n as usize;
-    let own = first(bar(bars, call.owner) == 0, 22, 0);
-    let list = first(listed & !has_above(bars, call.m), 21, own);
-    first(is_from_one_to(call.limit, call.m), 20, list)
+fn terms_rule(call: Call, bars: &[u8]) -> Option<u32> {
+    if !is_from_one_to(call.limit, call.m) {
+        return Some(20);
+    }
+    if bars.len() != call.n as usize || has_above(bars, call.m) {
+        return Some(21);
+    }
+    if bar(bars, call.owner) != 0 {
+        Some(22)
+    } else {
+        None
+    }
 }
 
-// "after 4, 5 and 16"
-pub fn rule(call: Call, bars: &[u8]) -> u32 {
-    let owner = first(
-        is_from_one_to(call.owner, call.n),
-        16,
-        terms_rule(call, bars),
-    );
-    let slots = first(is_from_one_to(call.m, MAX_SLOTS), 5, owner);
-    first(is_from_one_to(call.n, MAX_BIDDERS), 4, slots)
+// The first rule that is broken, "after 4, 5 and 16".
+pub fn rule(call: Call, bars: &[u8]) -> Option<u32> {
+    if !is_from_one_to(call.n, MAX_BIDDERS) {
+        return Some(4);
+    }
+    if !is_from_one_to(call.m, MAX_SLOTS) {
+        return Some(5);
+    }
+    if !is_from_one_to(call.owner, call.n) {
+        return Some(16);
+    }
+    terms_rule(call, bars)
 }
 
 // "for each rival how many top places it must not have"
@@ -86,16 +84,14 @@ fn add(call: Call, bars: &[u8], index: u32, list: &mut [u8], count: u32) -> u32 
     parts::set_byte(list, at + 1, own);
     parts::set_byte(list, at + 2, other);
     parts::set_byte(list, at + 3, others);
-    std::num::wrapping_add_u32(count, 1)
+    count.wrapping_add(1)
 }
 
 // The terms of a call that breaks no rule, and how many they are.
 pub fn write(call: Call, bars: &[u8], list: &mut [u8]) -> u32 {
     let mut count: u32 = 0;
-    let mut index: u32 = 0;
-    while index < CONDITIONS {
+    for index in 0..CONDITIONS {
         count = add(call, bars, index, list, count);
-        index += 1;
     }
     count
 }

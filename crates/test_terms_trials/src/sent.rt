@@ -1,5 +1,6 @@
 // A written list on a sheet, as the owner's list in place of its own.
 use crate::{call, compare, counts};
+use std::cmp::Ordering;
 use std::io;
 use test_both_engines::bytes;
 use test_chance::{floor_lists, lists, others, parts, rounds};
@@ -42,28 +43,16 @@ fn hold_part(
 
 fn gain(
     played: &[u8],
-    floors: &[u32],
-    floored: bool,
+    floors: Option<&[u32]>,
     honest: &[u8],
     owner: u32,
     worth: u32,
     gain: &mut i64,
 ) -> u32 {
-    if floored {
-        return pas::pas_gain_floors(played, floors, honest, owner, worth, gain);
+    match floors {
+        Some(floors) => pas::pas_gain_floors(played, floors, honest, owner, worth, gain),
+        None => pas::pas_gain(played, honest, owner, worth, gain),
     }
-    pas::pas_gain(played, honest, owner, worth, gain)
-}
-
-// Which of the two pays more.
-fn verdict(honest: i64, other: i64) -> u32 {
-    if honest < other {
-        return counts::LESS;
-    }
-    if other < honest {
-        return counts::MORE;
-    }
-    counts::SAME
 }
 
 // "The first result is at least the second."
@@ -72,20 +61,22 @@ fn hold_honest(
     tally: &mut [u64],
     honest: &[u8],
     sent: &[u8],
-    floors: &[u32],
-    floored: bool,
+    floors: Option<&[u32]>,
     owner: u32,
     worth: u32,
 ) -> io::Result<()> {
     let mut one: i64 = 0;
     let mut two: i64 = 0;
-    let first = gain(honest, floors, floored, honest, owner, worth, &mut one);
-    let second = gain(sent, floors, floored, honest, owner, worth, &mut two);
-    let found = verdict(one, two);
-    let place = if floored {
-        counts::WITH_FLOORS
-    } else {
-        counts::WITHOUT_FLOORS
+    let first = gain(honest, floors, honest, owner, worth, &mut one);
+    let second = gain(sent, floors, honest, owner, worth, &mut two);
+    let place = match floors {
+        Some(_) => counts::WITH_FLOORS,
+        None => counts::WITHOUT_FLOORS,
+    };
+    let found = match one.cmp(&two) {
+        Ordering::Greater => counts::MORE,
+        Ordering::Equal => counts::SAME,
+        Ordering::Less => counts::LESS,
     };
     counts::hold(
         rt,
@@ -93,13 +84,9 @@ fn hold_honest(
         first == 0 && second == 0,
         b"numbers of the gains",
     )?;
-    counts::hold(rt, tally, found != counts::LESS, b"demand 3")?;
-    test_tally::add(tally, std::num::wrapping_add_u32(place, found));
-    test_tally::add_if(
-        tally,
-        one != 0 || two != 0,
-        std::num::wrapping_add_u32(place, counts::GAINED),
-    );
+    counts::hold(rt, tally, two <= one, b"demand 3")?;
+    test_tally::add(tally, place + found);
+    test_tally::add_if(tally, one != 0 || two != 0, place + counts::GAINED);
     Ok(())
 }
 
@@ -111,23 +98,14 @@ fn hold_sent(
     sent: &[u8],
     owner: u32,
 ) -> io::Result<()> {
-    let mut space = [0u32; floor_lists::ROOM];
-    let floors: &mut [u32] = &mut space;
+    let mut floors = [0u32; floor_lists::ROOM];
     let shape = floor_lists::shape_among_bids(state);
-    let length = floor_lists::make(state, shape, honest, floors);
+    let length = floor_lists::make(state, shape, honest, &mut floors);
     let worth = rounds::worth(state, honest, owner);
     hold_downward(rt, tally, sent, owner)?;
-    hold_honest(rt, tally, honest, sent, &[], false, owner, worth)?;
-    hold_honest(
-        rt,
-        tally,
-        honest,
-        sent,
-        floor_lists::part(floors, 0, length),
-        true,
-        owner,
-        worth,
-    )
+    let lent = floor_lists::part(&floors, 0, length);
+    hold_honest(rt, tally, honest, sent, None, owner, worth)?;
+    hold_honest(rt, tally, honest, sent, Some(lent), owner, worth)
 }
 
 // The list in place of the owner's own. A sheet that is then full may lack some conditions, and is left out.
@@ -140,18 +118,17 @@ fn put(
     list: &[u8],
     count: u32,
 ) -> io::Result<()> {
-    let mut space = [0u8; parts::ROOM];
-    let buffer: &mut [u8] = &mut space;
-    others::make(state, honest, owner, buffer);
-    lists::add_listed(buffer, list, count);
-    lists::shuffle_free(state, buffer);
+    let mut buffer = [0u8; parts::ROOM];
+    others::make(state, honest, owner, &mut buffer);
+    lists::add_listed(&mut buffer, list, count);
+    lists::shuffle_free(state, &mut buffer);
     test_tally::add(tally, counts::SHEETS);
-    if MAX_CONSTRAINTS <= parts::constraints(buffer) {
+    if MAX_CONSTRAINTS <= parts::constraints(&buffer) {
         test_tally::add(tally, counts::FULL);
         return Ok(());
     }
-    let bytes = parts::size(parts::length(buffer));
-    let sent = parts::part(buffer, 0, bytes);
+    let bytes = parts::size(parts::length(&buffer));
+    let sent = parts::part(&buffer, 0, bytes);
     counts::hold(rt, tally, pas::pas_check(sent) == 0, b"check")?;
     hold_part(rt, tally, sent, owner, list, compare::bytes_of(count))?;
     hold_sent(rt, state, tally, honest, sent, owner)
@@ -159,25 +136,21 @@ fn put(
 
 // A call with the n and m of a sheet of the shape, and its list on that sheet.
 pub fn on_sheet(rt: &impl Print, state: &mut u64, tally: &mut [u64], shape: u32) -> io::Result<()> {
-    let mut bars_space = [0u8; call::BARS_ROOM];
-    let bars: &mut [u8] = &mut bars_space;
-    let mut list_space = [0u8; compare::ROOM];
-    let list: &mut [u8] = &mut list_space;
-    let mut sheet_space = [0u8; parts::ROOM];
-    let honest: &mut [u8] = &mut sheet_space;
-    let length = parts::size(rounds::make(state, shape, honest));
-    let n = parts::bidders(honest);
-    let m = parts::slots(honest);
-    let asked = call::right(state, n, m, bars);
-    let count = compare::both(rt, state, tally, asked, bars, true, list)?;
-    if count < MAX_CONSTRAINTS {
+    let mut bars = [0u8; call::BARS_ROOM];
+    let mut list = [0u8; compare::ROOM];
+    let mut honest = [0u8; parts::ROOM];
+    let length = parts::size(rounds::make(state, shape, &mut honest));
+    let n = parts::bidders(&honest);
+    let m = parts::slots(&honest);
+    let asked = call::right(state, n, m, &mut bars);
+    if let Some(count) = compare::both(rt, state, tally, asked, &bars, true, &mut list)? {
         put(
             rt,
             state,
             tally,
-            parts::part(honest, 0, length),
+            parts::part(&honest, 0, length),
             asked.owner,
-            list,
+            &list,
             count,
         )?;
     }

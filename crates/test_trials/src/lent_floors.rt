@@ -3,34 +3,31 @@ use test_both_engines::counts;
 use test_chance::floor_lists::Test;
 use test_chance::{floor_lists, number};
 
-// Three times in four none.
+// A fault of a list, as `test_damage` takes it: three times in four 0, for none.
 pub fn any_fault(state: &mut u64) -> u32 {
     let drawn = number::up_to(state, 11);
     if drawn <= test_damage::wrong_floors::FAULTS {
-        return drawn;
+        drawn
+    } else {
+        0
     }
-    0
 }
 
 // Any numbers, with which no list is right.
 fn fill(state: &mut u64, space: &mut [u32]) {
-    let mut left = floor_lists::ROOM as u32;
-    while 0 < left {
-        left -= 1;
-        let value = number::up_to(state, 4294967295);
-        floor_lists::set(space, left, value);
+    for floor in space.iter_mut().rev() {
+        *floor = number::up_to(state, u32::MAX);
     }
 }
 
 // A list for the sheet with the fault, or a right one where that is 0, among other numbers, and its length.
 pub fn lay(state: &mut u64, sheet: &[u8], fault: u32, start: u32, space: &mut [u32]) -> u32 {
-    let mut own = [0u32; floor_lists::ROOM];
-    let made: &mut [u32] = &mut own;
+    let mut made = [0u32; floor_lists::ROOM];
     fill(state, space);
     let shape = number::up_to(state, floor_lists::MIXED + 1);
-    let right = floor_lists::make(state, shape, sheet, made);
-    let length = test_damage::wrong_floors::damage(state, made, fault, right);
-    floor_lists::paste(made, space, start, length);
+    let right = floor_lists::make(state, shape, sheet, &mut made);
+    let length = test_damage::wrong_floors::damage(state, &mut made, fault, right);
+    floor_lists::paste(&made, space, start, length);
     length
 }
 
@@ -72,7 +69,7 @@ fn note_wrong(tally: &mut [u64], sheet: &[u8], list: &[u32], length: u32) {
     let high = some(list, sheet, length, Test::TooHigh);
     let just = some(list, sheet, length, Test::JustTooHigh);
     let fits = length == slots;
-    let last = if 0 < length { length - 1 } else { 0 };
+    let last = length.saturating_sub(1);
     test_tally::add_if(tally, length == 0, counts::NO_FLOORS);
     test_tally::add_if(tally, (0 < length) & (length < slots), counts::SHORT);
     test_tally::add_if(tally, slots < length, counts::LONG);

@@ -23,10 +23,8 @@ fn right_rounds(
     shape: u32,
     times: u32,
 ) -> io::Result<()> {
-    let mut left = times;
-    while 0 < left {
+    for _ in 0..times {
         round::play_round(rt, state, tally, shape, 0)?;
-        left -= 1;
     }
     Ok(())
 }
@@ -39,12 +37,10 @@ fn damaged_rounds(
     fault: u32,
     times: u32,
 ) -> io::Result<()> {
-    let mut left = times;
-    while 0 < left {
+    for _ in 0..times {
         let drawn = test_chance::number::up_to(state, 19);
         let shape = drawn % rounds::SHAPES;
         round::play_round(rt, state, tally, shape, fault)?;
-        left -= 1;
     }
     Ok(())
 }
@@ -73,21 +69,18 @@ fn larger_rounds(rt: &impl Print, state: &mut u64, tally: &mut [u64]) -> io::Res
 
 // As many for each fault.
 fn all_damaged_rounds(rt: &impl Print, state: &mut u64, tally: &mut [u64]) -> io::Result<()> {
-    let mut left = faults::FAULTS;
-    while 0 < left {
-        damaged_rounds(rt, state, tally, left, 900)?;
-        left -= 1;
+    for fault in (1..=faults::FAULTS).rev() {
+        damaged_rounds(rt, state, tally, fault, 900)?;
     }
     Ok(())
 }
 
 fn main(rt: HostRuntime) -> io::Result<()> {
     let mut state = SEED;
-    let mut numbers = [0u64; counts::ROOM];
-    let tally: &mut [u64] = &mut numbers;
-    small_rounds(&rt, &mut state, tally)?;
-    small_rounds_of_lists(&rt, &mut state, tally)?;
-    larger_rounds(&rt, &mut state, tally)?;
-    all_damaged_rounds(&rt, &mut state, tally)?;
-    report::all(&rt, tally)
+    let mut tally = [0u64; counts::ROOM];
+    small_rounds(&rt, &mut state, &mut tally)?;
+    small_rounds_of_lists(&rt, &mut state, &mut tally)?;
+    larger_rounds(&rt, &mut state, &mut tally)?;
+    all_damaged_rounds(&rt, &mut state, &mut tally)?;
+    report::all(&rt, &tally)
 }

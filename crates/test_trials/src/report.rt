@@ -17,16 +17,14 @@ fn number_line(
     }
     test_tally::text(rt, name)?;
     test_tally::text(rt, b" ")?;
-    test_tally::number(rt, number as u64)?;
+    test_tally::number(rt, u64::from(number))?;
     test_tally::line(rt, b"", count)
 }
 
 fn sum(tally: &[u64], call: u32) -> u64 {
     let mut total: u64 = 0;
-    let mut left = counts::NUMBERS;
-    while 0 < left {
-        left -= 1;
-        total = std::num::wrapping_add_u64(total, test_tally::of(tally, counts::place(call, left)));
+    for number in 0..counts::NUMBERS {
+        total = total.wrapping_add(test_tally::of(tally, counts::place(call, number)));
     }
     total
 }
@@ -35,12 +33,8 @@ fn sum(tally: &[u64], call: u32) -> u64 {
 fn call_lines(rt: &impl Print, tally: &[u64], name: &[u8], call: u32) -> io::Result<()> {
     test_tally::text(rt, name)?;
     test_tally::line(rt, b" calls", sum(tally, call))?;
-    let mut left = counts::NUMBERS;
-    while 0 < left {
-        if left <= counts::NUMBERS {
-            number_line(rt, tally, name, call, counts::NUMBERS - left)?;
-        }
-        left -= 1;
+    for number in 0..counts::NUMBERS {
+        number_line(rt, tally, name, call, number)?;
     }
     Ok(())
 }

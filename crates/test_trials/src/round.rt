@@ -28,7 +28,7 @@ fn make_truth(state: &mut u64, shape: u32, sheet: &[u8], bytes: usize, truth: &m
     let aim = number::up_to(state, 30);
     let drawn = number::up_to(state, 9);
     match drawn {
-        0 | 1 | 2 => bytes,
+        0..=2 => bytes,
         3 | 4 => lists::relist(state, truth, aim),
         5 | 6 => retick(state, truth),
         7 => rounds::make(state, shape, truth),
@@ -43,13 +43,12 @@ fn damage_sheet(state: &mut u64, sheet: &mut [u8], fault: u32, bytes: usize) -> 
     test_damage::damage(state, sheet, fault)
 }
 
-// Random bytes with the sheet among them, and how many there are.
-fn lay(state: &mut u64, made: &[u8], start: u32, bytes: u32, space: &mut [u8]) -> usize {
+// Random bytes with the sheet among them.
+fn lay(state: &mut u64, made: &[u8], start: u32, bytes: u32, space: &mut [u8]) {
     let after = number::up_to(state, 9);
     let total = start as usize + bytes as usize + after as usize;
     bytes::fill(state, space, total);
     bytes::paste(made, space, start, bytes);
-    total
 }
 
 // "n, bidders, 1 to 64", "m, places, 1 to 16" and "c, conditions, 0 to 1,024", each at its limit.
@@ -205,23 +204,19 @@ fn with_floors(
     sheet: &[u8],
     truth: &[u8],
 ) -> io::Result<()> {
-    let mut first = [0u32; floor_lists::ROOM];
-    let mut second = [0u32; floor_lists::ROOM];
-    let space: &mut [u32] = &mut first;
-    let kept: &mut [u32] = &mut second;
+    let mut space = [0u32; floor_lists::ROOM];
     let fault = lent_floors::any_fault(state);
     let start = number::up_to(state, 5);
-    let length = lent_floors::lay(state, sheet, fault, start, space);
-    floor_lists::paste(space, kept, 0, floor_lists::ROOM as u32);
-    let list = floor_lists::part(space, start, length);
+    let length = lent_floors::lay(state, sheet, fault, start, &mut space);
+    let kept = space;
+    let list = floor_lists::part(&space, start, length);
     lent_floors::note(tally, sheet, list, length, fault, kind.fault != 0);
     let form = Form {
         floored: true,
         rule: rule_with(kind, fault),
     };
     three_calls(rt, state, tally, kind, sheet, list, form, truth)?;
-    let same = bytes::same_floors(space, kept, floor_lists::ROOM as u32);
-    counts::hold(rt, tally, same, b"the floors")
+    counts::hold(rt, tally, space == kept, b"the floors")
 }
 
 fn without_floors(
@@ -247,12 +242,11 @@ fn one_sheet(
     kind: Kind,
     sheet: &[u8],
 ) -> io::Result<()> {
-    let mut first = [0u32; floor_lists::ROOM];
-    let space: &mut [u32] = &mut first;
+    let mut space = [0u32; floor_lists::ROOM];
     let mut state = drawn ^ APART;
     let fault = lent_floors::any_fault(&mut state);
-    let length = lent_floors::lay(&mut state, sheet, fault, 0, space);
-    let list = floor_lists::part(space, 0, length);
+    let length = lent_floors::lay(&mut state, sheet, fault, 0, &mut space);
+    let list = floor_lists::part(&space, 0, length);
     let rule = faults::number(kind.fault);
     one_sheet::compare(rt, &mut state, tally, sheet, rule, list)
 }
@@ -282,23 +276,19 @@ fn with_truth(
     made: &[u8],
     bytes: u32,
 ) -> io::Result<()> {
-    let mut first = [0u8; parts::ROOM];
-    let mut second = [0u8; parts::ROOM];
-    let space: &mut [u8] = &mut first;
-    let kept: &mut [u8] = &mut second;
+    let mut space = [0u8; parts::ROOM];
     let start = number::up_to(state, 9);
-    let total = lay(state, made, start, bytes, space);
-    parts::copy(space, kept, total);
+    lay(state, made, start, bytes, &mut space);
+    let kept = space;
     all_calls(
         rt,
         state,
         tally,
         kind,
         sheet,
-        parts::part(space, start, bytes),
+        parts::part(&space, start, bytes),
     )?;
-    let same = bytes::same(space, kept, total);
-    counts::hold(rt, tally, same, b"the truth sheet's bytes")
+    counts::hold(rt, tally, space == kept, b"the truth sheet's bytes")
 }
 
 fn with_sheet(
@@ -311,24 +301,20 @@ fn with_sheet(
     truth: &[u8],
     truth_bytes: u32,
 ) -> io::Result<()> {
-    let mut first = [0u8; parts::ROOM];
-    let mut second = [0u8; parts::ROOM];
-    let space: &mut [u8] = &mut first;
-    let kept: &mut [u8] = &mut second;
+    let mut space = [0u8; parts::ROOM];
     let start = number::up_to(state, 9);
-    let total = lay(state, made, start, bytes, space);
-    parts::copy(space, kept, total);
+    lay(state, made, start, bytes, &mut space);
+    let kept = space;
     with_truth(
         rt,
         state,
         tally,
         kind,
-        parts::part(space, start, bytes),
+        parts::part(&space, start, bytes),
         truth,
         truth_bytes,
     )?;
-    let same = bytes::same(space, kept, total);
-    counts::hold(rt, tally, same, b"the sheet's bytes")
+    counts::hold(rt, tally, space == kept, b"the sheet's bytes")
 }
 
 fn count_round(tally: &mut [u64], shape: u32, fault: u32) {
@@ -348,26 +334,20 @@ pub fn play_round(
     shape: u32,
     fault: u32,
 ) -> io::Result<()> {
-    let mut first = [0u8; parts::ROOM];
-    let mut second = [0u8; parts::ROOM];
-    let sheet: &mut [u8] = &mut first;
-    let truth: &mut [u8] = &mut second;
+    let mut sheet = [0u8; parts::ROOM];
+    let mut truth = [0u8; parts::ROOM];
     count_round(tally, shape, fault);
-    let bytes = rounds::make(state, shape, sheet);
-    let truth_bytes = make_truth(state, shape, sheet, bytes, truth);
-    let changed = damage_sheet(state, sheet, fault, bytes);
-    let kind = Kind {
-        shape: shape,
-        fault: fault,
-    };
+    let bytes = rounds::make(state, shape, &mut sheet);
+    let truth_bytes = make_truth(state, shape, &sheet, bytes, &mut truth);
+    let changed = damage_sheet(state, &mut sheet, fault, bytes);
     with_sheet(
         rt,
         state,
         tally,
-        kind,
-        sheet,
+        Kind { shape, fault },
+        &sheet,
         parts::size(changed),
-        truth,
+        &truth,
         parts::size(truth_bytes),
     )
 }

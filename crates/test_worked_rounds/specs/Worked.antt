@@ -14,22 +14,16 @@ use Rattle.auction.specs.Eligible.{first_failed}
 use Rattle.auction.specs.Greedy.{page_up_to, greedy_page}
 use Rattle.auction.specs.Allowed.{total}
 use Rattle.play.specs.Play.{play_refusal, play_floors_refusal, played_buffer}
-use Rattle.downward.specs.declared.Tested.{Tested}
-use Rattle.downward.specs.Call.{tested_of}
-use Rattle.gain.specs.declared.Gained.{Gained}
-use Rattle.gain.specs.Call.{gained_of, gained_floors_of}
+use Rattle.downward.specs.Call.{Tested, tested_of}
+use Rattle.gain.specs.Call.{Gained, gained_of, gained_floors_of}
 use Rattle.best_page.specs.BestPage.{best_page_of}
-use Rattle.best_search.specs.declared.Chosen.{Chosen}
-use Rattle.best_search.specs.Call.{best_refusal, best_floors_refusal, best_buffer, chosen_for}
-use Rattle.owner_part.specs.declared.Bounds.{Bounds}
-use Rattle.owner_part.specs.declared.Before.{Before}
-use Rattle.owner_part.specs.OwnerPart.{bounds_of, before_of}
+use Rattle.best_search.specs.Call.{Chosen, best_refusal, best_floors_refusal, best_buffer, chosen_for}
+use Rattle.owner_part.specs.OwnerPart.{Before, Bounds, bounds_of, before_of}
 use Rattle.canonical.specs.Canonical.{canonical_sheet, canonical_refusal, canonical_buffer}
 use Rattle.slot_terms.specs.SlotTerms.{slot_terms_of, slot_terms_refusal, conditions_buffer}
 use Rattle.above_terms.specs.AboveTerms.{above_terms_of, above_terms_refusal}
 use Rattle.share_page.specs.SharePage.{can_share, order_buffer, share_refusal}
-use Rattle.loss_bound.specs.declared.Loss.{Loss}
-use Rattle.loss_bound.specs.LossBound.{loss_factor}
+use Rattle.loss_bound.specs.LossBound.{Loss, loss_factor}
 use Rattle.test_worked_rounds.specs.Sheets.{
   A,
   B,

@@ -12,17 +12,13 @@ use Rattle.above_terms.proofs.put_all.Goals as goal
 
 pub loop-k-init : goal.loop-k-init
 unfolding all_pairs joined quads
-loop-k-init c = record { some = omega arith; size = refl; end = omega arith; run = refl }
+loop-k-init c = record { size = refl; end = omega arith; run = refl }
 
-pub put_slot-at-requires : goal.put_slot-at-requires
-put_slot-at-requires c =
+pub put_slot-at-requires-clause-room : goal.put_slot-at-requires-clause-room
+put_slot-at-requires-clause-room c =
     let turn = c.loop-k in
     let more = all_pairs-room c.args.owner.0 c.args.others.now turn.k c.args.m c.loop-k-test.true in
-    let slots = c.requires.1 in
-    let room = c.requires.3 in
-    let size = turn.invariant.size in
-    let end = turn.invariant.end in
-    (c.requires.0, omega arith, omega arith, c.requires.2, omega arith)
+    omega arith
 
 pub loop-k-preserved : goal.loop-k-preserved
 loop-k-preserved c =
@@ -31,15 +27,10 @@ loop-k-preserved c =
     let owner = a.owner.0 in
     let others = a.others.now in
     record {
-      some = omega arith;
       size = c.put_slot-at.auto.res ∙ turn.invariant.size;
-      end =
-          (let next = all_pairs_more owner others turn.k in
-          let end = turn.invariant.end in
-          let put = c.put_slot-at.ensures.0 in
-          omega arith);
+      end = omega (arith, all_pairs_more owner others turn.k);
       run =
-          c.put_slot-at.ensures.1
+          c.put_slot-at.ensures.written
           ∙ ap (λ (l : List ℕ). sets l turn.at (quads (slot_pairs owner (turn.k + 1) others (length others)))) turn.invariant.run
           ∙ all_pairs-next owner others a.res.now turn.at turn.k turn.invariant.end;
     }

@@ -1,10 +1,10 @@
-use Prim.Native.Nat.{ℕ, zero, suc, ◌+◌, ◌-◌, ◌*◌, ◌/◌, ◌%◌, ◌<◌, ◌≤◌}
+use Prim.Native.Nat.{ℕ, zero, suc, ◌+◌, ◌*◌, ◌/◌, ◌%◌, ◌<◌, ◌≤◌}
 use mathlib.Core.List.{List}
 use mathlib.Core.Logic.{⊎_elim}
 use mathlib.Core.Path.{◌≡◌, sym, ◌∙◌, ap, subst}
 use native.Mathlib.Nat.{mul-le-mul, mod-lt, zero-lt-suc, div-add-mod'}
 use native.Mathlib.Omega.{arith}
-use lib.ListN.{length, get_or, replicate, length-replicate}
+use lib.ListN.{length, get_or, replicate, length-replicate, length-take}
 use Rattle.basis.proofs.NumberLaws.{below_or_not}
 use Rattle.basis.proofs.RowLaws.{zeros}
 use Rattle.choice.specs.EngineBids.{bid_in}
@@ -42,18 +42,18 @@ record Given (bids effects : List ℕ) (slots : ℕ) : Type 0 where
   bid : (i : ℕ) → get_or bids i 0 ≤ 1000000000
   effect : (i : ℕ) → get_or effects i 0 ≤ 1000000
 
-all_filled : (ranked bids effects by_rank gains : List ℕ) (bidders slots slot : ℕ) → Given bids effects slots → slots < slot →
-    ((i : ℕ) → get_or by_rank i 0 ≡ bid_at_rank ranked bids bidders i) → Filled by_rank effects gains (8 * (slot - 1)) →
+all_filled : (ranked bids effects by_rank gains : List ℕ) (bidders slots passed : ℕ) → Given bids effects slots → slots ≤ passed →
+    ((i : ℕ) → get_or by_rank i 0 ≡ bid_at_rank ranked bids bidders i) → Filled by_rank effects gains (8 * passed) →
     GainsOf (bid_at_rank ranked bids bidders) (nth effects) gains
 unfolding gain_in nth
-all_filled ranked bids effects by_rank gains bidders slots slot g l bid h i k low high =
+all_filled ranked bids effects by_rank gains bidders slots passed g l bid h i k low high =
     let this = ap (λ (b : ℕ). b * get_or effects k 0) (bid i) in
     ⊎_elim
-    (λ (m : 8 * k + i < 8 * (slot - 1)). h.told i k low m ∙ this)
-    (λ (m : 8 * (slot - 1) ≤ 8 * k + i).
+    (λ (m : 8 * k + i < 8 * passed). h.told i k low m ∙ this)
+    (λ (m : 8 * passed ≤ 8 * k + i).
     let none = g.none k (omega arith) in
     h.empty (8 * k + i) m ∙ sym (ap (λ (e : ℕ). bid_at_rank ranked bids bidders i * e) none ∙ omega arith))
-    (below_or_not (8 * k + i) (8 * (slot - 1)))
+    (below_or_not (8 * k + i) (8 * passed))
 
 -- and no seat adds more than the highest bid at the largest effect
 all_low : (ranked bids effects gains : List ℕ) (bidders slots : ℕ) → Given bids effects slots → GainsOf (bid_at_rank ranked bids bidders) (nth effects) gains →
@@ -73,14 +73,13 @@ all_low ranked bids effects gains bidders slots g h none x =
 given : (c : Start) → Given c.args.bids.now c.args.effects.now c.args.slots
 given c = let p = c.requires in record { few = p.slots_bound.0; size = p.slots_bound.1; none = p.slots_bound.2; bid = p.by_index.0; effect = p.by_index.1 }
 
-pub loop-slot-init : goal.loop-slot-init
-loop-slot-init c = record { filled = none_filled _ _; some = omega arith; within = omega arith }
+pub loop-k-init : goal.loop-k-init
+loop-k-init c = none_filled _ _
 
 pub returns : goal.returns
 returns c =
     let g = given (goal.at.returns c).Start in
-    let v = c.loop-slot.invariant in
+    let v = c.loop-k.invariant in
     let few = g.few in
-    let within = v.within in
-    let told = all_filled _ _ _ _ _ _ _ _ g c.loop-slot-test.false c.bids_by_rank-by_rank.ensures v.filled in
-    (told, all_low _ _ _ _ _ _ g told (λ x l. v.filled.empty x (omega arith)))
+    let told = all_filled _ _ _ _ _ _ _ _ g (omega (arith, length-take {A = ℕ})) c.bids_by_rank-by_rank.ensures v in
+    (told, all_low _ _ _ _ _ _ g told (λ x l. v.empty x (omega (arith, length-take {A = ℕ}))))

@@ -4,8 +4,6 @@ use mathlib.Core.List.{List}
 use mathlib.Core.Path.{◌≡◌, refl, sym, ◌∙◌, ap, ap₂}
 use native.Mathlib.Omega.{arith}
 use lib.ListN.{get_or}
-use mir.Syntax.{w64}
-use mir.Val.{Fits}
 use Rattle.basis.specs.Bits.{bit_of}
 use Rattle.best_seats.specs.EngineSeats.{First, Rest}
 use Rattle.best_seats.proofs.SeatLaws.{rest_start, rest_here, rest_between, rest_next, rest_done}
@@ -14,10 +12,6 @@ use Rattle.best_bound.proofs.BoundLaws.{slot_taken, add_taken, slots-none, added
 use Rattle.best_bound.proofs.most_left.Invariants.{Gone}
 use Rattle.best_bound.proofs.most_left.Goals.{After-gain_at-sum, Start}
 use Rattle.best_bound.proofs.most_left.Goals as goal
-
--- a word holds the sum of eight such numbers
-word_holds_sum : (sum i x : ℕ) → sum ≤ i * 1000000000000000 → i < 8 → x ≤ 1000000000000000 → Fits w64 (sum + x)
-word_holds_sum sum i x h l q = omega arith
 
 -- what a call is given
 record Given (gains : List ℕ) (from : ℕ) : Type 0 where
@@ -64,9 +58,6 @@ module _ (gains : List ℕ) (whole from ranks at sum rank : ℕ) (g : Given gain
       let s = slot_low.1 in
       let n = slot_now in
       omega arith
-
-  sum_fits : Fits w64 (sum + get_or gains (8 * (at - 1) + rank) 0)
-  sum_fits = word_holds_sum sum rank _ (let t = h.fits in let p = here.1 in omega arith) f.low (g.each _)
 
   one_more : (less next x : ℕ) → Rest whole less (suc rank) → next ≡ suc at → x ≡ get_or gains (8 * (at - 1) + rank) 0 →
       Gone gains whole from less next (sum + x)

@@ -1,43 +1,21 @@
-use Prim.Native.Nat.{ℕ, ◌+◌, ◌≤◌}
 use mathlib.Core.Bool.{Bool, ◌||◌}
-use mathlib.Core.List.{List}
 use mathlib.Core.Path.{◌≡◌, sym, ◌∙◌, ap, subst}
-use native.Mathlib.Nat.{le_antisymm}
 use native.Mathlib.Numerals.{add-one}
 use native.Mathlib.Omega.{arith}
 use lib.ListN.{get_or}
 use Rattle.basis.specs.Bits.{bit_of}
 use Rattle.sheet.specs.declared.Constraint.{Constraint}
-use Rattle.sheet.specs.Sheet.{constraint_count}
 use Rattle.sheet.specs.Round.{round_of, constraint_at}
-use Rattle.sheet.proofs.AcceptedLaws.{accepted-sheet}
 use Rattle.sheet.proofs.RoundLaws.{round_constraint}
-use Rattle.best_clash.specs.EngineMarks.{Small, shuts, some_shuts}
-use Rattle.best_clash.proofs.TableLaws.{no_shuts, shuts_more, within-at, within-small}
+use Rattle.best_clash.specs.EngineMarks.{Small, shuts}
+use Rattle.best_clash.proofs.TableLaws.{shuts_more, within-at, within-small}
 use Rattle.best_clash.proofs.fill_table.Goals.{After-constraint_at}
 use Rattle.best_clash.proofs.fill_table.Goals as goal
-
--- the count that the sheet tells is the round's
-round_used : (s : List ℕ) (used : ℕ) → used ≡ constraint_count s → used ≡ (round_of s).used
-unfolding round_of
-round_used s used e = e
 
 -- the constraint that a turn reads is the round's
 read : (c : After-constraint_at) →
     c.constraint_at.result ≡ constraint_at (round_of c.args.sheet.now) c.loop-i.i
 read c = c.constraint_at.ensures ∙ sym (round_constraint _ c.requires.accepted.0 _ (omega arith))
-
-pub loop-i-init : goal.loop-i-init
-loop-i-init c =
-    record {
-      some = omega arith;
-      size = c.requires.table_len.0;
-      told = λ x y inside. no_shuts c.args.ranks.now (round_of c.args.sheet.now) c.args.table.now x y c.requires.table_len.1;
-    }
-
-pub constraint_at-requires : goal.constraint_at-requires
-constraint_at-requires c =
-    (c.constraints_start-start.ensures, omega (arith, (accepted-sheet _ c.requires.accepted.0).counts))
 
 pub mark_constraint-requires : goal.mark_constraint-requires
 mark_constraint-requires c =
@@ -51,7 +29,6 @@ loop-i-preserved c =
     let n = c.loop-i.i in
     let ranks = c.args.ranks.now in
     record {
-      some = subst (λ (m : ℕ). n + 1 ≤ m) (round_used _ _ c.constraint_count-used.ensures) (omega arith);
       size = c.mark_constraint.ensures.0;
       told = λ x y inside.
           rw (add-one n)
@@ -60,10 +37,3 @@ loop-i-preserved c =
           ∙ ap (λ (t : Bool). t || shuts ranks (constraint_at r n).kind (constraint_at r n).owner.0 x y) (v.told x y inside)
           ∙ shuts_more ranks r n x y);
     }
-
-pub returns : goal.returns
-returns c =
-    let v = c.loop-i.invariant in
-    let r = round_of c.args.sheet.now in
-    let past : r.used ≤ c.loop-i.i = subst (λ (m : ℕ). m ≤ c.loop-i.i) (round_used _ _ c.constraint_count-used.ensures) c.loop-i-test.false in
-    record { told = λ x y inside. v.told x y inside ∙ ap (λ (m : ℕ). some_shuts c.args.ranks.now r m x y) (le_antisymm v.some past) }

@@ -1,5 +1,5 @@
 -- `best_clash::reached_seats` meets its contract: each turn adds the seats of one slot, those of the ranks that reach its floor. Assumes nothing.
-use Prim.Native.Nat.{ℕ, suc, ◌-◌, ◌<◌, ◌≤◌}
+use Prim.Native.Nat.{ℕ}
 use mathlib.Core.Bool.{Bool}
 use mathlib.Core.List.{List}
 use lib.ListN.{get_or}
@@ -12,13 +12,5 @@ abbrev pub open' : (ranked bids floors : List ℕ) → ℕ → ℕ → ℕ → B
 open' ranked bids floors n l i = reaches bids ranked n (get_or floors l 0) i
 
 -- the seats of the slots before this one
-pub record Going (test : ℕ → ℕ → Bool) (slots all slot : ℕ) : Type 0 where
-  pub some : 0 < slot
-  pub most : slot ≤ suc slots
-  pub had : SeatsTo test all (slot - 1)
-
-abbrev pub invariant-loop-slot : goal.invariant-loop-slot
-invariant-loop-slot l = Going (open' l.ranked l.bids l.floors l.bidders) l.slots l.all.0 l.slot.0
-
-abbrev pub decreases-loop-slot : goal.decreases-loop-slot
-decreases-loop-slot l = suc l.slots - l.slot.0
+abbrev pub invariant-loop-k : goal.invariant-loop-k
+invariant-loop-k l = SeatsTo (open' l.ranked l.bids l.floors l.bidders) l.all.0 l.k

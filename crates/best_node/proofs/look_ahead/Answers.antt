@@ -6,18 +6,9 @@ use lib.ListN.{get_or}
 use Rattle.basis.specs.Bits.{bit_of}
 use Rattle.best_seats.specs.EngineSeats.{somewhere}
 use Rattle.best_bound.specs.EngineBound.{add_after, gain_in}
-use Rattle.best_node.proofs.LeadLaws.{most-low, byte_dropped, byte_low}
+use Rattle.best_node.proofs.LeadLaws.{byte_dropped, byte_low}
 use mathlib.Core.Bool.{not, ◌&&◌}
 use Rattle.best_node.proofs.look_ahead.Goals as goal
-
-pub overflow_add-most : goal.overflow_add-most
-overflow_add-most c =
-    let low = most-low c.args.gains.now c.requires.by_index (somewhere c.later-rest.result.0) (c.next_slot.result.0 - 1) in
-    let e = c.most_left.ensures in
-    let one = c.requires.by_index c.seat_at-seat.result.0 in
-    let d = c.gain_at.ensures in
-    let had = c.requires.slot_nonzero.3 in
-    omega arith
 
 pub returns : goal.returns
 unfolding gain_in

@@ -5,15 +5,8 @@ use native.Mathlib.Omega.{arith}
 use Rattle.basis.specs.Bits.{bit_of}
 use Rattle.best_seats.specs.EngineSeats.{somewhere}
 use Rattle.best_bound.specs.EngineBound.{add_after, gain_in}
-use Rattle.best_node.proofs.LeadLaws.{most-low, byte_dropped, byte_low}
+use Rattle.best_node.proofs.LeadLaws.{byte_dropped, byte_low}
 use Rattle.best_node.proofs.pass_over.Goals as goal
-
-pub overflow_add-most : goal.overflow_add-most
-overflow_add-most c =
-    let low = most-low c.args.gains.now c.requires.by_index (somewhere c.later-rest.result.0) (c.next_slot.result.0 - 1) in
-    let e = c.most_left.ensures in
-    let had = c.requires.slot_nonzero.2 in
-    omega arith
 
 pub returns : goal.returns
 returns c k at-k =

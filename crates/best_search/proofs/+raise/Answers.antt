@@ -1,4 +1,4 @@
-use Prim.Native.Nat.{ℕ, suc, ◌*◌, ◌-◌, ◌^◌, ◌<◌, ◌≤◌}
+use Prim.Native.Nat.{ℕ, suc, ◌-◌, ◌<◌, ◌≤◌}
 use mathlib.Core.Bool.{true, not, ◌&&◌}
 use mathlib.Core.List.{List}
 use mathlib.Core.Path.{◌≡◌, sym, subst}
@@ -17,8 +17,9 @@ use Rattle.best_node.specs.declared.Ahead.{Ahead}
 use Rattle.best_node.specs.EngineNode.{TablesOf, Node, Leads}
 use Rattle.best_search.specs.EngineFound.{Largest, Raised}
 use Rattle.best_node.proofs.FreeLaws.{slot_left}
-use Rattle.best_node.proofs.LeadLaws.{lead_node, lead_free, lead_most, pass_node, pass-free, pass-most, slot_most, slots_after, gain-low}
+use Rattle.best_node.proofs.LeadLaws.{lead_node, lead_free, lead_most, pass_node, pass-free, pass-most, gain-low}
 use Rattle.best_search.proofs.RaiseLaws.{upto_none, upto_next, upto_done, none_larger, leaf_more, leaf_less}
+use Rattle.best_search.proofs.NextLaws.{next_fit}
 use Rattle.best_search.proofs.+raise.Invariants.{Rising}
 use Rattle.best_search.proofs.+raise.Goals.{then-highest-ahead, else-highest-ahead}
 use Rattle.best_search.proofs.+raise.Goals as goal
@@ -82,24 +83,12 @@ pub raise-highest-requires : goal.raise-highest-requires
 raise-highest-requires t c =
     let a = c.args in
     let q = c.requires in
-    let some = c.if-free-eq0.false in
-    let low = slot_most a.slot.0 a.free.0 q.slot_nonzero.1 q.slot_nonzero.2 some in
-    let next = c.next_slot-next.ensures in
     let leads = c.look_ahead-ahead.ensures (a.slot.0 - 1) (omega arith) in
     let e = leads.had_is in
-    let had = q.slot_nonzero.3 in
-    let one = gain-low a.gains.now q.by_index c.first_rank-rank.result.0 (a.slot.0 - 1) in (
-      omega arith,
-      (
-        (
-          omega arith,
-          omega arith,
-          subst (λ (n : ℕ). c.look_ahead-ahead.result.free.0 < 2 ^ (8 * (9 - n))) (sym next) (leads.free_low _ (slots_after a.slot.0 a.free.0 low q.slot_nonzero.2)),
-          omega arith,
-        ),
-        q.by_index,
-      ),
-    )
+    let one = gain-low a.gains.now q.by_index c.first_rank-rank.result.0 (a.slot.0 - 1) in
+    let fit = next_fit a.slot.0 a.free.0 a.had c.next_slot-next.result.0 c.look_ahead-ahead.result.free.0 c.look_ahead-ahead.result.had q.slot_nonzero
+    c.if-free-eq0.false c.next_slot-next.ensures leads.free_low (omega arith) in
+    (omega arith, (fit, q.by_index))
 
 pub loop-left-preserved : goal.loop-left-preserved
 loop-left-preserved t c =
@@ -125,23 +114,11 @@ pub raise-highest-requires-then-highest-passed : goal.raise-highest-requires-the
 raise-highest-requires-then-highest-passed t c =
     let a = c.args in
     let q = c.requires in
-    let some = c.if-free-eq0.false in
-    let low = slot_most a.slot.0 a.free.0 q.slot_nonzero.1 q.slot_nonzero.2 some in
-    let next = c.next_slot-next.ensures in
     let passes = c.pass_over-passed.ensures (a.slot.0 - 1) (omega arith) in
     let e = passes.had_is in
-    let had = q.slot_nonzero.3 in (
-      omega arith,
-      (
-        (
-          omega arith,
-          omega arith,
-          subst (λ (n : ℕ). c.pass_over-passed.result.free.0 < 2 ^ (8 * (9 - n))) (sym next) (passes.free_low _ (slots_after a.slot.0 a.free.0 low q.slot_nonzero.2)),
-          omega arith,
-        ),
-        q.by_index,
-      ),
-    )
+    let fit = next_fit a.slot.0 a.free.0 a.had c.next_slot-next.result.0 c.pass_over-passed.result.free.0 c.pass_over-passed.result.had q.slot_nonzero
+    c.if-free-eq0.false c.next_slot-next.ensures passes.free_low (omega arith) in
+    (omega arith, (fit, q.by_index))
 
 pub returns-then-highest-passed : goal.returns-then-highest-passed
 returns-then-highest-passed t c =

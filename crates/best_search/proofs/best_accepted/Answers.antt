@@ -15,7 +15,7 @@ use Rattle.sheet.proofs.FloorLaws.{floors-proper, floors-slots, floors-bidders}
 use Rattle.sheet.proofs.RoundLaws.{round_proper, round_bidders, round_slots}
 use Rattle.auction.specs.Page.{at}
 use Rattle.best_page.proofs.BestPageLaws.{is_best_page}
-use Rattle.best_search.proofs.CallLaws.{bidders-many, slots-many, buffer_short, best-gives}
+use Rattle.best_search.proofs.CallLaws.{too_large, buffer_short, best-gives}
 use Rattle.best_search.proofs.best_accepted.Goals.{Start}
 use Rattle.best_search.proofs.best_accepted.Goals as goal
 
@@ -38,15 +38,11 @@ bounds-sheet-6 c = omega (arith, (accepted-sheet _ c.requires.0).counts)
 
 pub returns-then-bidders-gt8 : goal.returns-then-bidders-gt8
 returns-then-bidders-gt8 c =
-    bidders-many (round (goal.at.returns-then-bidders-gt8 c).Start) c.args.sheet.now c.args.res.now _ c.refused.ensures (omega (arith, c.if-bidders-gt8.true))
-
-pub returns-then-slots-gt8 : goal.returns-then-slots-gt8
-returns-then-slots-gt8 c =
-    slots-many (round (goal.at.returns-then-slots-gt8 c).Start) c.args.sheet.now c.args.res.now _ c.refused-then-slots-gt8.ensures c.if-bidders-gt8.false c.if-slots-gt8.true
+    too_large (round (goal.at.returns-then-bidders-gt8 c).Start) c.args.sheet.now c.args.res.now c.then-bidders-gt8.either
 
 pub returns-then-res-slots : goal.returns-then-res-slots
 returns-then-res-slots c =
-    buffer_short (round (goal.at.returns-then-res-slots c).Start) c.args.sheet.now c.args.res.now _ c.refused-then-res-slots.ensures c.if-bidders-gt8.false c.if-slots-gt8.false c.if-res-slots.true
+    buffer_short (round (goal.at.returns-then-res-slots c).Start) c.args.sheet.now c.args.res.now c.if-bidders-gt8.false c.if-slots-gt8.false c.if-res-slots.true
 
 pub write_page-requires : goal.write_page-requires
 write_page-requires c =

@@ -1,10 +1,12 @@
 -- `best_search::best_page` meets its contract: each table is the round's, and so what the two searches give is the best page. Assumes nothing.
 use Prim.Native.Nat.{ℕ, suc, ◌≤◌}
-use mathlib.Core.Bool.{Bool}
+use mathlib.Core.Bool.{Bool, true, false}
 use mathlib.Core.List.{List}
 use mathlib.Core.Path.{◌≡◌, refl, sym, ◌∙◌, ap, subst}
 use native.Mathlib.Omega.{arith}
 use lib.ListN.{length, get_or}
+use Rattle.std.specs.Prelude.{Option, Some, None}
+use Rattle.std.specs.Option.{unwrap_or}
 use Rattle.basis.proofs.RowLaws.{zeros, get_d_padded_after}
 use Rattle.sheet.specs.declared.Page.{Page}
 use Rattle.sheet.specs.Refusal.{Accepted}
@@ -24,7 +26,7 @@ use Rattle.best_bound.specs.EngineBound.{nth, bid_at_rank, GainsOf}
 use Rattle.best_clash.specs.EngineClash.{RanksOf}
 use Rattle.best_clash.specs.EngineMarks.{FilledBy, WordsOf, RankedBids, LeftBy}
 use Rattle.best_clash.proofs.ShutLaws.{shut_of, shut_floors, free_start}
-use Rattle.best_search.specs.EngineFound.{Raised, Sought}
+use Rattle.best_search.specs.EngineFound.{Raised, Sought, SoughtIn}
 use Rattle.best_search.proofs.StartLaws.{bids-low, effects-low, best_found}
 use Rattle.best_search.proofs.best_page.Goals.{After-ranking_of-ranked}
 use Rattle.best_search.proofs.best_page.Goals as goal
@@ -87,6 +89,12 @@ found_best s floors ok few short proper bids effects ranked ranks gains table sh
     raised
     (subst (λ (x : Page). Sought shut gains ranks (bidder_count s) 1 x free 0 largest found page) none sought)
 
+-- what the second search gives, and the empty page where it gives none
+first_of : (shut gains ranks : List ℕ) (bidders free sum : ℕ) (p : Page) (first : Option Page) (page : Page) →
+    SoughtIn shut gains ranks bidders 1 p free 0 sum first → page ≡ unwrap_or first p → (found : Bool) × Sought shut gains ranks bidders 1 p free 0 sum found page
+first_of shut gains ranks bidders free sum p (Some q) page sought is = (true, rw is sought)
+first_of shut gains ranks bidders free sum p None page sought is = (false, rw is sought)
+
 -- the ranking that is handed on
 ranked_at : (c : After-ranking_of-ranked) → RankedBids c.accepted_bids-bids.result (bidder_count c.args.sheet.now) c.ranking_of-ranked.result
 ranked_at c =
@@ -124,6 +132,7 @@ first_free-free-requires c =
 pub returns : goal.returns
 returns c =
     let p = c.requires in
-    found_best c.args.sheet.now c.args.floors.now p.0 p.1 p.2 p.3 _ _ _ _ _ _ _ _ _ _ _ _ c.accepted_bids-bids.ensures
+    let first = first_of _ _ _ _ _ _ _ c.search-best.result _ c.search-best.ensures c.unwrap_or.ensures in
+    found_best c.args.sheet.now c.args.floors.now p.0 p.1 p.2 p.3 _ _ _ _ _ _ _ _ _ first.0 _ _ c.accepted_bids-bids.ensures
     c.accepted_effects-effects.ensures c.ranking_of-ranked.ensures c.ranks_of-ranks.ensures.0 c.gains_of-gains.ensures.0 c.fill_table.ensures
-    c.shut_words-shut.ensures c.first_free-free.ensures c.raise-largest.ensures c.empty_page-page.ensures c.search-first.ensures
+    c.shut_words-shut.ensures c.first_free-free.ensures c.raise-largest.ensures c.empty_page-page.ensures first.1

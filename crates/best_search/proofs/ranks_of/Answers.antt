@@ -1,4 +1,4 @@
-use Prim.Native.Nat.{ℕ, suc, ◌<◌, ◌≤◌}
+use Prim.Native.Nat.{ℕ, ◌+◌, ◌<◌, ◌≤◌}
 use mathlib.Core.List.{List}
 use mathlib.Core.Logic.{⊎_elim}
 use mathlib.Core.Path.{◌≡◌, sym, ◌∙◌, ap, subst}
@@ -12,14 +12,13 @@ use Rattle.best_clash.specs.EngineClash.{RanksOf}
 use Rattle.best_search.proofs.ranks_of.Invariants.{Passed}
 use Rattle.best_search.proofs.ranks_of.Goals as goal
 
-one_passed : (bid : ℕ → ℕ) (ranked ranks : List ℕ) (bidders rank : ℕ) → InOrder bid bidders ranked → Passed ranked ranks bidders rank → rank < bidders → bidders ≤ 8 →
-    (b next : ℕ) → b ≡ get_or ranked rank 0 → next ≡ suc rank → Passed ranked (set ranks b rank) bidders next
-one_passed bid ranked ranks bidders rank list h l few b next e n =
+one_passed : (bid : ℕ → ℕ) (ranked ranks : List ℕ) (bidders rank : ℕ) → InOrder bid bidders ranked → Passed ranked ranks rank → rank < bidders → bidders ≤ 8 →
+    (b : ℕ) → b ≡ get_or ranked rank 0 → Passed ranked (set ranks b rank) (rank + 1)
+one_passed bid ranked ranks bidders rank list h l few b e =
     let size = h.size in
     let low = (list.some rank l).1 in
     record {
       size = length-set ranks b rank ∙ size;
-      within = omega arith;
       small = λ x.
           ⊎_elim
           (λ (q : x ≡ b).
@@ -36,7 +35,7 @@ one_passed bid ranked ranks bidders rank list h l few b next e n =
           (same_or_not i rank);
     }
 
-all_passed : (bid : ℕ → ℕ) (ranked ranks : List ℕ) (bidders rank : ℕ) → InOrder bid bidders ranked → Passed ranked ranks bidders rank → bidders ≤ rank → RanksOf bidders ranked ranks
+all_passed : (bid : ℕ → ℕ) (ranked ranks : List ℕ) (bidders rank : ℕ) → InOrder bid bidders ranked → Passed ranked ranks rank → bidders ≤ rank → RanksOf bidders ranked ranks
 all_passed bid ranked ranks bidders rank list h past =
     record {
       named = list.some;
@@ -54,8 +53,7 @@ all_passed bid ranked ranks bidders rank list h past =
 pub loop-rank-preserved : goal.loop-rank-preserved
 loop-rank-preserved c =
     let p = c.requires in
-    one_passed p.1.0 _ _ _ _ p.1.1 c.loop-rank.invariant c.loop-rank-test.true p.0 _ _
-    c.ranked_at-bidder.ensures c.next_rank-rank.ensures
+    one_passed p.1.0 _ _ _ _ p.1.1 c.loop-rank.invariant c.loop-rank-test.true p.0 _ c.ranked_at-bidder.ensures
 
 pub returns : goal.returns
 returns c =

@@ -3,8 +3,9 @@ use mathlib.Core.List.{List, [], ◌∷◌, ◌++◌}
 use mathlib.Core.Path.{◌≡◌, refl, sym, ◌∙◌, ap}
 use native.Mathlib.Numerals.{add-one}
 use native.Mathlib.Omega.{arith}
-use lib.ListN.{length, get_or, set, drop, length-set}
+use lib.ListN.{length, get_or, set, drop}
 use lib.Seq.{set_at, drop-cons}
+use Rattle.best_seats.proofs.TakeLaws.{taken_below, taken_is}
 use Rattle.basis.specs.Rows.{row}
 use Rattle.basis.proofs.RowLaws.{length-row}
 use Rattle.sheet.specs.Round.{bidder}
@@ -25,24 +26,20 @@ row_stored f k out l =
 
 pub loop-k-init : goal.loop-k-init
 unfolding row
-loop-k-init c = record { some = omega arith; size = refl; front = refl }
+loop-k-init c = refl
 
 pub overflow_cast-res : goal.overflow_cast-res
 unfolding at
-overflow_cast-res c = omega (arith, c.requires.2 (suc c.loop-k.k))
+overflow_cast-res c = rw (taken_is _ _ _ c.loop-k-test.true (bidder 0)) (omega (arith, c.requires.2 (suc c.loop-k.k)))
 
 pub loop-k-preserved : goal.loop-k-preserved
 unfolding row at
 loop-k-preserved c =
-    let v = c.loop-k.invariant in
     let k = c.loop-k.k in
     let p = c.args.page in
     let out = c.args.res.now in
-    record {
-      some = omega arith;
-      size = length-set c.loop-k.res k (get_or p.bidders k (bidder 0)).0 ∙ v.size;
-      front =
-          ap (λ (l : List ℕ). set l k (get_or p.bidders k (bidder 0)).0) v.front
-          ∙ row_stored (λ j. at p (suc j)) k out (omega arith)
-          ∙ ap (λ (n : ℕ). row (λ j. at p (suc j)) n ++ drop n out) (sym (add-one k));
-    }
+    let inside = taken_below _ _ _ c.loop-k-test.true in
+    rw (taken_is _ _ _ c.loop-k-test.true (bidder 0))
+    (ap (λ (l : List ℕ). set l k (get_or p.bidders k (bidder 0)).0) c.loop-k.invariant
+    ∙ row_stored (λ j. at p (suc j)) k out (omega arith)
+    ∙ ap (λ (n : ℕ). row (λ j. at p (suc j)) n ++ drop n out) (sym (add-one k)))

@@ -12,17 +12,14 @@ use Rattle.check_constraints.proofs.any_faulty.Goals as goal
 
 pub loop-seen-init : goal.loop-seen-init
 unfolding first_over
-loop-seen-init c = (omega arith, λ e. refl)
+loop-seen-init c = λ e. refl
 
 pub loop-seen-preserved : goal.loop-seen-preserved
-loop-seen-preserved c =
+loop-seen-preserved c e =
     let s = c.args.sheet.now in
-    let k = c.loop-seen.seen in (
-      omega arith,
-      λ e.
-          let both = or_none c.loop-seen.found c.is_faulty-found.result e in
-          let none = c.loop-seen.invariant.1 both.0 in
-          let low : (i : ℕ) → byte_at s i < 256 = λ i. omega (arith, c.shared_slice_known-1.given i) in
-          let same = word_refusal s low _ _ k c.requires.start_value.0 c.word32-constraint.ensures _ _ (c.wide-most_bidder.ensures.0 ∙ c.requires.bidders_value.0) (c.wide-most_slot.ensures.0 ∙ c.requires.bidders_value.1) in
-          rw add-one (first_next (terms_refusal s) k none (sym same ∙ c.is_faulty-found.ensures both.1)),
-    )
+    let k = c.loop-seen.seen in
+    let both = or_none c.loop-seen.found c.is_faulty-found.result e in
+    let none = c.loop-seen.invariant both.0 in
+    let low : (i : ℕ) → byte_at s i < 256 = λ i. omega (arith, c.type_inv.sheet i) in
+    let same = word_refusal s low _ _ k c.requires.start_value.0 c.word32-constraint.ensures _ _ (c.from-most_bidder.ensures ∙ c.requires.bidders_value.0) (c.from-most_slot.ensures ∙ c.requires.bidders_value.1) in
+    rw add-one (first_next (terms_refusal s) k none (sym same ∙ c.is_faulty-found.ensures both.1))

@@ -11,11 +11,11 @@ use Rattle.check_numbers.proofs.any_bid_high.Goals as goal
 
 pub loop-i-init : goal.loop-i-init
 unfolding any_below
-loop-i-init c = (omega arith, refl)
+loop-i-init c = refl
 
 pub loop-i-preserved : goal.loop-i-preserved
 unfolding any_below bid_field
 loop-i-preserved c =
     let i = c.loop-i.i in
     let bid = c.word32-bid.ensures ∙ ap (λ (start : ℕ). word32_at c.args.sheet.now (start + 4 * i)) c.requires.0 in
-    (omega arith, rw add-one (ap₂ ◌||◌ c.loop-i.invariant.1 (ap (ltb 1_000_000_000) bid)))
+    rw add-one (ap₂ ◌||◌ c.loop-i.invariant (ap (ltb 1_000_000_000) bid))

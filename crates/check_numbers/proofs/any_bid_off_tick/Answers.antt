@@ -11,7 +11,7 @@ use Rattle.check_numbers.proofs.any_bid_off_tick.Goals as goal
 
 pub loop-tested-init : goal.loop-tested-init
 unfolding any_below
-loop-tested-init c = (omega arith, refl)
+loop-tested-init c = refl
 
 pub loop-tested-preserved : goal.loop-tested-preserved
 unfolding any_below bid_field
@@ -19,4 +19,4 @@ loop-tested-preserved c =
     let i = c.loop-tested.tested in
     let bid = c.word32-bid.ensures ∙ ap (λ (start : ℕ). word32_at c.args.sheet.now (start + 4 * i)) c.requires.0 in
     let off = c.is_off_tick-found.ensures ∙ ap₂ (λ (x t : ℕ). not (eqb (x % t) 0)) bid c.requires.2 in
-    (omega arith, rw add-one (ap₂ ◌||◌ c.loop-tested.invariant.1 off))
+    rw add-one (ap₂ ◌||◌ c.loop-tested.invariant off)

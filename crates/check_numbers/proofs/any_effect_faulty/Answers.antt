@@ -11,7 +11,7 @@ use Rattle.check_numbers.proofs.any_effect_faulty.Goals as goal
 
 pub loop-k-init : goal.loop-k-init
 unfolding any_below
-loop-k-init c = record { room = omega arith; any = refl; last = refl }
+loop-k-init c = record { any = refl; last = refl }
 
 pub loop-k-preserved : goal.loop-k-preserved
 unfolding any_below effect_field
@@ -20,4 +20,4 @@ loop-k-preserved c =
     let k = c.loop-k.k in
     let effect = c.word32-effect.ensures ∙ ap (λ (start : ℕ). word32_at c.args.sheet.now (start + 4 * k)) c.requires.0 in
     let fault = ap₂ (λ (effect before : ℕ). eqb effect 0 || ltb before effect) effect v.last in
-    record { room = omega arith; any = rw add-one (ap₂ ◌||◌ v.any fault); last = rw add-one effect }
+    record { any = rw add-one (ap₂ ◌||◌ v.any fault); last = rw add-one effect }

@@ -1,6 +1,6 @@
 -- `check_numbers::any_effect_faulty` meets its contract: what is found after a turn is what was found before it, or the turn's own
 -- effect held against the one before. Assumes nothing.
-use Prim.Native.Nat.{ℕ, suc, ◌-◌, ◌≤◌}
+use Prim.Native.Nat.{ℕ, suc}
 use mathlib.Core.Bool.{Bool}
 use mathlib.Core.List.{List}
 use mathlib.Core.Path.{◌≡◌}
@@ -10,13 +10,9 @@ use Rattle.check_numbers.proofs.RefusalLaws.{effect_faulty}
 use Rattle.check_numbers.proofs.any_effect_faulty.Given as goal
 
 -- what is found of the effects before index k; `before` is the last of them
-pub record Seen (s : List ℕ) (slots before : ℕ) (found : Bool) (k : ℕ) : Type 0 where
-  pub room : k ≤ slots
+pub record Seen (s : List ℕ) (before : ℕ) (found : Bool) (k : ℕ) : Type 0 where
   pub any : found ≡ any_below (effect_faulty s) k
   pub last : before ≡ effect_before s (suc k)
 
 abbrev pub invariant-loop-k : goal.invariant-loop-k
-invariant-loop-k l = Seen l.sheet l.slots l.before l.found l.k
-
-abbrev pub decreases-loop-k : goal.decreases-loop-k
-decreases-loop-k l = l.slots - l.k
+invariant-loop-k l = Seen l.sheet l.before l.found l.k

@@ -1,12 +1,8 @@
 -- `downward::list_all` meets its contract: the constraint read at an index is the round's there, and after n turns the bidder's own among
 -- the first n constraints are entered. Assumes nothing.
-use Prim.Native.Nat.{◌-◌, ◌≤◌}
 use Rattle.sheet.specs.Round.{round_of}
 use Rattle.downward.specs.EngineListed.{Listed}
 use Rattle.downward.proofs.list_all.Given as goal
 
 abbrev pub invariant-loop-i : goal.invariant-loop-i
-invariant-loop-i l = (l.i ≤ l.used) × Listed (round_of l.sheet) l.bidder.0 l.i l.listed
-
-abbrev pub decreases-loop-i : goal.decreases-loop-i
-decreases-loop-i l = l.used - l.i
+invariant-loop-i l = Listed (round_of l.sheet) l.bidder.0 l.i l.listed

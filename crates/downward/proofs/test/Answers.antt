@@ -3,37 +3,34 @@
 use mathlib.Core.Bool.{Bool}
 use mathlib.Core.Path.{sym, ◌∙◌, ap}
 use native.Mathlib.Omega.{arith}
+use Rattle.refusal.proofs.NumberLaws.{number_of-ne0}
 use Rattle.sheet.specs.Refusal.{Accepted}
 use Rattle.sheet_read.proofs.RoomLaws.{room}
-use Rattle.downward.proofs.CallLaws.{sheet-refused, no_bidder, bidder-above, list_tested}
+use Rattle.downward.proofs.CallLaws.{alone, sheet-refused, no_bidder, bidder-above, list_tested}
+use Rattle.downward.proofs.test.Goals.{In_ok-check, then-bidder-eq0-via-then-bidder-eq0, then-bidder-eq0-via-else-bidder-eq0+then-from-bidder}
 use Rattle.downward.proofs.test.Goals as goal
 
-pub returns-then-refusal-ne0 : goal.returns-then-refusal-ne0
-returns-then-refusal-ne0 c =
-    let s = c.args.sheet.now in
-    sheet-refused s _ _ c.check-refusal.ensures c.if-refusal-ne0.true
+-- past the check the sheet is accepted
+accepted : (c : In_ok-check) → Accepted c.args.sheet.now
+accepted c = sym c.in_ok-check.ensures
+
+pub returns-in_err-check : goal.returns-in_err-check
+returns-in_err-check c =
+    alone _ _ c.from_residual.ensures.1 ∙ sheet-refused c.args.sheet.now c.args.bidder _ c.in_err-check.ensures (number_of-ne0 _)
 
 pub bounds-sheet-5 : goal.bounds-sheet-5
-bounds-sheet-5 c =
-    let s = c.args.sheet.now in
-    let ok : Accepted s = sym c.check-refusal.ensures ∙ c.if-refusal-ne0.false in
-    omega (arith, room s ok)
+bounds-sheet-5 c = omega (arith, room _ (accepted (goal.at.bounds-sheet-5 c).In_ok-check))
 
 pub returns-then-bidder-eq0 : goal.returns-then-bidder-eq0
 returns-then-bidder-eq0 c =
     let s = c.args.sheet.now in
-    let ok : Accepted s = sym c.check-refusal.ensures ∙ c.if-refusal-ne0.false in
-    no_bidder s c.args.bidder ok (omega arith)
-
-pub returns-then-bidders-bidder : goal.returns-then-bidders-bidder
-returns-then-bidders-bidder c =
-    let s = c.args.sheet.now in
-    let ok : Accepted s = sym c.check-refusal.ensures ∙ c.if-refusal-ne0.false in
-    bidder-above s c.args.bidder ok (omega arith)
+    let ok = accepted (goal.at.returns-then-bidder-eq0 c).In_ok-check in
+    elim c.then-bidder-eq0.branch [
+      | then-bidder-eq0-via-then-bidder-eq0 w ↦ no_bidder s c.args.bidder ok w.if-bidder-eq0.true
+      | then-bidder-eq0-via-else-bidder-eq0+then-from-bidder w ↦ bidder-above s c.args.bidder ok (omega arith)
+    ]
 
 pub returns : goal.returns
 returns c =
-    let s = c.args.sheet.now in
-    let ok : Accepted s = sym c.check-refusal.ensures ∙ c.if-refusal-ne0.false in
-    let i = c.args.bidder in
-    ap (λ (t : Bool). record { refusal = 0; yes = t }) c.is_downward.ensures ∙ list_tested s i ok (omega arith) (omega arith)
+    ap (λ (t : Bool). record { refusal = 0; yes = t }) c.is_downward.ensures
+    ∙ list_tested c.args.sheet.now c.args.bidder (accepted (goal.at.returns c).In_ok-check) (omega arith) (omega arith)

@@ -1,5 +1,5 @@
 -- `floors::asked` meets its contract: after k turns the array is the row of what the first k floors ask, with zeros after it. Assumes nothing.
-use Prim.Native.Nat.{ℕ, ◌-◌, ◌≤◌}
+use Prim.Native.Nat.{ℕ}
 use mathlib.Core.List.{List}
 use mathlib.Core.Path.{◌≡◌}
 use lib.ListN.{get_or}
@@ -12,7 +12,4 @@ abbrev pub asks_at : (tick : ℕ) → List ℕ → ℕ → ℕ
 asks_at tick floors k = floor_asks tick (get_or floors k 0)
 
 abbrev pub invariant-loop-k : goal.invariant-loop-k
-invariant-loop-k l = (l.k ≤ l.slots) × (l.asks ≡ padded (asks_at l.tick l.floors) l.k 16 0)
-
-abbrev pub decreases-loop-k : goal.decreases-loop-k
-decreases-loop-k l = l.slots - l.k
+invariant-loop-k l = l.asks ≡ padded (asks_at l.tick l.floors) l.k 16 0

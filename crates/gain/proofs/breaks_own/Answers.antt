@@ -26,7 +26,7 @@ tested c =
 
 pub loop-a-init : goal.loop-a-init
 unfolding any_below
-loop-a-init c = (omega arith, refl)
+loop-a-init c = refl
 
 pub constraint_at-constraint-requires : goal.constraint_at-constraint-requires
 constraint_at-constraint-requires c = (c.constraints_start-start.ensures, omega (arith, (accepted-sheet _ c.requires.0).counts))
@@ -44,11 +44,11 @@ returns-then-own_broken c = sym (any_at _ _ c.loop-a.a (omega arith) (sym (teste
 
 pub loop-a-preserved : goal.loop-a-preserved
 unfolding any_below
-loop-a-preserved c = (omega arith, rw (add-one c.loop-a.a) (or_fails c.loop-a.invariant.1 (sym (tested (goal.at.loop-a-preserved c).After-own_broken) ∙ c.if-own_broken.false)))
+loop-a-preserved c = rw (add-one c.loop-a.a) (or_fails c.loop-a.invariant (sym (tested (goal.at.loop-a-preserved c).After-own_broken) ∙ c.if-own_broken.false))
 
 pub returns : goal.returns
 unfolding breaks_own round_of
 returns c =
     let v = c.loop-a.invariant in
-    let all = sym c.constraint_count-used.ensures ∙ le_antisymm c.loop-a-test.false v.0 in
-    sym (ap (any_below _) all ∙ v.1)
+    let all = sym c.constraint_count-used.ensures ∙ le_antisymm c.loop-a-test.false c.loop-a.auto.a-end in
+    sym (ap (any_below _) all ∙ v)

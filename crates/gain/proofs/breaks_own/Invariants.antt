@@ -1,6 +1,6 @@
 -- `gain::breaks_own` meets its contract: the constraint read at an index is the round's there, and a turn that goes on has found no
 -- broken constraint of the bidder before. Assumes nothing.
-use Prim.Native.Nat.{ℕ, ◌-◌, ◌≤◌}
+use Prim.Native.Nat.{ℕ}
 use mathlib.Core.Bool.{Bool, false, ◌&&◌}
 use mathlib.Core.Path.{◌≡◌}
 use mathlib.Core.List.{List}
@@ -21,7 +21,4 @@ abbrev pub broken_at : List ℕ → Page → ℕ → ℕ → Bool
 broken_at s p i a = ownBroken p i (constraint_at (round_of s) a)
 
 abbrev pub invariant-loop-a : goal.invariant-loop-a
-invariant-loop-a l = (l.a ≤ l.used) × (any_below (broken_at l.truth l.page l.bidder.0) l.a ≡ false)
-
-abbrev pub decreases-loop-a : goal.decreases-loop-a
-decreases-loop-a l = l.used - l.a
+invariant-loop-a l = any_below (broken_at l.truth l.page l.bidder.0) l.a ≡ false

@@ -1,50 +1,51 @@
 -- `gain::gain_floors` meets its contract, by the cases of the call. Assumes nothing.
 use mathlib.Core.Path.{◌≡◌, sym, ◌∙◌}
 use native.Mathlib.Omega.{arith}
+use Rattle.refusal.proofs.NumberLaws.{number_of-ne0}
 use Rattle.sheet.specs.Refusal.{Accepted}
 use Rattle.sheet.specs.Sheet.{slot_count, tick_field}
 use Rattle.choice.specs.Critical.{Asked}
 use Rattle.sheet.proofs.AcceptedLaws.{accepted-sheet}
 use Rattle.floors.specs.Floors.{floors_refusal}
 use Rattle.floors.proofs.FloorLaws.{passed-proper}
-use Rattle.gain.proofs.CallLaws.{floors-played-refused, floors-refused, floored-gains}
-use Rattle.gain.proofs.gain_floors.Goals.{After-asked-asks, Else-refusal-ne0, Else-wrong-ne0}
+use Rattle.gain.proofs.CallLaws.{alone, floors-played-refused, floors-refused, floored-gains}
+use Rattle.gain.proofs.gain_floors.Goals.{After-asked-asks, In_ok-check, In_ok-check_floors}
 use Rattle.gain.proofs.gain_floors.Goals as goal
 
 -- past the check the played sheet is accepted,
-accepted : (c : Else-refusal-ne0) → Accepted c.args.played.now
-accepted c = sym c.check-refusal.ensures ∙ c.if-refusal-ne0.false
+accepted : (c : In_ok-check) → Accepted c.args.played.now
+accepted c = sym c.in_ok-check.ensures
 
 -- and past 30 and 31 so are the floors
-floored : (c : Else-wrong-ne0) → floors_refusal (slot_count c.args.played.now) c.args.floors.now ≡ 0
-floored c = sym c.check_floors-wrong.ensures ∙ c.if-wrong-ne0.false
+floored : (c : In_ok-check_floors) → floors_refusal (slot_count c.args.played.now) c.args.floors.now ≡ 0
+floored c = sym c.in_ok-check_floors.ensures
 
 -- what the floors ask is theirs, by the sheet's tick
 asked_is : (c : After-asked-asks) → Asked (tick_field c.args.played.now) (slot_count c.args.played.now) c.args.floors.now c.asked-asks.result
 asked_is c = rw (sym c.tick_of.ensures) c.asked-asks.ensures
 
-pub returns-then-refusal-ne0 : goal.returns-then-refusal-ne0
-returns-then-refusal-ne0 c =
+pub returns-in_err-check : goal.returns-in_err-check
+returns-in_err-check c =
     let given = c.args in
-    c.refused.ensures ∙ floors-played-refused given.floors.now _ _ _ _ _ c.check-refusal.ensures c.if-refusal-ne0.true
+    alone _ _ c.from_residual.ensures.1 ∙ floors-played-refused given.floors.now _ _ _ _ _ c.in_err-check.ensures (number_of-ne0 _)
 
 pub bounds-played-6 : goal.bounds-played-6
-bounds-played-6 c = let known = (accepted-sheet _ (accepted (goal.at.bounds-played-6 c).Else-refusal-ne0)).counts in omega arith
+bounds-played-6 c = let known = (accepted-sheet _ (accepted (goal.at.bounds-played-6 c).In_ok-check)).counts in omega arith
 
-pub returns-then-wrong-ne0 : goal.returns-then-wrong-ne0
-returns-then-wrong-ne0 c =
-    c.refused-then-wrong-ne0.ensures ∙ floors-refused _ _ _ _ _ _ (accepted (goal.at.returns-then-wrong-ne0 c).Else-refusal-ne0) c.check_floors-wrong.ensures c.if-wrong-ne0.true
+pub returns-in_err-check_floors : goal.returns-in_err-check_floors
+returns-in_err-check_floors c =
+    alone _ _ c.from_residual-in_err-check_floors.ensures.1 ∙ floors-refused _ _ _ _ _ _ (accepted (goal.at.returns-in_err-check_floors c).In_ok-check) c.in_err-check_floors.ensures (number_of-ne0 _)
 
 pub tick_of-requires : goal.tick_of-requires
 tick_of-requires c =
-    let form = (accepted-sheet _ (accepted (goal.at.tick_of-requires c).Else-refusal-ne0)).form in
+    let form = (accepted-sheet _ (accepted (goal.at.tick_of-requires c).In_ok-check)).form in
     (form.header, form.whole_header)
 
 pub asked-asks-requires : goal.asked-asks-requires
 asked-asks-requires c =
-    let counts = (accepted-sheet _ (accepted (goal.at.asked-asks-requires c).Else-refusal-ne0)).counts in
+    let counts = (accepted-sheet _ (accepted (goal.at.asked-asks-requires c).In_ok-check)).counts in
     let tick = c.tick_of.ensures in
-    (counts.most_slots, passed-proper _ _ (floored (goal.at.asked-asks-requires c).Else-wrong-ne0), omega arith, omega arith)
+    (counts.most_slots, passed-proper _ _ (floored (goal.at.asked-asks-requires c).In_ok-check_floors), omega arith, omega arith)
 
 pub returns : goal.returns
-returns c = c.gain_accepted.ensures _ (asked_is (goal.at.returns c).After-asked-asks) ∙ floored-gains _ _ _ _ _ (accepted (goal.at.returns c).Else-refusal-ne0) (floored (goal.at.returns c).Else-wrong-ne0)
+returns c = c.gain_accepted.ensures _ (asked_is (goal.at.returns c).After-asked-asks) ∙ floored-gains _ _ _ _ _ (accepted (goal.at.returns c).In_ok-check) (floored (goal.at.returns c).In_ok-check_floors)

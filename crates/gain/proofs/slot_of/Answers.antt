@@ -2,7 +2,6 @@ use Prim.Native.Nat.{ℕ, suc}
 use borrow.Author.Tests.{eqb-true, eqb-false}
 use mathlib.Core.Path.{◌≡◌, refl, sym, ◌∙◌, ap}
 use native.Mathlib.Numerals.{add-one}
-use native.Mathlib.Omega.{arith}
 use lib.Dec.{eqb}
 use Rattle.basis.specs.First.{first_over}
 use Rattle.basis.proofs.FirstLaws.{first_next, first_ended}
@@ -13,7 +12,7 @@ use Rattle.gain.proofs.slot_of.Goals as goal
 
 pub loop-k-init : goal.loop-k-init
 unfolding first_over
-loop-k-init c = (omega arith, refl)
+loop-k-init c = refl
 
 pub returns-then-stands : goal.returns-then-stands
 unfolding slot_of
@@ -22,7 +21,7 @@ returns-then-stands c =
     let i = c.args.bidder.0 in
     let k = c.loop-k.k in
     let here : at p (suc k) ≡ i = eqb-true (at p (suc k)) i (ap (λ (x : ℕ). eqb (at p x) i) (sym (add-one k)) ∙ sym c.stands.ensures ∙ c.if-stands.true) in
-    add-one k ∙ sym (found_at p i k c.loop-k-test.true c.loop-k.invariant.1 here)
+    add-one k ∙ sym (found_at p i k c.loop-k-test.true c.loop-k.invariant here)
 
 pub loop-k-preserved : goal.loop-k-preserved
 loop-k-preserved c =
@@ -30,7 +29,7 @@ loop-k-preserved c =
     let i = c.args.bidder.0 in
     let k = c.loop-k.k in
     let not_here : at p (suc k) ≡ i → ⊥ = eqb-false (at p (suc k)) i (ap (λ (x : ℕ). eqb (at p x) i) (sym (add-one k)) ∙ sym c.stands.ensures ∙ c.if-stands.false) in
-    (omega arith, rw (add-one k) (first_next (seen p i) k c.loop-k.invariant.1 (seen_not p i k not_here)))
+    rw (add-one k) (first_next (seen p i) k c.loop-k.invariant (seen_not p i k not_here))
 
 pub returns : goal.returns
 unfolding slot_of
@@ -38,4 +37,4 @@ returns c =
     let p = c.args.page in
     let i = c.args.bidder.0 in
     let v = c.loop-k.invariant in
-    first_ended (seen p i) c.loop-k.k 16 v.0 c.loop-k-test.false v.1
+    first_ended (seen p i) c.loop-k.k 16 c.loop-k.auto.k-end c.loop-k-test.false v

@@ -1,6 +1,6 @@
--- `greedy::fill` meets its contract: before each turn the slots before `slot` are filled and priced, for whichever round the lists are of.
+-- `greedy::fill` meets its contract: before each turn the first k slots are filled and priced, for whichever round the lists are of.
 -- Assumes nothing.
-use Prim.Native.Nat.{ℕ, suc, ◌-◌, ◌<◌, ◌≤◌}
+use Prim.Native.Nat.{ℕ}
 use mathlib.Core.List.{List}
 use mathlib.Core.Path.{◌≡◌}
 use lib.ListN.{length}
@@ -10,16 +10,11 @@ use Rattle.greedy.specs.EngineEligible.{Lent}
 use Rattle.greedy.proofs.FillLaws.{Filled}
 use Rattle.greedy.proofs.fill.Given as goal
 
-pub record Going (s : List ℕ) (start : ℕ) (last links bids asks : List ℕ) (bidders slots tick : ℕ) (barred held : List ℕ) (page : Page) (prices : List ℕ) (slot : ℕ) : Type 0 where
-  pub first : 0 < slot
-  pub most : slot ≤ suc slots
+pub record Going (s : List ℕ) (start : ℕ) (last links bids asks : List ℕ) (bidders slots tick : ℕ) (barred held : List ℕ) (page : Page) (prices : List ℕ) (k : ℕ) : Type 0 where
   pub size_barred : length barred ≡ 1089
   pub size_held : length held ≡ 1089
-  pub filled : (r : Round) → Lent r s start last links bids asks bidders slots tick → Filled r (slot - 1) barred held page prices
+  pub filled : (r : Round) → Lent r s start last links bids asks bidders slots tick → Filled r k barred held page prices
 
-abbrev pub invariant-loop-slot : goal.invariant-loop-slot
-invariant-loop-slot l =
-    Going l.sheet l.start l.last l.links l.bids l.asks l.bidders l.slots l.tick l.barred l.held l.page l.prices l.slot.0
-
-abbrev pub decreases-loop-slot : goal.decreases-loop-slot
-decreases-loop-slot l = suc l.slots - l.slot.0
+abbrev pub invariant-loop-k : goal.invariant-loop-k
+invariant-loop-k l =
+    Going l.sheet l.start l.last l.links l.bids l.asks l.bidders l.slots l.tick l.barred l.held l.page l.prices l.k

@@ -22,14 +22,14 @@ use Rattle.auction.specs.Eligible.{first_failed, failed_test, eligible}
 use Rattle.auction.proofs.BrokenLaws.{eligible-reaches, fourth_below}
 use Rattle.greedy.specs.EngineEligible.{SoFar}
 use Rattle.greedy.proofs.EligibleLaws.{lent_bid}
-use Rattle.greedy.proofs.next_eligible.Goals.{After-eligibility-answer, Joined-answer, in-Placed, in-EarlierWinners, in-Own}
+use Rattle.greedy.proofs.next_eligible.Goals.{After-eligibility-answer}
 use Rattle.greedy.proofs.next_eligible.Goals as goal
 
 -- what the step said of the bidder at this rank
 answered : (c : After-eligibility-answer) (q : Round) (p : Page) →
     let given = c.args in
     SoFar q p given.sheet.now given.barred.now given.held.now given.bids.now given.asks given.slot.0 →
-    (a : Eligibility) → c.eligibility-answer.result ≡ a → failed_test a ≡ first_failed q p given.slot.0 (get_or given.ranked.now c.loop-i.i 0)
+    (a : Eligibility) → c.eligibility-answer.result ≡ a → failed_test a ≡ first_failed q p given.slot.0 (get_or given.ranked.now c.loop-rank.rank 0)
 answered c q p far a e =
     ap failed_test (sym e)
     ∙ c.eligibility-answer.ensures q p far
@@ -45,64 +45,44 @@ below_from q p s ranked barred held bids asks bidders slot i j far o below m l =
     let bid = lent_bid q bids far.bids_are b in
     fails (eligible q p slot b) (λ e. let reaches = eligible-reaches q p slot b e in absurd (omega arith))
 
--- the three other answers say that the bidder is not eligible
-not_eligible : (c : Joined-answer) (q : Round) (p : Page) →
-    let given = c.args in
-    SoFar q p given.sheet.now given.barred.now given.held.now given.bids.now given.asks given.slot.0 →
-    eligible q p given.slot.0 (get_or given.ranked.now c.loop-i.i 0) ≡ false
-unfolding failed_test eligible
-not_eligible c q p far =
-    let told : (a : Eligibility) → c.eligibility-answer.result ≡ a → failed_test a ≡ first_failed q p c.args.slot.0 (get_or c.args.ranked.now c.loop-i.i 0)
-    = λ a e. ap failed_test (sym e) ∙ c.eligibility-answer.ensures q p far ∙ ap (first_failed q p c.args.slot.0) c.ranked_at-bidder.ensures in
-    elim c.match-answer.branch [
-      | in-Placed w ↦ ap (λ (x : ℕ). eqb x 0) (sym (told Placed w.in-Placed.is))
-      | in-EarlierWinners w ↦ ap (λ (x : ℕ). eqb x 0) (sym (told EarlierWinners w.in-EarlierWinners.is))
-      | in-Own w ↦ ap (λ (x : ℕ). eqb x 0) (sym (told Own w.in-Own.is))
-    ]
-
 pub returns-in-Eligible-clause-next_at : goal.returns-in-Eligible-clause-next_at
 unfolding failed_test eligible
-returns-in-Eligible-clause-next_at c =
-    let v = c.loop-i.invariant in
-    λ q p far.
+returns-in-Eligible-clause-next_at c = λ q p far.
     record {
-      low = v.low;
-      high = v.high;
-      passed = v.passed q p far;
+      low = omega arith;
+      high = omega arith;
+      passed = c.loop-rank.invariant q p far;
       here = λ below. eq-eqb _ 0 (sym (answered (goal.at.returns-in-Eligible-clause-next_at c).After-eligibility-answer q p far Eligible c.in-Eligible.is));
     }
 
 pub returns-in-BelowFloor-clause-next_at : goal.returns-in-BelowFloor-clause-next_at
 unfolding failed_test
-returns-in-BelowFloor-clause-next_at c =
-    let v = c.loop-i.invariant in
-    let i = c.loop-i.i in
-    λ q p far.
+returns-in-BelowFloor-clause-next_at c = λ q p far.
+    let rank = c.loop-rank.rank in
     let below = fourth_below q p c.args.slot.0 _ (sym (answered (goal.at.returns-in-BelowFloor-clause-next_at c).After-eligibility-answer q p far BelowFloor c.in-BelowFloor.is)) in
-    record {
-      low = (let l = v.low in let h = v.high in omega arith);
-      high = omega arith;
-      passed = λ j from under.
-          ⊎_elim
-          (λ (l : j < i). v.passed q p far j from l)
-          (λ (l : i ≤ j). below_from q p _ _ _ _ _ _ _ _ _ j far c.requires.in_order below l under)
-          (below_or_not j i);
-      here = λ more. absurd (omega arith);
-    }
-
-pub loop-i-preserved : goal.loop-i-preserved
-loop-i-preserved c =
-    let a = c.args in
-    let v = c.loop-i.invariant in
-    let low = v.low in
-    let below = c.loop-i-test.true in
-    let i = c.loop-i.i in
     record {
       low = omega arith;
       high = omega arith;
-      passed = λ q p far j from under.
+      passed = λ j from under.
           ⊎_elim
-          (λ (e : j ≡ i). ap (λ (z : ℕ). eligible q p a.slot.0 (get_or a.ranked.now z 0)) e ∙ not_eligible (goal.at.loop-i-preserved c).Joined-answer q p far)
-          (λ (lt : j < i). v.passed q p far j from lt)
-          (eq-or-lt_of_le (let s : j ≤ i = omega arith in s));
+          (λ (l : j < rank). c.loop-rank.invariant q p far j from l)
+          (λ (l : rank ≤ j). below_from q p _ _ _ _ _ _ _ _ _ j far c.requires.in_order below l under)
+          (below_or_not j rank);
+      here = λ more. absurd (omega arith);
     }
+
+pub loop-rank-preserved : goal.loop-rank-preserved
+unfolding failed_test eligible
+loop-rank-preserved c = λ q p far.
+    let rank = c.loop-rank.rank in
+    let told = answered (goal.at.loop-rank-preserved c).After-eligibility-answer q p far in
+    let out : eligible q p c.args.slot.0 (get_or c.args.ranked.now rank 0) ≡ false =
+    ⊎_elim
+    (λ e. ap (λ (x : ℕ). eqb x 0) (sym (told Placed e)))
+    (λ o. ⊎_elim (λ e. ap (λ (x : ℕ). eqb x 0) (sym (told EarlierWinners e))) (λ e. ap (λ (x : ℕ). eqb x 0) (sym (told Own e))) o)
+    c.in-Placed.is in
+    λ j from under.
+    ⊎_elim
+    (λ (e : j ≡ rank). ap (λ (z : ℕ). eligible q p c.args.slot.0 (get_or c.args.ranked.now z 0)) e ∙ out)
+    (λ (lt : j < rank). c.loop-rank.invariant q p far j from lt)
+    (eq-or-lt_of_le (let s : j ≤ rank = omega arith in s))

@@ -11,39 +11,25 @@ use Rattle.sheet.specs.Round.{round_of}
 use Rattle.greedy_links.specs.EngineKeys.{is_marked}
 use Rattle.greedy_links.specs.EngineLinks.{link_owner, some_owner_of}
 use Rattle.greedy_links.proofs.KeyLaws.{owner-within}
-use Rattle.greedy_links.proofs.LinkLaws.{walk_start, all_from_last, link_fits, walk_next, one_then_rest, none_left}
-use Rattle.greedy_links.proofs.bar_chain.Goals.{After-chain_index-at, In-loop-next}
+use Rattle.greedy_links.proofs.LinkLaws.{walk_start, all_from_last, link_here, walk_next, one_then_rest, none_left}
+use Rattle.greedy_links.proofs.bar_chain.Goals.{In-loop-next}
 use Rattle.greedy_links.proofs.bar_chain.Goals as goal
-
--- the chain is one of those that are kept
-chain_most : (c : After-chain_index-at) → c.chain_index-at.result ≤ 1088
-chain_most c =
-    let e = c.chain_index-at.ensures in
-    let p = c.requires.1 in
-    omega arith
 
 -- where the walk stands: its link is one of the sheet's, and the one before it has a lower number
 here : (c : In-loop-next) →
     (c.loop-next.next - 1 < constraint_count c.args.sheet.now)
     × (constraint_count c.args.sheet.now ≤ 1024)
     × (get_or c.args.links.now (c.loop-next.next - 1) 0 ≤ c.loop-next.next - 1)
-unfolding round_of
-here c =
-    let e = c.chain_index-at.ensures in
-    let p = c.requires.1 in
-    let most : c.chain_index-at.result ≤ 1088 = omega arith in
-    let next = c.loop-next.next in
-    let going = c.loop-next-test.true in
-    link_fits (round_of c.args.sheet.now) _ _ _ most c.requires.2.linked next (next - 1) (omega arith) c.loop-next.invariant.walks
+here c = link_here _ _ _ _ _ _ c.requires.1 c.requires.2 c.loop-next-test.true c.loop-next.invariant.walks
 
 pub loop-next-init : goal.loop-next-init
 loop-next-init c =
     record {
       size = c.requires.0;
-      walks = walk_start (round_of c.args.sheet.now) c.chain_index-at.result _ _ (chain_most (goal.at.loop-next-init c).After-chain_index-at) c.requires.2.linked;
+      walks = walk_start (round_of c.args.sheet.now) c.args.chain.0 _ _ c.requires.1 c.requires.2.linked;
       left = λ y.
           ap (λ (t : Bool). is_marked c.args.barred.now y || t)
-          (all_from_last (round_of c.args.sheet.now) c.chain_index-at.result _ _ (chain_most (goal.at.loop-next-init c).After-chain_index-at) c.requires.2.linked (λ z. eqb z y));
+          (all_from_last (round_of c.args.sheet.now) c.args.chain.0 _ _ c.requires.1 c.requires.2.linked (λ z. eqb z y));
     }
 
 pub owner_at-owner-requires : goal.owner_at-owner-requires
@@ -66,8 +52,8 @@ loop-next-preserved c =
     let barred = c.loop-next.barred in
     let next = c.loop-next.next in
     let going = c.loop-next-test.true in
-    let x = c.chain_index-at.result in
-    let most = chain_most (goal.at.loop-next-preserved c).After-chain_index-at in
+    let x = c.args.chain.0 in
+    let most = c.requires.1 in
     let linked = c.requires.2.linked in
     record {
       size = c.mark.auto.marks ∙ v.size;
@@ -88,7 +74,6 @@ returns c = λ y.
     let r = round_of c.args.sheet.now in
     let barred = c.loop-next.barred in
     sym
-    (ap (λ (x : ℕ). is_marked c.args.barred.now y || some_owner_of r x (λ z. eqb z y) r.used) (sym c.chain_index-at.ensures)
-    ∙ c.loop-next.invariant.left y
-    ∙ ap (λ (t : Bool). is_marked barred y || t) (none_left r c.chain_index-at.result c.loop-next.next (λ z. eqb z y) c.loop-next-test.false)
+    (c.loop-next.invariant.left y
+    ∙ ap (λ (t : Bool). is_marked barred y || t) (none_left r c.args.chain.0 c.loop-next.next (λ z. eqb z y) c.loop-next-test.false)
     ∙ or-false (is_marked barred y))

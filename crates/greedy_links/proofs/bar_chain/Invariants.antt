@@ -19,7 +19,7 @@ pub record Going (r : Round) (chain : ℕ) (barred₀ barred : List ℕ) (next :
   pub left : (y : ℕ) → (is_marked barred₀ y || some_owner_of r chain (λ z. eqb z y) r.used) ≡ (is_marked barred y || some_owner_of r chain (λ z. eqb z y) next)
 
 abbrev pub invariant-loop-next : goal.invariant-loop-next
-invariant-loop-next l = Going (round_of l.sheet) l.at l.initial.barred l.barred l.next
+invariant-loop-next l = Going (round_of l.sheet) l.fn.chain.0 l.initial.barred l.barred l.next
 
 abbrev pub decreases-loop-next : goal.decreases-loop-next
 decreases-loop-next l = l.next

@@ -10,40 +10,26 @@ use Rattle.sheet.specs.Round.{round_of}
 use Rattle.greedy_links.specs.EngineKeys.{is_marked}
 use Rattle.greedy_links.specs.EngineLinks.{link_owner, some_owner_of, named_for}
 use Rattle.greedy_links.proofs.KeyLaws.{owner-within}
-use Rattle.greedy_links.proofs.LinkLaws.{walk_start, all_from_last, link_fits, walk_next, one_then_rest, none_left}
-use Rattle.greedy_links.proofs.named_by.Goals.{After-chain_index-at, In-loop-next}
+use Rattle.greedy_links.proofs.LinkLaws.{walk_start, all_from_last, link_here, walk_next, one_then_rest, none_left}
+use Rattle.greedy_links.proofs.named_by.Goals.{In-loop-next}
 use Rattle.greedy_links.proofs.named_by.Goals as goal
-
--- the chain is one of those that are kept
-chain_most : (c : After-chain_index-at) → c.chain_index-at.result ≤ 1088
-chain_most c =
-    let e = c.chain_index-at.ensures in
-    let p = c.requires.1 in
-    omega arith
 
 -- where the walk stands: its link is one of the sheet's, and the one before it has a lower number
 here : (c : In-loop-next) →
     (c.loop-next.next - 1 < constraint_count c.args.sheet.now)
     × (constraint_count c.args.sheet.now ≤ 1024)
     × (get_or c.args.links.now (c.loop-next.next - 1) 0 ≤ c.loop-next.next - 1)
-unfolding round_of
-here c =
-    let e = c.chain_index-at.ensures in
-    let p = c.requires.1 in
-    let most : c.chain_index-at.result ≤ 1088 = omega arith in
-    let next = c.loop-next.next in
-    let going = c.loop-next-test.true in
-    link_fits (round_of c.args.sheet.now) _ _ _ most c.requires.2.linked next (next - 1) (omega arith) c.loop-next.invariant.walks
+here c = link_here _ _ _ _ _ _ c.requires.1 c.requires.2 c.loop-next-test.true c.loop-next.invariant.walks
 
 pub loop-next-init : goal.loop-next-init
 loop-next-init c =
     let r = round_of c.args.sheet.now in
-    let most = chain_most (goal.at.loop-next-init c).After-chain_index-at in
+    let most = c.requires.1 in
     let linked = c.requires.2.linked in
     record {
-      walks = walk_start r c.chain_index-at.result _ _ most linked;
-      left = all_from_last r c.chain_index-at.result _ _ most linked (is_marked c.args.held.now);
-      itself = all_from_last r c.chain_index-at.result _ _ most linked (λ y. eqb y 0);
+      walks = walk_start r c.args.chain.0 _ _ most linked;
+      left = all_from_last r c.args.chain.0 _ _ most linked (is_marked c.args.held.now);
+      itself = all_from_last r c.args.chain.0 _ _ most linked (λ y. eqb y 0);
     }
 
 pub owner_at-owner-requires : goal.owner_at-owner-requires
@@ -63,12 +49,11 @@ returns-then-is_marked c =
     let v = c.loop-next.invariant in
     let next = c.loop-next.next in
     let going = c.loop-next-test.true in
-    let x = c.chain_index-at.result in
+    let x = c.args.chain.0 in
     sym
-    (ap (λ (y : ℕ). named_for (some_owner_of r y (is_marked c.args.held.now) r.used) (some_owner_of r y (λ z. eqb z 0) r.used)) (sym c.chain_index-at.ensures)
-    ∙ ap (λ (t : Bool). named_for t (some_owner_of r x (λ z. eqb z 0) r.used))
+    (ap (λ (t : Bool). named_for t (some_owner_of r x (λ z. eqb z 0) r.used))
     (v.left
-    ∙ one_then_rest r x _ _ (chain_most (goal.at.returns-then-is_marked c).After-chain_index-at) c.requires.2.linked next (next - 1) (omega arith) v.walks (is_marked c.args.held.now)
+    ∙ one_then_rest r x _ _ c.requires.1 c.requires.2.linked next (next - 1) (omega arith) v.walks (is_marked c.args.held.now)
     ∙ ap (λ (t : Bool). t || some_owner_of r x (is_marked c.args.held.now) (get_or c.args.links.now (next - 1) 0))
     (ap (is_marked c.args.held.now) (sym c.owner_at-owner.ensures) ∙ sym c.is_marked.ensures ∙ c.if-is_marked.true)))
 
@@ -82,8 +67,8 @@ loop-next-preserved c =
     let met = c.loop-next.itself in
     let next = c.loop-next.next in
     let going = c.loop-next-test.true in
-    let x = c.chain_index-at.result in
-    let most = chain_most (goal.at.loop-next-preserved c).After-chain_index-at in
+    let x = c.args.chain.0 in
+    let most = c.requires.1 in
     let linked = c.requires.2.linked in
     let earlier = get_or c.args.links.now (next - 1) 0 in
     record {
@@ -98,7 +83,7 @@ loop-next-preserved c =
           ∙ ap (λ (t : Bool). met || t) (one_then_rest r x _ _ most linked next (next - 1) (omega arith) v.walks (λ y. eqb y 0))
           ∙ sym (or_assoc met (eqb (link_owner r (next - 1)) 0) (some_owner_of r x (λ y. eqb y 0) earlier))
           ∙ ap (λ (t : Bool). (met || t) || some_owner_of r x (λ y. eqb y 0) earlier)
-          (sym (c.is_always_so-itself.ensures ∙ ap (λ (z : ℕ). eqb z 0) c.owner_at-owner.ensures));
+          (sym (c.eq-itself.ensures ∙ ap (λ (z : ℕ). eqb z 0) c.owner_at-owner.ensures));
     }
 
 pub returns : goal.returns
@@ -106,10 +91,9 @@ unfolding named_for
 returns c =
     let r = round_of c.args.sheet.now in
     let v = c.loop-next.invariant in
-    let x = c.chain_index-at.result in
+    let x = c.args.chain.0 in
     let done = c.loop-next-test.false in
     sym
-    (ap (λ (y : ℕ). named_for (some_owner_of r y (is_marked c.args.held.now) r.used) (some_owner_of r y (λ z. eqb z 0) r.used)) (sym c.chain_index-at.ensures)
-    ∙ ap₂ named_for
+    (ap₂ named_for
     (v.left ∙ none_left r x c.loop-next.next (is_marked c.args.held.now) done)
     (v.itself ∙ ap (λ (t : Bool). c.loop-next.itself || t) (none_left r x c.loop-next.next (λ y. eqb y 0) done) ∙ or-false c.loop-next.itself))

@@ -18,7 +18,7 @@ pub record Going (r : Round) (held : List ℕ) (chain next : ℕ) (met : Bool) :
   pub itself : some_owner_of r chain (λ y. eqb y 0) r.used ≡ (met || some_owner_of r chain (λ y. eqb y 0) next)
 
 abbrev pub invariant-loop-next : goal.invariant-loop-next
-invariant-loop-next l = Going (round_of l.sheet) l.held l.at l.next l.itself
+invariant-loop-next l = Going (round_of l.sheet) l.held l.fn.chain.0 l.next l.itself
 
 abbrev pub decreases-loop-next : goal.decreases-loop-next
 decreases-loop-next l = l.next

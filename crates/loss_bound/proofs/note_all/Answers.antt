@@ -1,8 +1,10 @@
 use Prim.Native.Nat.{ℕ, ◌+◌, ◌*◌, ◌<◌, ◌≤◌}
-use mathlib.Core.Bool.{false≢true}
+use Rattle.std.proofs.Common.{nat_cmp, is_le}
+use Rattle.std.proofs.lemmas.Bool.Decides.{nat_tests}
+use Rattle.std.proofs.lemmas.Map.Keys.{le_from_is_le}
+use mathlib.Core.Bool.{false, false≢true}
 use mathlib.Core.List.{List}
 use mathlib.Core.Path.{◌≡◌, refl, sym, ◌∙◌, ap, subst}
-use native.Mathlib.Nat.{le_antisymm}
 use native.Mathlib.Numerals.{add-one}
 use native.Mathlib.Omega.{arith}
 use lib.ListN.{length, get_or}
@@ -15,6 +17,9 @@ use Rattle.loss_bound.specs.EngineNaming.{names_among, Noted}
 use Rattle.loss_bound.proofs.NamingLaws.{rival_some, named-few, none_noted, next_noted, above-next, no_other, not_above}
 use Rattle.loss_bound.proofs.note_all.Goals.{In-loop-k}
 use Rattle.loss_bound.proofs.note_all.Goals as goal
+
+lt_from_not_le : (a b : ℕ) → is_le (nat_cmp a b) ≡ false → b < a
+lt_from_not_le a b e = grind (arith, nat_tests)
 
 -- the sheet, and the index of a turn
 abbrev sheet : In-loop-k → List ℕ
@@ -62,7 +67,7 @@ pub loop-k-init : goal.loop-k-init
 unfolding all_below
 loop-k-init c =
     let p = c.requires in
-    (omega arith, refl, none_noted _ _ _ _ (accepted-sheet _ p.0).counts.most_bidders p.3 p.4 p.5 p.6)
+    (refl, none_noted _ _ _ _ (accepted-sheet _ p.0).counts.most_bidders p.3 p.4 p.5 p.6)
 
 pub overflow_mul-at : goal.overflow_mul-at
 overflow_mul-at c = let inside = room (goal.at.overflow_mul-at c).In-loop-k in omega arith
@@ -87,13 +92,13 @@ returns-then-others-eq0 c =
     let t = (goal.at.returns-then-others-eq0 c).In-loop-k in
     (sym (no_other (sheet t) (index t) _ (index_below t) (sym (others_read t) ∙ c.if-others-eq0.true)), λ e. absurd (false≢true e))
 
-pub returns-then-own-others : goal.returns-then-own-others
-returns-then-own-others c =
-    let t = (goal.at.returns-then-own-others c).In-loop-k in
-    let less = c.if-own-others.true in
+pub returns-then-le : goal.returns-then-le
+returns-then-le c =
+    let t = (goal.at.returns-then-le c).In-loop-k in
+    let less = sym c.le.ensures ∙ c.if-le.true in
     let same = others_read t in
     let same' = own_read t in
-    (sym (not_above (sheet t) (index t) _ (index_below t) (omega arith)), λ e. absurd (false≢true e))
+    (sym (not_above (sheet t) (index t) _ (index_below t) (omega (arith, le_from_is_le))), λ e. absurd (false≢true e))
 
 -- past both tests it is a pair in which the rival stands above the owner
 pub note-requires : goal.note-requires
@@ -105,7 +110,7 @@ note-requires c =
     let others = others_read t in
     let some' : 0 < other_slot_field (sheet t) (index t) = omega arith in
     let some = rival_some facts some' in
-    let v = c.loop-k.invariant.2 in
+    let v = c.loop-k.invariant.1 in
     let few = v.few in
     (omega arith, omega arith, omega arith, omega arith, v.sized_words, v.sized_counts, λ j. let named = named-few _ _ _ _ v j in omega arith)
 
@@ -118,13 +123,13 @@ loop-k-preserved c =
     let other = other_read t in
     let others = others_read t in
     let own = own_read t in
+    let less = sym c.le.ensures ∙ c.if-le.false in
     let some : 0 < other_slot_field (sheet t) (index t) = omega arith in
-    let above : other_slot_field (sheet t) (index t) < own_slot_field (sheet t) (index t) = omega arith in
+    let above : other_slot_field (sheet t) (index t) < own_slot_field (sheet t) (index t) = omega (arith, lt_from_not_le) in
     rw (add-one (index t)) (
-      omega arith,
-      above-next (sheet t) (index t) v.1 some above,
+      above-next (sheet t) (index t) v.0 some above,
       next_noted (sheet t) _ _ _ (index t)
-          (rw (owner, other) at (c.note.ensures (bidder_count (sheet t)) (names_among (sheet t) (index t)) (omega arith) (omega arith) v.2)),
+          (rw (c.from.ensures ∙ owner, c.from-in-loop-k.ensures ∙ other) at (c.note.ensures (bidder_count (sheet t)) (names_among (sheet t) (index t)) (omega arith) (omega arith) v.1)),
     )
 
 pub returns : goal.returns
@@ -132,7 +137,7 @@ unfolding names_rival names_among
 returns c =
     let v = c.loop-k.invariant in
     let s = c.args.sheet.now in
-    let all = le_antisymm v.0 c.loop-k-test.false ∙ c.requires.2 in (
-      sym (ap (all_below (rival_above s)) (sym all) ∙ v.1),
-      λ e. subst (λ (k : ℕ). Noted (bidder_count s) (names_among s k) c.loop-k.words c.loop-k.counts) all v.2,
+    let all : c.loop-k.k ≡ constraint_count s = omega arith in (
+      sym (ap (all_below (rival_above s)) (sym all) ∙ v.0),
+      λ e. subst (λ (k : ℕ). Noted (bidder_count s) (names_among s k) c.loop-k.words c.loop-k.counts) all v.1,
     )

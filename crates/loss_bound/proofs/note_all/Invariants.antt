@@ -1,6 +1,5 @@
 -- `loss_bound::note_all` meets its contract: after k turns the first k constraints are pairs in which the rival stands above the owner, and their pairs are
 -- noted. Assumes nothing.
-use Prim.Native.Nat.{◌-◌, ◌≤◌}
 use mathlib.Core.Bool.{true}
 use mathlib.Core.Path.{◌≡◌}
 use Rattle.basis.specs.Tests.{all_below}
@@ -10,8 +9,4 @@ use Rattle.loss_bound.specs.EngineNaming.{names_among, Noted}
 use Rattle.loss_bound.proofs.note_all.Given as goal
 
 abbrev pub invariant-loop-k : goal.invariant-loop-k
-invariant-loop-k l =
-    (l.k ≤ l.count) × (all_below (rival_above l.sheet) l.k ≡ true) × Noted (bidder_count l.sheet) (names_among l.sheet l.k) l.words l.counts
-
-abbrev pub decreases-loop-k : goal.decreases-loop-k
-decreases-loop-k l = l.count - l.k
+invariant-loop-k l = (all_below (rival_above l.sheet) l.k ≡ true) × Noted (bidder_count l.sheet) (names_among l.sheet l.k) l.words l.counts

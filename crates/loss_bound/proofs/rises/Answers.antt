@@ -30,7 +30,6 @@ loop-k-preserved c =
     let low : (i : ℕ) → byte_at s i < 256 = λ i. omega (arith, c.type_inv.sheet i) in
     let number : c.order_number-number.result ≡ order_number s k = c.order_number-number.ensures ∙ word_number s low _ _ k c.requires.1 c.word32.ensures in
     record {
-      some = omega arith;
       last = λ i e. ap (order_number s) (let same : i ≡ k = omega arith in same) ∙ sym number;
       rise = λ i l.
           ⊎_elim

@@ -4,8 +4,6 @@ use mathlib.Core.Path.{◌≡◌, sym, ap}
 use native.Mathlib.Omega.{arith}
 use Rattle.basis.specs.Bytes.{byte_at}
 use Rattle.sheet.specs.Sheet.{constraints_start, owner_field}
-use Rattle.sheet.proofs.HeaderLaws.{start_most}
-use Rattle.sheet_read.proofs.RoomLaws.{room}
 use Rattle.owner_part.proofs.OwnerLaws.{owners_rise, first_is}
 use Rattle.owner_part.proofs.first_from.Goals as goal
 
@@ -14,17 +12,8 @@ owner_read : (s : List ℕ) (start k : ℕ) → start ≡ constraints_start s �
 unfolding owner_field
 owner_read s start k e = ap (λ (x : ℕ). byte_at s (x + 4 * k)) e
 
-pub overflow_mul-middle : goal.overflow_mul-middle
-overflow_mul-middle c = omega (arith, room _ c.requires.0)
-
-pub overflow_add-start : goal.overflow_add-start
-overflow_add-start c = omega (arith, room _ c.requires.0, start_most c.args.sheet.now)
-
-pub bounds-sheet-start : goal.bounds-sheet-start
-bounds-sheet-start c = omega (arith, room _ c.requires.0)
-
-pub loop-low-preserved-then-wide-owner : goal.loop-low-preserved-then-wide-owner
-loop-low-preserved-then-wide-owner c =
+pub loop-low-preserved-then-from-owner : goal.loop-low-preserved-then-from-owner
+loop-low-preserved-then-from-owner c =
     let l = c.loop-low in
     let s = c.args.sheet.now in
     let middle = l.low + (l.high - l.low) / 2 in

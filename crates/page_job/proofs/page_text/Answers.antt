@@ -1,46 +1,34 @@
 -- `page_job::page_text` meets its contract, by the two cases of the call: a refused sheet's line is put by its number, and an
 -- accepted one's lines are read off the result that playing wrote. Assumes nothing.
-use Prim.Native.Nat.{ℕ}
-use mathlib.Core.List.{List}
-use mathlib.Core.Path.{refl, subst}
-use native.Mathlib.Omega.{arith}
+use Rattle.std.proofs.Common.{ℕ, List, refl, ◌∙◌, ap, subst, arith}
+use Rattle.refusal.proofs.NumberLaws.{number_of-ne0}
 use Rattle.sheet.specs.Refusal.{Accepted}
 use Rattle.sheet.proofs.AcceptedLaws.{accepted-sheet}
+use Rattle.page_lines.specs.Lines.{refused_line}
 use Rattle.page_lines.specs.Put.{Written}
 use Rattle.page_job.proofs.PageTextLaws.{text-refused, answer-accepted, text-played}
+use Rattle.page_job.proofs.page_text.Goals.{In-Ok}
 use Rattle.page_job.proofs.page_text.Goals as goal
 
-pub returns-then-refusal-ne0 : goal.returns-then-refusal-ne0
-returns-then-refusal-ne0 c =
-    let args = c.args in
-    let play = c.play-refusal in
-    subst (λ (bytes : List ℕ). Written args.text.now bytes c.refused_line.result c.refused_line.new.text)
-    (text-refused args.sheet.now _ play.new.res play.result refl play.ensures c.if-refusal-ne0.true)
-    c.refused_line.ensures
+accepted : (c : In-Ok) → Accepted c.args.sheet.now
+accepted c = answer-accepted _ _ _ 0 refl c.in-Ok.ensures refl
 
 pub bounds-sheet-6 : goal.bounds-sheet-6
-bounds-sheet-6 c =
-    let args = c.args in
-    let ok : Accepted args.sheet.now
-    = answer-accepted args.sheet.now _ c.play-refusal.new.res c.play-refusal.result refl c.play-refusal.ensures c.if-refusal-ne0.false in
-    let facts = accepted-sheet args.sheet.now ok in
-    let known = facts.counts in
-    omega arith
+bounds-sheet-6 c = let known = (accepted-sheet _ (accepted (goal.at.bounds-sheet-6 c).In-Ok)).counts in omega arith
 
 pub slot_lines-requires : goal.slot_lines-requires
 slot_lines-requires c =
-    let args = c.args in
-    let play = c.play-refusal in
-    let ok : Accepted args.sheet.now
-    = answer-accepted args.sheet.now _ play.new.res play.result refl play.ensures c.if-refusal-ne0.false in
-    let facts = accepted-sheet args.sheet.now ok in
-    let few = facts.counts.most_slots in
-    (few, omega (arith, play.auto.res), omega arith)
+    let few = (accepted-sheet _ (accepted (goal.at.slot_lines-requires c).In-Ok)).counts.most_slots in
+    (few, omega (arith, c.play.auto.res), omega arith)
 
-pub returns : goal.returns
-returns c =
-    let args = c.args in
-    let play = c.play-refusal in
-    subst (λ (bytes : List ℕ). Written args.text.now bytes c.slot_lines.result c.slot_lines.new.text)
-    (text-played args.sheet.now _ play.new.res play.result refl play.ensures c.if-refusal-ne0.false)
+pub returns-in-Ok : goal.returns-in-Ok
+returns-in-Ok c =
+    subst (λ (bytes : List ℕ). Written c.args.text.now bytes c.slot_lines.result c.slot_lines.new.text)
+    (text-played c.args.sheet.now _ _ 0 refl c.in-Ok.ensures refl)
     c.slot_lines.ensures
+
+pub returns-in-Err : goal.returns-in-Err
+returns-in-Err c =
+    subst (λ (bytes : List ℕ). Written c.args.text.now bytes c.refused_line.result c.refused_line.new.text)
+    (ap refused_line c.number.ensures ∙ text-refused c.args.sheet.now _ _ _ refl c.in-Err.ensures (number_of-ne0 _))
+    c.refused_line.ensures

@@ -1,6 +1,6 @@
 use Prim.Native.Nat.{ℕ, suc, ◌+◌, ◌*◌, ◌≤◌}
 use mathlib.Core.List.{List}
-use mathlib.Core.Path.{◌≡◌, refl, sym, ◌∙◌, ap, ap₂, subst}
+use mathlib.Core.Path.{◌≡◌, sym, ◌∙◌, ap, ap₂, subst}
 use native.Mathlib.Nat.{le_antisymm}
 use native.Mathlib.Numerals.{add-one}
 use native.Mathlib.Omega.{arith}
@@ -42,34 +42,34 @@ all_lines result text₀ text k slots at l g room p =
 
 pub loop-k-init : goal.loop-k-init
 loop-k-init c =
-    record { some = omega arith; size = refl; short = omega arith; put = no_lines c.args.res.now c.args.text.now }
+    record { short = omega arith; put = no_lines c.args.res.now c.args.text.now }
 
 pub put_line-at-requires : goal.put_line-at-requires
 put_line-at-requires c =
     let loop = c.loop-k in
     let v = loop.invariant in
-    let bidder = c.wide-bidder.ensures in
-    let short = line_short (loop.k + 1) c.wide-bidder.result c.word32-price.result (omega arith) (omega arith) (omega arith) in
+    let bidder = c.from-bidder.ensures in
+    let low = c.type_inv.res (5 * loop.k) in
+    let short = line_short (loop.k + 1) c.from-bidder.result c.word32-price.result (omega arith) (omega arith) (omega arith) in
     omega arith
 
 pub loop-k-preserved : goal.loop-k-preserved
 loop-k-preserved c =
     let loop = c.loop-k in
-    let wide = c.wide-bidder in
+    let from = c.from-bidder in
     let word32 = c.word32-price in
     let args = c.args in
     let v = loop.invariant in
-    let bidder = wide.ensures in
-    let short = line_short (loop.k + 1) wide.result word32.result (omega arith) (omega arith) (omega arith) in
+    let bidder = from.ensures in
+    let low = c.type_inv.res (5 * loop.k) in
+    let short = line_short (loop.k + 1) from.result word32.result (omega arith) (omega arith) (omega arith) in
     let put = c.put_line-at.ensures in
     record {
-      some = omega arith;
-      size = c.put_line-at.auto.text ∙ v.size;
       short = omega arith;
       put =
           line_more args.res.now args.text.now loop.text c.put_line-at.new.text
-          (line (loop.k + 1) wide.result word32.result) loop.k loop.at c.put_line-at.result
-          (line_read args.res.now loop.k wide.result word32.result wide.ensures.0 word32.ensures)
+          (line (loop.k + 1) from.result word32.result) loop.k loop.at c.put_line-at.result
+          (line_read args.res.now loop.k from.result word32.result from.ensures word32.ensures)
           v.put put;
     }
 
@@ -78,4 +78,4 @@ returns c =
     let args = c.args in
     let v = c.loop-k.invariant in
     all_lines args.res.now args.text.now c.loop-k.text c.loop-k.k args.slots c.loop-k.at
-    v.some c.loop-k-test.false (omega arith) v.put
+    (omega arith) (omega arith) (omega arith) v.put

@@ -1,16 +1,17 @@
 -- `pas::pas_gain` meets its contract: the gain call's number decides whether the gain is written. Assumes nothing.
-use mir.Facts.{to_z-of_z}
-use mir.Syntax.{w64}
-use Rattle.pas.proofs.AnswerLaws.{gain-refused, gain-answered}
+use mathlib.Core.Path.{◌∙◌, refl, sym, ap}
+use Rattle.std.specs.Prelude.{pos}
+use Rattle.refusal.specs.Numbers.{number_of}
+use Rattle.refusal.proofs.NumberLaws.{number_of-ne0}
+use Rattle.gain.specs.Call.{gained_in}
+use Rattle.pas.specs.Calls.{GainGiven}
+use Rattle.pas.proofs.AnswerLaws.{told, gain-refused, gain-answered}
 use Rattle.pas.proofs.pas_gain.Goals as goal
-
-pub returns-then-refusal-ne0 : goal.returns-then-refusal-ne0
-returns-then-refusal-ne0 c =
-    let start = c.args in
-    gain-refused start.played.now start.truth.now start.bidder start.worth start.gain.now c.gain-gained.result c.gain-gained.ensures c.if-refusal-ne0.true
 
 pub returns : goal.returns
 returns c =
     let start = c.args in
-    let gained = c.gain-gained in
-    gain-answered start.played.now start.truth.now start.bidder start.worth start.gain.now gained.result gained.ensures c.if-refusal-ne0.false _ (to_z-of_z {w = w64} {z = gained.result.gain} (record { sfits = gained.type_inv.1.1.1.0.1 }))
+    rw (c.tell.ensures.told, c.tell.ensures.written)
+    (told c.gain.result start.gain.now (λ n a. GainGiven start.played.now start.truth.now start.bidder start.worth start.gain.now n a)
+    (λ v e. gain-answered start.played.now start.truth.now start.bidder start.worth start.gain.now (record { refusal = 0; gain = v }) (ap gained_in (sym e) ∙ c.gain.ensures) refl v refl)
+    (λ x e. gain-refused start.played.now start.truth.now start.bidder start.worth start.gain.now (record { refusal = number_of x; gain = pos 0 }) (ap gained_in (sym e) ∙ c.gain.ensures) (number_of-ne0 x)))

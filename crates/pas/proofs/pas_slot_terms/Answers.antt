@@ -1,20 +1,16 @@
--- `pas::pas_slot_terms` meets its contract: the writer's number decides whether the count is written; the buffer is what the writer left.
--- Assumes nothing.
-use Rattle.pas.proofs.AnswerLaws.{slot_terms-refused, slot_terms-answered}
+-- `pas::pas_slot_terms` meets its contract: the writer's number decides whether the count is written; the buffer is what the writer left. Assumes nothing.
+use mathlib.Core.Path.{refl, subst}
+use Rattle.refusal.specs.Numbers.{number_of}
+use Rattle.refusal.proofs.NumberLaws.{number_of-ne0}
+use Rattle.slot_terms.specs.SlotTerms.{written_in, SlotTermsWritten}
+use Rattle.pas.specs.Calls.{SlotTermsGiven}
+use Rattle.pas.proofs.AnswerLaws.{told, slot_terms-refused, slot_terms-answered}
 use Rattle.pas.proofs.pas_slot_terms.Goals as goal
-
-pub returns-then-refusal-ne0 : goal.returns-then-refusal-ne0
-returns-then-refusal-ne0 c =
-    let start = c.args in
-    let given = c.write-given in
-    slot_terms-refused start.n start.m start.owner start.limit start.bars.now start.res.now start.count.now given.result _
-    given.ensures
-    c.if-refusal-ne0.true
 
 pub returns : goal.returns
 returns c =
     let start = c.args in
-    let given = c.write-given in
-    slot_terms-answered start.n start.m start.owner start.limit start.bars.now start.res.now start.count.now given.result _
-    given.ensures
-    c.if-refusal-ne0.false
+    rw (c.tell.ensures.told, c.tell.ensures.written)
+    (told c.write.result start.count.now (λ n a. SlotTermsGiven start.n start.m start.owner start.limit start.bars.now start.res.now start.count.now n c.write.new.res a)
+    (λ v e. slot_terms-answered start.n start.m start.owner start.limit start.bars.now start.res.now start.count.now (record { refusal = 0; count = v }) _ (subst (λ r. SlotTermsWritten start.n start.m start.owner start.limit start.bars.now start.res.now (written_in r) c.write.new.res) e c.write.ensures) refl)
+    (λ x e. slot_terms-refused start.n start.m start.owner start.limit start.bars.now start.res.now start.count.now (record { refusal = number_of x; count = 0 }) _ (subst (λ r. SlotTermsWritten start.n start.m start.owner start.limit start.bars.now start.res.now (written_in r) c.write.new.res) e c.write.ensures) (number_of-ne0 x)))

@@ -1,6 +1,8 @@
 -- `play::play_floors` meets its contract, by the cases of the call. Assumes nothing.
 use mathlib.Core.Path.{◌≡◌, sym, ◌∙◌}
 use native.Mathlib.Omega.{arith}
+use Rattle.refusal.proofs.NumberLaws.{number_of-ne0}
+use Rattle.std.proofs.lemmas.Result.{err_from_is_err_and}
 use Rattle.sheet.specs.Refusal.{Accepted}
 use Rattle.sheet.specs.Sheet.{slot_count, tick_field}
 use Rattle.choice.specs.Critical.{Asked}
@@ -8,45 +10,47 @@ use Rattle.sheet.proofs.AcceptedLaws.{accepted-sheet}
 use Rattle.floors.specs.Floors.{floors_refusal}
 use Rattle.floors.proofs.FloorLaws.{passed-proper}
 use Rattle.play.proofs.PlayLaws.{floors-sheet-refused, floors-refused, floored-plays}
-use Rattle.play.proofs.play_floors.Goals.{After-asked-asks, Else-number-ne0, Else-wrong-ne0}
+use Rattle.play.proofs.play_floors.Goals.{After-asked-asks, In_ok-check, In_ok-check_floors}
 use Rattle.play.proofs.play_floors.Goals as goal
 
 -- past the check the sheet is accepted
-accepted : (c : Else-number-ne0) → Accepted c.args.sheet.now
-accepted c = sym c.check-number.ensures ∙ c.if-number-ne0.false
+accepted : (c : In_ok-check) → Accepted c.args.sheet.now
+accepted c = sym c.in_ok-check.ensures
 
 -- and past 30 and 31 so are the floors
-floored : (c : Else-wrong-ne0) → floors_refusal (slot_count c.args.sheet.now) c.args.floors.now ≡ 0
-floored c = sym c.check_floors-wrong.ensures ∙ c.if-wrong-ne0.false
+floored : (c : In_ok-check_floors) → floors_refusal (slot_count c.args.sheet.now) c.args.floors.now ≡ 0
+floored c = sym c.in_ok-check_floors.ensures
 
 -- what the floors ask is theirs, by the sheet's tick
 asked_is : (c : After-asked-asks) → Asked (tick_field c.args.sheet.now) (slot_count c.args.sheet.now) c.args.floors.now c.asked-asks.result
 asked_is c = rw (sym c.tick_of.ensures) c.asked-asks.ensures
 
-pub returns-then-number-ne0 : goal.returns-then-number-ne0
-returns-then-number-ne0 c =
+pub returns-in_err-check : goal.returns-in_err-check
+returns-in_err-check c =
     let given = c.args in
-    floors-sheet-refused given.floors.now given.sheet.now given.res.now _ c.check-number.ensures c.if-number-ne0.true
+    let p = err_from_is_err_and c.from_residual.result c.from_residual.ensures.1 in
+    rw (p.1, p.2) (floors-sheet-refused given.floors.now given.sheet.now given.res.now _ c.in_err-check.ensures (number_of-ne0 _))
 
 pub bounds-sheet-6 : goal.bounds-sheet-6
-bounds-sheet-6 c = let known = (accepted-sheet _ (accepted (goal.at.bounds-sheet-6 c).Else-number-ne0)).counts in omega arith
+bounds-sheet-6 c = let known = (accepted-sheet _ (accepted (goal.at.bounds-sheet-6 c).In_ok-check)).counts in omega arith
 
-pub returns-then-wrong-ne0 : goal.returns-then-wrong-ne0
-returns-then-wrong-ne0 c =
+pub returns-in_err-check_floors : goal.returns-in_err-check_floors
+returns-in_err-check_floors c =
     let given = c.args in
-    floors-refused given.floors.now given.sheet.now given.res.now _ (accepted (goal.at.returns-then-wrong-ne0 c).Else-number-ne0) c.check_floors-wrong.ensures c.if-wrong-ne0.true
+    let p = err_from_is_err_and c.from_residual-in_err-check_floors.result c.from_residual-in_err-check_floors.ensures.1 in
+    rw (p.1, p.2) (floors-refused given.floors.now given.sheet.now given.res.now _ (accepted (goal.at.returns-in_err-check_floors c).In_ok-check) c.in_err-check_floors.ensures (number_of-ne0 _))
 
 pub tick_of-requires : goal.tick_of-requires
 tick_of-requires c =
-    let form = (accepted-sheet _ (accepted (goal.at.tick_of-requires c).Else-number-ne0)).form in
+    let form = (accepted-sheet _ (accepted (goal.at.tick_of-requires c).In_ok-check)).form in
     (form.header, form.whole_header)
 
 pub asked-asks-requires : goal.asked-asks-requires
 asked-asks-requires c =
-    let counts = (accepted-sheet _ (accepted (goal.at.asked-asks-requires c).Else-number-ne0)).counts in
+    let counts = (accepted-sheet _ (accepted (goal.at.asked-asks-requires c).In_ok-check)).counts in
     let tick = c.tick_of.ensures in
-    (counts.most_slots, passed-proper _ _ (floored (goal.at.asked-asks-requires c).Else-wrong-ne0), omega arith, omega arith)
+    (counts.most_slots, passed-proper _ _ (floored (goal.at.asked-asks-requires c).In_ok-check_floors), omega arith, omega arith)
 
 pub returns : goal.returns
 returns c =
-    floored-plays _ _ _ _ _ (accepted (goal.at.returns c).Else-number-ne0) (floored (goal.at.returns c).Else-wrong-ne0) (c.play_accepted.ensures _ (asked_is (goal.at.returns c).After-asked-asks))
+    floored-plays _ _ _ _ _ (accepted (goal.at.returns c).In_ok-check) (floored (goal.at.returns c).In_ok-check_floors) (c.play_accepted.ensures _ (asked_is (goal.at.returns c).After-asked-asks))

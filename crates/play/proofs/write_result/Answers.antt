@@ -21,7 +21,7 @@ unfolding entry_in
 length_entry o k = ap suc (length-bytes32 (get_or o.prices k 0))
 
 pub loop-k-init : goal.loop-k-init
-loop-k-init c = record { some = omega arith; size = refl; front = joined-none (entry_in c.args.outcome) 5 (length_entry c.args.outcome) _ }
+loop-k-init c = record { size = refl; front = joined-none (entry_in c.args.outcome) 5 (length_entry c.args.outcome) _ }
 
 pub overflow_cast-res : goal.overflow_cast-res
 unfolding at
@@ -35,7 +35,6 @@ loop-k-preserved c =
     let k = c.loop-k.k in
     let room : 5 * suc k ≤ length c.args.res.now = omega (arith, mul-suc 5 k) in
     record {
-      some = omega arith;
       size = c.put_word32.auto.s ∙ length-set c.loop-k.res (5 * k) (get_or o.page.bidders k (bidder 0)).0 ∙ v.size;
       front =
           c.put_word32.ensures

@@ -1,10 +1,9 @@
 use Prim.Native.Nat.{ℕ, ◌+◌, ◌-◌}
 use mathlib.Core.Bool.{Bool, false, ◌&&◌, ◌||◌, or-false}
 use mathlib.Core.Path.{◌≡◌, sym, ◌∙◌, ap, ap₂}
-use native.Mathlib.Nat.{le_antisymm}
 use native.Mathlib.Numerals.{add-one}
 use native.Mathlib.Omega.{arith}
-use lib.ListN.{get_or}
+use lib.ListN.{length, get_or}
 use Rattle.basis.specs.Tests.{any_below}
 use Rattle.basis.proofs.BitLaws.{bit_zero}
 use Rattle.bidder_sets.specs.EngineSets.{in_word}
@@ -18,35 +17,34 @@ one_more : (test : ℕ → Bool) (k : ℕ) (a b : Bool) → a ≡ any_below test
 unfolding any_below
 one_more test k a b p q = ap₂ ◌||◌ p q ∙ ap (any_below test) (sym (add-one k))
 
-pub loop-k-init : goal.loop-k-init
+pub loop-member-init : goal.loop-member-init
 unfolding any_below
-loop-k-init c = (omega arith, λ x. bit_zero (x - 1))
+loop-member-init c = λ x. bit_zero (x - 1)
 
-pub loop-k-preserved : goal.loop-k-preserved
-loop-k-preserved c =
-    let turn = c.loop-k in
-    let a = c.args in
-    let table = a.table.now in
-    let members = a.members.now in (
-      omega arith,
-      λ x.
-          elim c.if-has.branch [
-            | then-has w ↦
-                ap (λ (r : Bidders). in_word r.0 x) w.rivals-is
-                ∙ w.either-rivals.ensures x
-                ∙ one_more (naming table members a.left.0 x) turn.k _ _ (turn.invariant.1 x)
-                (sym (ap (λ (t : Bool). t && in_table table (get_or members turn.k 0) x) (sym c.has.ensures ∙ w.if-has.true)))
-            | else-has w ↦
-                ap (λ (r : Bidders). in_word r.0 x) w.rivals-is
-                ∙ sym (or-false (in_word turn.rivals.0 x))
-                ∙ one_more (naming table members a.left.0 x) turn.k _ false (turn.invariant.1 x)
-                (sym (ap (λ (t : Bool). t && in_table table (get_or members turn.k 0) x) (sym c.has.ensures ∙ w.if-has.false)))
-          ],
-    )
+pub loop-member-preserved : goal.loop-member-preserved
+loop-member-preserved c =
+    let turn = c.loop-member in
+    let k = turn.member-index in
+    let table = c.args.table.now in
+    let members = c.args.members.now in
+    let left = c.args.left.0 in
+    let here = rw c.from.ensures at c.has.ensures in
+    λ x.
+    elim c.if-has.branch [
+      | then-has w ↦
+          ap (λ (r : Bidders). in_word r.0 x) w.rivals-is
+          ∙ (rw c.from.ensures at (w.either-rivals.ensures x))
+          ∙ one_more (naming table members left x) k _ _ (turn.invariant x)
+          (sym (ap (λ (t : Bool). t && in_table table (get_or members k 0) x) (sym here ∙ w.if-has.true)))
+      | else-has w ↦
+          ap (λ (r : Bidders). in_word r.0 x) w.rivals-is
+          ∙ sym (or-false (in_word turn.rivals.0 x))
+          ∙ one_more (naming table members left x) k _ false (turn.invariant x)
+          (sym (ap (λ (t : Bool). t && in_table table (get_or members k 0) x) (sym here ∙ w.if-has.false)))
+    ]
 
 pub returns : goal.returns
 unfolding rival_in
 returns c =
-    let v = c.loop-k.invariant in
-    let a = c.args in
-    λ x. v.1 x ∙ ap (λ (n : ℕ). rivals_to a.table.now a.members.now a.left.0 n x) (le_antisymm v.0 c.loop-k-test.false)
+    let all : c.loop-member.member-index ≡ length c.args.members.now = omega arith in
+    λ x. c.loop-member.invariant x ∙ ap (λ (n : ℕ). rivals_to c.args.table.now c.args.members.now c.args.left.0 n x) all

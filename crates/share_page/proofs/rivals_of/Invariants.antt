@@ -1,9 +1,9 @@
 -- `share_page::rivals_of` meets its contract: after k turns the word has whom the first k members name, of those that are left. Assumes nothing.
-use Prim.Native.Nat.{ℕ, ◌-◌, ◌≤◌}
+use Prim.Native.Nat.{ℕ}
 use mathlib.Core.Bool.{Bool, ◌&&◌}
 use mathlib.Core.List.{List}
 use mathlib.Core.Path.{◌≡◌}
-use lib.ListN.{length, get_or}
+use lib.ListN.{get_or}
 use Rattle.basis.specs.Tests.{any_below}
 use Rattle.bidder_sets.specs.EngineSets.{in_word}
 use Rattle.share_page.specs.EngineShare.{in_table}
@@ -16,8 +16,5 @@ naming table members left x j = in_word left (get_or members j 0) && in_table ta
 abbrev pub rivals_to : (table members : List ℕ) (left k x : ℕ) → Bool
 rivals_to table members left k x = any_below (naming table members left x) k
 
-abbrev pub invariant-loop-k : goal.invariant-loop-k
-invariant-loop-k l = (l.k ≤ length l.members) × ((x : ℕ) → in_word l.rivals.0 x ≡ rivals_to l.table l.members l.left.0 l.k x)
-
-abbrev pub decreases-loop-k : goal.decreases-loop-k
-decreases-loop-k l = length l.members - l.k
+abbrev pub invariant-loop-member : goal.invariant-loop-member
+invariant-loop-member l = (x : ℕ) → in_word l.rivals.0 x ≡ rivals_to l.table l.members l.left.0 l.member-index x

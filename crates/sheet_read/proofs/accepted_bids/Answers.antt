@@ -1,5 +1,10 @@
 -- `sheet_read::accepted_bids` meets its contract: the row of the sheet's bids with 0 after it is the round's. Assumes nothing.
+use Prim.Native.Nat.{ℕ, ◌+◌, ◌*◌}
+use mathlib.Core.Path.{◌∙◌, ap}
 use native.Mathlib.Omega.{arith}
+use Rattle.basis.specs.Bytes.{word32_at}
+use Rattle.basis.specs.Rows.{padded}
+use Rattle.sheet.specs.Sheet.{bidder_count, slot_count, effect_field, bid_field}
 use Rattle.sheet.specs.Round.{round_of}
 use Rattle.sheet_read.proofs.RoomLaws.{room}
 use Rattle.sheet_read.proofs.accepted_bids.Goals as goal
@@ -16,9 +21,11 @@ overflow_add-effects_start c = omega (arith, room _ c.requires)
 pub bounds-sheet-5 : goal.bounds-sheet-5
 bounds-sheet-5 c = omega (arith, room _ c.requires)
 
-pub read_bids-requires-clause-bidders_bound : goal.read_bids-requires-clause-bidders_bound
-read_bids-requires-clause-bidders_bound c = omega (arith, room _ c.requires)
+pub read_words-requires : goal.read_words-requires
+read_words-requires c = omega (arith, room _ c.requires)
 
 pub returns : goal.returns
-unfolding round_of
-returns c = c.read_bids.ensures
+unfolding round_of bid_field
+returns c =
+    let s = c.args.sheet.now in
+    c.read_words.ensures ∙ ap (λ (start : ℕ). padded (λ i. word32_at s (start + 4 * slot_count s + 4 * i)) (bidder_count s) 64 0) c.effects_start.ensures

@@ -5,11 +5,11 @@ use native.Mathlib.Nat.{le_antisymm}
 use native.Mathlib.Numerals.{add-one}
 use native.Mathlib.Omega.{arith}
 use lib.ListN.{replicate, set}
-use Rattle.basis.specs.Bytes.{byte_at}
+use Rattle.basis.specs.Bytes.{word32_at}
 use Rattle.basis.specs.Rows.{padded}
 use Rattle.basis.proofs.RowLaws.{padded-none, padded-next}
 use Rattle.sheet.specs.declared.Constraint.{Constraint}
-use Rattle.sheet.specs.Sheet.{bidder_count, slot_count}
+use Rattle.sheet.specs.Sheet.{bidder_count, slot_count, effect_field, bid_field}
 use Rattle.sheet.specs.Round.{blank, constraint_field, round_of}
 use Rattle.sheet_read.proofs.RoomLaws.{room}
 use Rattle.sheet_read.proofs.WordLaws.{word_constraint}
@@ -44,37 +44,35 @@ overflow_add-constraints_start c = omega (arith, room _ c.requires)
 pub tick_of-tick-requires : goal.tick_of-tick-requires
 tick_of-tick-requires c = omega (arith, room _ c.requires)
 
-pub read_effects-effects-requires-clause-slots_bound : goal.read_effects-effects-requires-clause-slots_bound
-read_effects-effects-requires-clause-slots_bound c = omega (arith, room _ c.requires)
+pub read_words-effects-requires : goal.read_words-effects-requires
+read_words-effects-requires c = omega (arith, room _ c.requires)
 
-pub read_bids-bids-requires-clause-bidders_bound : goal.read_bids-bids-requires-clause-bidders_bound
-read_bids-bids-requires-clause-bidders_bound c = omega (arith, room _ c.requires)
+pub read_words-bids-requires : goal.read_words-bids-requires
+read_words-bids-requires c = omega (arith, room _ c.requires)
 
 pub word16-requires : goal.word16-requires
 word16-requires c = omega (arith, room _ c.requires)
 
 pub loop-k-init : goal.loop-k-init
+unfolding effect_field bid_field
 loop-k-init c =
-    let s = c.args.sheet.now in (
-      omega arith,
-      λ i. record {
-        bidders = bidder_count s;
-        slots = slot_count s;
-        used = c.word16-used.ensures.0 i;
-        tick = c.tick_of-tick.ensures i;
-        version = c.word16.ensures.0 i;
-        effects = c.read_effects-effects.ensures i;
-        floors = replicate 16 0;
-        bids = c.read_bids-bids.ensures i;
-        constraints = (ap (replicate 1024) c.blank_constraint.ensures ∙ sym (padded-none (constraint_field s) 1024 blank)) i;
-      },
-    )
+    let s = c.args.sheet.now in
+    let start = c.effects_start-start.ensures in
+    let words = λ (start k n : ℕ). padded (λ i. word32_at s (start + 4 * i)) k n 0 in
+    λ i. record {
+      bidders = bidder_count s;
+      slots = slot_count s;
+      used = c.word16-used.ensures.0 i;
+      tick = c.tick_of-tick.ensures i;
+      version = c.word16.ensures.0 i;
+      effects = (c.read_words-effects.ensures ∙ ap (λ (start : ℕ). words start (slot_count s) 16) start) i;
+      floors = replicate 16 0;
+      bids = (c.read_words-bids.ensures ∙ ap (λ (start : ℕ). words (start + 4 * slot_count s) (bidder_count s) 64) start) i;
+      constraints = (ap (replicate 1024) c.blank_constraint.ensures ∙ sym (padded-none (constraint_field s) 1024 blank)) i;
+    }
 
-pub overflow_add-constraints_start-in-loop-k : goal.overflow_add-constraints_start-in-loop-k
-overflow_add-constraints_start-in-loop-k c = omega (arith, room _ c.requires)
-
-pub word32-word-requires : goal.word32-word-requires
-word32-word-requires c = omega (arith, room _ c.requires)
+pub constraint_at-requires : goal.constraint_at-requires
+constraint_at-requires c = omega (arith, room _ c.requires)
 
 pub bounds-round-k : goal.bounds-round-k
 bounds-round-k c = omega (arith, room _ c.requires)
@@ -84,16 +82,10 @@ loop-k-preserved c =
     let s = c.args.sheet.now in
     let k = c.loop-k.k in
     let counts = room s c.requires in
-    let low : (i : ℕ) → byte_at s i < 256 = λ i. omega (arith, c.shared_slice_known-1.given i) in
-    let from = ap (λ (start : ℕ). start + 4 * slot_count s + 4 * bidder_count s) c.effects_start-start.ensures in
-    let read = word_constraint s low _ _ k _ from c.word32-word.ensures c.kind_of-kind.ensures in (
-      omega arith,
-      rw (c.loop-k.invariant.1, add-one k) (one_more s k _ (omega arith) read),
-    )
+    rw (c.loop-k.invariant, add-one k) (one_more s k _ (omega arith) c.constraint_at.ensures)
 
 pub returns : goal.returns
 unfolding round_of
 returns c =
-    let v = c.loop-k.invariant in
-    let s = c.args.sheet.now in
-    v.1 ∙ ap (read_to s) (le_antisymm v.0 c.loop-k-test.false ∙ c.word16-used.ensures.0)
+    let end : c.loop-k.k ≡ c.word16-used.result = omega arith in
+    c.loop-k.invariant ∙ ap (read_to c.args.sheet.now) (end ∙ c.word16-used.ensures.0)

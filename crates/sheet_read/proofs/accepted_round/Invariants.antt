@@ -1,6 +1,6 @@
 -- `sheet_read::accepted_round` meets its contract: acceptance keeps each read within the sheet, the effects and the bids are their readers',
 -- and after k turns the constraints are the row of the first k with blanks after it. Assumes nothing.
-use Prim.Native.Nat.{ℕ, suc, ◌-◌, ◌≤◌}
+use Prim.Native.Nat.{ℕ, suc}
 use mathlib.Core.List.{List}
 use mathlib.Core.Path.{◌≡◌}
 use lib.ListN.{replicate}
@@ -32,7 +32,4 @@ read_to s k = round_with s (padded (constraint_field s) k 1024 blank)
 
 abbrev pub invariant-loop-k : goal.invariant-loop-k
 invariant-loop-k l =
-    (l.k ≤ l.used) × (l.round ≡ read_to l.sheet l.k)
-
-abbrev pub decreases-loop-k : goal.decreases-loop-k
-decreases-loop-k l = l.used - l.k
+    l.round ≡ read_to l.sheet l.k

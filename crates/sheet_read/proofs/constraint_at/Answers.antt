@@ -9,5 +9,5 @@ use Rattle.sheet_read.proofs.constraint_at.Goals as goal
 pub returns : goal.returns
 returns c =
     let s = c.args.sheet.now in
-    let low : (i : ℕ) → byte_at s i < 256 = λ i. omega (arith, c.shared_slice_known-1.given i) in
+    let low : (i : ℕ) → byte_at s i < 256 = λ i. omega (arith, c.type_inv.sheet i) in
     word_constraint s low c.args.start _ c.args.index _ c.requires.0 c.word32-word.ensures c.kind_of-kind.ensures

@@ -19,29 +19,21 @@ next_within bars i l = omega (arith, bars-next bars i, bars-within bars (suc i) 
 
 -- the bar of a turn
 low_bar : (c : In-loop-i) → get_or c.args.bars.now c.loop-i.i 0 ≤ 16
-low_bar c = c.requires.2 c.loop-i.i c.loop-i-test.true
+low_bar c = c.requires.low c.loop-i.i c.loop-i-test.true
 
 pub loop-i-init : goal.loop-i-init
 unfolding bars_to joined quads
-loop-i-init c = record { some = omega arith; size = refl; end = omega arith; run = refl }
+loop-i-init c = record { size = refl; end = omega arith; run = refl }
 
 pub put_run-requires : goal.put_run-requires
 put_run-requires c =
     let more = next_within c.args.bars.now c.loop-i.i c.loop-i-test.true in
     let low = low_bar (goal.at.put_run-requires c).In-loop-i in
-    let few = c.requires.0 in
-    let own = c.requires.1 in
-    let size = c.loop-i.invariant.size in
-    let end = c.loop-i.invariant.end in
-    let word = c.word_of-top.ensures in
-    let room = c.requires.3 in
     (omega arith, omega arith)
 
 pub overflow_add-at : goal.overflow_add-at
 overflow_add-at c =
     let more = next_within c.args.bars.now c.loop-i.i c.loop-i-test.true in
-    let end = c.loop-i.invariant.end in
-    let room = c.requires.3 in
     omega arith
 
 pub loop-i-preserved : goal.loop-i-preserved
@@ -50,19 +42,15 @@ loop-i-preserved c =
     let a = c.args in
     let bars = a.bars.now in
     let bar = get_or bars turn.i 0 in
-    let few = c.requires.0 in
-    let inside = c.loop-i-test.true in
     record {
-      some = omega arith;
       size = c.put_run.auto.res ∙ turn.invariant.size;
       end =
           (let next = ap (bars_to bars) (add-one turn.i) ∙ bars-next bars turn.i in
-          let end = turn.invariant.end in
           omega arith);
       run =
-          c.put_run.ensures
+          (rw c.from-bar.ensures at c.put_run.ensures)
           ∙ ap₂ (λ (l : List ℕ) (w : ℕ). sets l turn.at (joined (λ k. bytes32 (w + 16777216 * k)) bar)) turn.invariant.run c.word_of-top.ensures
           ∙ ap (sets (sets a.res.now a.start (quads (all_barred a.owner.0 bars turn.i))) turn.at)
-          (barred-words a.owner.0 (turn.i + 1) bar c.requires.1 (omega arith) (low_bar (goal.at.loop-i-preserved c).In-loop-i))
+          (barred-words a.owner.0 (turn.i + 1) bar c.requires.bidder (omega arith) (low_bar (goal.at.loop-i-preserved c).In-loop-i))
           ∙ barred-next a.owner.0 bars a.res.now a.start turn.at turn.i turn.invariant.end;
     }

@@ -15,7 +15,7 @@ add_nothing first step = omega arith
 
 pub loop-k-init : goal.loop-k-init
 unfolding joined
-loop-k-init c = record { some = omega arith; size = refl; next = sym (add_nothing c.args.first c.args.step); run = refl }
+loop-k-init c = record { size = refl; next = sym (add_nothing c.args.first c.args.step); run = refl }
 
 pub loop-k-preserved : goal.loop-k-preserved
 loop-k-preserved c =
@@ -23,11 +23,9 @@ loop-k-preserved c =
     let a = c.args in
     let word : ℕ → ℕ = λ i. a.first + a.step * i in
     record {
-      some = omega arith;
       size = c.put_word32.auto.s ∙ turn.invariant.size;
       next =
           (let next = ap (λ (n : ℕ). a.step * n) (add-one turn.k) ∙ mul-suc a.step turn.k in
-          let here = turn.invariant.next in
           omega arith);
       run =
           c.put_word32.ensures

@@ -1,33 +1,22 @@
--- The bytes passed, from the last one down, are the same.
-use Rattle.std.proofs.Common.{◌-◌, sym, ◌∙◌, arith}
+-- The bytes that have passed are the same.
+use Rattle.std.proofs.Common.{sym, ◌∙◌, arith, below_more}
+use Rattle.basis.proofs.TestLaws.{at_all}
 use Rattle.test_both_engines.specs.Bytes.{same_at, same_bytes}
-use Rattle.test_both_engines.proofs.BytesLaws.{passed_more, one_failed, all-passed, is_same, is_other}
+use Rattle.test_both_engines.proofs.BytesLaws.{one_failed, is_same, is_other}
 use Rattle.test_both_engines.proofs.bytes.same.Goals as goal
 
 pub returns-then-byte : goal.returns-then-byte
 unfolding same_bytes
 returns-then-byte c =
-    let one = c.byte.ensures.0 in
-    let other = c.byte-in-loop-left.ensures.0 in
-    let i = c.loop-left.left - 1 in
     sym
-    (one_failed (same_at c.args.first.now c.args.second.now) c.args.count i (omega arith)
-    (is_other c.args.first.now c.args.second.now i (λ q. c.if-byte.true (one ∙ q ∙ sym other))))
+    (one_failed (same_at c.args.first.now c.args.second.now) c.args.count c.loop-at.at (omega arith)
+    (is_other _ _ c.loop-at.at (λ q. c.if-byte.true (c.byte.ensures.0 ∙ q ∙ sym c.byte-in-loop-at.ensures.0))))
 
-pub loop-left-preserved : goal.loop-left-preserved
-loop-left-preserved c =
-    let one = c.byte.ensures.0 in
-    let other = c.byte-in-loop-left.ensures.0 in
-    let i = c.loop-left.left - 1 in (
-      omega arith,
-      passed_more (same_at c.args.first.now c.args.second.now) c.args.count c.loop-left.left c.loop-left.invariant.1
-          (omega arith)
-          (is_same c.args.first.now c.args.second.now i (sym one ∙ c.if-byte.false ∙ other)),
-    )
+pub loop-at-preserved : goal.loop-at-preserved
+loop-at-preserved c =
+    below_more _ _ c.loop-at.invariant
+    (is_same _ _ c.loop-at.at (sym c.byte.ensures.0 ∙ c.if-byte.false ∙ c.byte-in-loop-at.ensures.0))
 
 pub returns : goal.returns
 unfolding same_bytes
-returns c =
-    sym
-    (all-passed (same_at c.args.first.now c.args.second.now) c.args.count c.loop-left.left c.loop-left.invariant.1
-    (omega arith))
+returns c = sym (at_all (same_at c.args.first.now c.args.second.now) c.args.count (λ k l. c.loop-at.invariant k (omega arith)))

@@ -1,9 +1,6 @@
--- `test_chance::floor_lists::how_many` is safe and ends: the floors are counted down. Assumes nothing.
+-- At most the floors that have passed are counted.
 use Rattle.std.proofs.Common.{◌≤◌}
 use Rattle.test_chance.proofs.floor_lists.how_many.Given as goal
 
-abbrev pub invariant-loop-left : goal.invariant-loop-left
-invariant-loop-left l = l.left ≤ l.initial.left
-
-abbrev pub decreases-loop-left : goal.decreases-loop-left
-decreases-loop-left l = l.left
+abbrev pub invariant-loop-at : goal.invariant-loop-at
+invariant-loop-at l = l.found ≤ l.at

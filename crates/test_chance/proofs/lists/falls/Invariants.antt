@@ -1,9 +1,6 @@
--- `test_chance::lists::falls` is safe and ends: what is left falls at each turn. Assumes nothing.
+-- At most the constraints that have passed are counted.
 use Rattle.std.proofs.Common.{◌≤◌}
 use Rattle.test_chance.proofs.lists.falls.Given as goal
 
-abbrev pub invariant-loop-left : goal.invariant-loop-left
-invariant-loop-left l = 0 ≤ l.left
-
-abbrev pub decreases-loop-left : goal.decreases-loop-left
-decreases-loop-left l = l.left
+abbrev pub invariant-loop-constraint : goal.invariant-loop-constraint
+invariant-loop-constraint l = l.found ≤ l.constraint

@@ -1,4 +1,0 @@
-use Rattle.test_both_engines.proofs.pages.has_empty_slot.Given as goal
-
-abbrev pub decreases-loop-left : goal.decreases-loop-left
-decreases-loop-left l = l.left

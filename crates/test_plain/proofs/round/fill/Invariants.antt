@@ -1,9 +1,0 @@
--- `test_plain::round::fill` is safe and ends: the slots are counted up to those asked for. Assumes nothing.
-use Prim.Native.Nat.{◌≤◌, ◌-◌}
-use Rattle.test_plain.proofs.round.fill.Given as goal
-
-abbrev pub invariant-loop-slot : goal.invariant-loop-slot
-invariant-loop-slot l = l.slot ≤ l.slots
-
-abbrev pub decreases-loop-slot : goal.decreases-loop-slot
-decreases-loop-slot l = l.slots - l.slot

@@ -1,9 +1,0 @@
--- `test_rival_sheets::plain::has_pairs` is safe and ends: what is left falls at each turn. Assumes nothing.
-use Rattle.std.proofs.Common.{◌≤◌}
-use Rattle.test_rival_sheets.proofs.plain.has_pairs.Given as goal
-
-abbrev pub invariant-loop-left : goal.invariant-loop-left
-invariant-loop-left l = l.left ≤ l.initial.left
-
-abbrev pub decreases-loop-left : goal.decreases-loop-left
-decreases-loop-left l = l.left

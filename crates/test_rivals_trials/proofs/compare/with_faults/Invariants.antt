@@ -1,4 +1,0 @@
-use Rattle.test_rivals_trials.proofs.compare.with_faults.Given as goal
-
-abbrev pub decreases-loop-left : goal.decreases-loop-left
-decreases-loop-left l = l.left
