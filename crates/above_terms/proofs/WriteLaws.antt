@@ -27,7 +27,9 @@ module _ (n m owner : ℕ) (rivals out : List ℕ) where
   Left k = AboveTermsWritten n m owner rivals out (record { refusal = k; count = 0 }) out
 
   left : (k : ℕ) → k ≡ number → (k ≡ 0 → ⊥) → Left k
-  left k same h = let parts = refused_left number terms out k same h in record { number = same; count = parts.0; buffer = parts.1 }
+  left k same h =
+      let parts = refused_left number terms out (record { refusal = k; count = 0 }) k refl same h in
+      record { number = parts.0; count = parts.1; buffer = parts.2 }
 
   pub owner-refused : (k : ℕ) → k ≡ owner_refusal n m owner → (k ≡ 0 → ⊥) → Left k
   owner-refused zero same h = absurd (h refl)

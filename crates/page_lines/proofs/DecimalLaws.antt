@@ -10,8 +10,6 @@ use native.Mathlib.Nat.{not-suc-le-zero, pow-suc}
 use native.Mathlib.Omega.{arith}
 use lib.Dec.{ltb}
 use lib.ListN.{length, get_or, length-append, get_or-append}
-use Rattle.std.specs.Fmt as Fmt
-use Rattle.std.proofs.lemmas.Fmt.{decimal_by_steps}
 use Rattle.basis.proofs.TestLaws.{holds_or_fails}
 use Rattle.page_lines.specs.Decimal.{digit, digits_within, decimal, number_after, SaysNumber, NoZeroInFront}
 
@@ -41,14 +39,6 @@ decimal_large (suc n) h =
     ap (λ (small : Bool). digits_within (suc n) small (suc n)) (le-ltb (suc n) 10 h)
     ∙ ap (λ (front : List ℕ). front ++ (digit (suc n % 10) ∷ []))
     (enough-calls n (suc n / 10) (ltb (suc n / 10) 10) (suc n / 10) refl (omega arith) (omega arith))
-
--- the library prints the same
-pub printed : (n : ℕ) → n < 2 ^ 64 → Fmt.decimal n ≡ decimal n
-printed n h =
-    sym
-    (decimal_by_steps (λ m text. decimal m ≡ text) decimal-small
-    (λ m text l e. decimal_large m l ∙ ap (λ (front : List ℕ). front ++ (digit (m % 10) ∷ [])) e)
-    n h)
 
 below_ten_or_not : (n : ℕ) → (n < 10) ⊎ (10 ≤ n)
 below_ten_or_not n = ⊎_elim (λ t. inl (ltb-true n 10 t)) (λ t. inr (ltb-false n 10 t)) (holds_or_fails (ltb n 10))

@@ -1,12 +1,11 @@
 -- Text that is written piece by piece: two pieces one after the other are one piece. Assumes nothing.
-use Prim.Native.Nat.{ℕ, suc, ◌+◌, ◌-◌, ◌≤◌}
-use borrow.Rule.Slice.PartMut.{put_mid}
-use mathlib.Core.List.{List, [], ◌∷◌, ◌++◌, append_assoc}
+use Prim.Native.Nat.{ℕ, suc, ◌+◌, ◌≤◌}
+use mathlib.Core.List.{List, [], ◌∷◌, ◌++◌}
 use mathlib.Core.Path.{◌≡◌, refl, sym, ◌∙◌, ap, ap₂}
 use native.Mathlib.Nat.{add-zero, zero-add}
 use native.Mathlib.Omega.{arith}
 use lib.ListN.{length, set, drop, length-append}
-use lib.Seq.{sets, sets-eq, length-sets, drop-drop}
+use lib.Seq.{sets, sets-eq}
 use Rattle.page_lines.specs.Put.{Put, Written}
 
 sets-append : (front back text : List ℕ) (at : ℕ) → sets text at (front ++ back) ≡ sets (sets text at front) (at + length front) back
@@ -57,22 +56,6 @@ pub put_byte_after : (front text text' : List ℕ) (at middle byte : ℕ) → Pu
     Put text at (front ++ (byte ∷ [])) (middle + 1) (set text' middle byte)
 put_byte_after front text text' at middle byte p =
     put_after front (byte ∷ []) text text' (set text' middle byte) at middle (middle + 1) p (record { next = refl; buffer = refl })
-
--- a piece that is copied to an offset, and one byte where it ends
-module _ (bytes part text : List ℕ) (at n : ℕ) (same : part ≡ bytes) (size : n ≡ length bytes) (room : at + n ≤ length text) where
-  put_part : Put text at bytes (at + n) (put_mid at (at + n - at) text part)
-  put_part =
-      let width : at + n - at ≡ n = omega arith in
-      record {
-        next = omega arith;
-        buffer = rw (width, drop-drop n at text, same, size, ← append_assoc) (sym (sets-eq bytes text at (omega arith)));
-      }
-
-  pub part-length : length (put_mid at (at + n - at) text part) ≡ length text
-  part-length = ap length put_part.buffer ∙ length-sets text at bytes
-
-  pub put_part_byte : (byte : ℕ) → Put text at (bytes ++ (byte ∷ [])) (at + n + 1) (set (put_mid at (at + n - at) text part) (at + n) byte)
-  put_part_byte byte = put_byte_after bytes text _ at (at + n) byte put_part
 
 -- what is put at the front is written
 pub put_in_front : (bytes text text' : List ℕ) (end : ℕ) → length bytes ≤ length text → Put text 0 bytes end text' →

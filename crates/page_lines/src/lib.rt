@@ -11,15 +11,27 @@ ghost use Rattle.page_lines.specs.Put.{Put, Written};
 // The bytes of the longest line: a slot of 2 digits, a bidder of 3, a price of 10, two spaces and a newline.
 pub const LONGEST_LINE: usize = 18;
 
+// The number's decimal digits at an offset, and the offset after them.
+// Kept: the kit's `itoa` writes them too, but then the program would rest on that crate's statements beside the library's (README, "What is assumed").
+fn put_decimal(text: &mut [u8], at: usize, value: u32) -> usize
+    requires { at + length (decimal value) ≤ length text.old }
+    ensures { Put text.old at (decimal value) result text.new }
+{
+    if value < 10 {
+        text[at] = 48 + value as u8;
+        return at + 1;
+    }
+    let last = put_decimal(text, at, value / 10);
+    text[last] = 48 + (value % 10) as u8;
+    last + 1
+}
+
 // The number in decimal and the byte that ends it, at an offset, and the offset after them.
 fn put_field(text: &mut [u8], at: usize, value: u32, end: u8) -> usize
     requires { at + length (field value end) ≤ length text.old }
     ensures { Put text.old at (field value end) result text.new }
 {
-    let mut buffer = itoa::Buffer::new();
-    let digits = buffer.format(value).as_bytes();
-    let after = at + digits.len();
-    text[at..after].copy_from_slice(digits);
+    let after = put_decimal(text, at, value);
     text[after] = end;
     after + 1
 }

@@ -19,7 +19,7 @@ use Rattle.basis.proofs.FirstLaws.{refused_leaves, answered-gives}
 use Rattle.basis.proofs.RowLaws.{length-row, joined_same, sets_then, joined_stored, sets_front}
 use Rattle.sheet.specs.Encoded.{Condition, on, quads}
 use Rattle.sheet.proofs.EncodedLaws.{quad_bytes, quads-row, length-quads}
-use Rattle.slot_terms.specs.SlotTerms.{bar_for, barred, beyond, slot_terms_of, owner_refusal, profile_refusal, slot_terms_refusal, conditions_buffer, SlotTermsWritten, OwnerFits, TermsFit}
+use Rattle.slot_terms.specs.SlotTerms.{bar_for, barred, beyond, slot_terms_of, owner_refusal, profile_refusal, slot_terms_refusal, conditions_buffer, Written, SlotTermsWritten, OwnerFits, TermsFit}
 use Rattle.slot_terms.proofs.RefusalLaws.{owner-first, profile_first, nineteen, answered}
 use Rattle.slot_terms.specs.EngineTerms.{word_of, bars_to}
 
@@ -154,9 +154,15 @@ barred-next owner bars out start at i e =
 
 -- What a call that writes conditions leaves: nothing where it is refused, and else the conditions.
 module _ (number : ℕ) (terms : List Condition) (out : List ℕ) where
-  pub refused_left : (k : ℕ) → k ≡ number → (k ≡ 0 → ⊥) →
-      (0 ≡ unless_refused number (length terms) 0) × (out ≡ unless_refused number (conditions_buffer terms out) out)
-  refused_left k same h = (refused_leaves number k (length terms) 0 same h, refused_leaves number k (conditions_buffer terms out) out same h)
+  pub refused_left : (returned : Written) (k : ℕ) → returned ≡ record { refusal = k; count = 0 } → k ≡ number → (k ≡ 0 → ⊥) →
+      (returned.refusal ≡ number)
+      × (returned.count ≡ unless_refused number (length terms) 0)
+      × (out ≡ unless_refused number (conditions_buffer terms out) out)
+  refused_left returned k e same h = (
+    ap (λ (t : Written). t.refusal) e ∙ same,
+    ap (λ (t : Written). t.count) e ∙ refused_leaves number k (length terms) 0 same h,
+    refused_leaves number k (conditions_buffer terms out) out same h,
+  )
 
   pub terms_left : number ≡ 0 → 4 * length terms ≤ length out → sets out 0 (quads terms) ≡ unless_refused number (conditions_buffer terms out) out
   unfolding conditions_buffer
@@ -179,7 +185,9 @@ module _ (n m owner limit : ℕ) (bars out : List ℕ) where
   Left k = SlotTermsWritten n m owner limit bars out (record { refusal = k; count = 0 }) out
 
   left : (k : ℕ) → k ≡ number → (k ≡ 0 → ⊥) → Left k
-  left k same h = let parts = refused_left number terms out k same h in record { number = same; count = parts.0; buffer = parts.1 }
+  left k same h =
+      let parts = refused_left number terms out (record { refusal = k; count = 0 }) k refl same h in
+      record { number = parts.0; count = parts.1; buffer = parts.2 }
 
   pub owner-refused : (k : ℕ) → k ≡ owner_refusal n m owner → (k ≡ 0 → ⊥) → Left k
   owner-refused zero same h = absurd (h refl)

@@ -24,20 +24,20 @@ fn over_clicks(amount: u32, effect: u32) -> u64
 }
 
 // What the bidder at a slot adds to a page's total.
-fn added(sheet: &[u8], filled: [u8; 16], slot: u8) -> u64
+fn added(bids: &[u32; 64], effects: &[u32; 16], filled: [u8; 16], slot: u8) -> u64
     ensures { result ≤ 1000000000000000 }
 {
     over_clicks(
-        fields::bid(sheet, page::at(filled, slot)),
-        fields::effect(sheet, slot),
+        round::bid_of(bids, page::at(filled, slot)),
+        round::effect_of(effects, slot),
     )
 }
 
 // "A page's total is the sum of bid × effect over filled places."
-pub fn total(sheet: &[u8], filled: [u8; 16]) -> u64 {
+pub fn total(bids: &[u32; 64], effects: &[u32; 16], filled: [u8; 16], slots: u8) -> u64 {
     let mut sum: u64 = 0;
-    for slot in 1..=fields::slot_count(sheet) {
-        sum += added(sheet, filled, slot);
+    for slot in 1..=slots {
+        sum += added(bids, effects, filled, slot);
     }
     sum
 }

@@ -1,6 +1,7 @@
 // A second engine for document 01 and for document 02's version 2, floors and one sheet for one round, written another way on purpose,
 // so that random rounds on which it agrees with the proved engine say something of both. It shares no code with the library, keeps no
-// table and no round in memory, and reads the sheet's bytes where it needs them. It is proved safe and ending, and nothing more.
+// table and no round in memory, but for copies of the bids and, while it searches, of the effects, and reads the sheet's bytes where it needs
+// the rest. It is proved safe and ending, and nothing more.
 //
 // Each call returns 0 or the number of the first rule that the call breaks, and then nothing lent is written. A sheet's rules are 1 to
 // 13 and 26 to 28, and with a list of floors then 30 and 31.

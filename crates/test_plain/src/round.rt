@@ -17,11 +17,29 @@ pub fn bids(sheet: &[u8]) -> [u32; 64] {
     copied
 }
 
-fn bid_of(bids: &[u32; 64], bidder: u8) -> u32 {
+// Every effect of the sheet, by slot.
+pub fn effects(sheet: &[u8]) -> [u32; 16] {
+    let mut copied = [0u32; 16];
+    for slot in 1..=fields::MAX_SLOTS {
+        copied[usize::from(slot) - 1] = fields::effect(sheet, slot);
+    }
+    copied
+}
+
+// The bid of a bidder, 0 for none.
+pub fn bid_of(bids: &[u32; 64], bidder: u8) -> u32 {
     if bidder == 0 || fields::MAX_BIDDERS < bidder {
         return 0;
     }
     bids[usize::from(bidder) - 1]
+}
+
+// The effect of a slot.
+pub fn effect_of(effects: &[u32; 16], slot: u8) -> u32 {
+    if slot == 0 || fields::MAX_SLOTS < slot {
+        return 0;
+    }
+    effects[usize::from(slot) - 1]
 }
 
 // The bids with one of them changed.

@@ -1,8 +1,8 @@
 // The best page by trying every page that breaks nothing: no bound, no start from a good page.
 // The pages come in dictionary order, as a counter with a digit for each slot ("place"), slot 1 first. What stands on a page stays
 // as further slots are filled, so that a bidder twice, one below its floor or a broken constraint ("condition") is never mended: the
-// counter then goes on at the page's last bidder.
-use crate::{amounts, fields, page};
+// counter then goes on at the page's last bidder. Bids and effects are read from the sheet once.
+use crate::{amounts, fields, page, round};
 
 // No search that is allowed has more pages: 9 to the 8th is below.
 const MANY_PAGES: u64 = 1000000000;
@@ -34,19 +34,19 @@ fn last_filled(filled: [u8; 16], slots: u8) -> u8 {
 }
 
 // "The best page obeys floors as well.": whether the bidder at a slot bids less than its floor. An empty slot is free.
-fn is_below_floor(sheet: &[u8], floors: &[u32], filled: [u8; 16], slot: u8) -> bool {
+fn is_below_floor(bids: &[u32; 64], floors: &[u32], filled: [u8; 16], slot: u8) -> bool {
     let bidder = page::at(filled, slot);
     if bidder == 0 {
         return false;
     }
-    fields::bid(sheet, bidder) < fields::floor(floors, slot)
+    round::bid_of(bids, bidder) < fields::floor(floors, slot)
 }
 
 // Whether no bidder has two places or less than its floor, and no constraint is broken. Of the bidders the last one is asked alone: the
 // page without it came before, and was fine.
-fn is_fine(sheet: &[u8], floors: &[u32], filled: [u8; 16], last: u8) -> bool {
+fn is_fine(sheet: &[u8], bids: &[u32; 64], floors: &[u32], filled: [u8; 16], last: u8) -> bool {
     !is_repeat(filled, last)
-        && !is_below_floor(sheet, floors, filled, last)
+        && !is_below_floor(bids, floors, filled, last)
         && !page::breaks_any(filled, sheet)
 }
 
@@ -81,6 +81,8 @@ fn count(bidders: u8, slots: u8) -> u64 {
 pub fn best(sheet: &[u8], floors: &[u32]) -> Choice {
     let bidders = fields::bidder_count(sheet);
     let slots = fields::slot_count(sheet);
+    let bids = round::bids(sheet);
+    let effects = round::effects(sheet);
     let mut filled = page::empty();
     let mut last: u8 = 0;
     let mut choice = Choice {
@@ -88,9 +90,9 @@ pub fn best(sheet: &[u8], floors: &[u32]) -> Choice {
         total: 0,
     };
     for _ in 0..count(bidders, slots) {
-        let fine = is_fine(sheet, floors, filled, last);
+        let fine = is_fine(sheet, &bids, floors, filled, last);
         if fine {
-            let total = amounts::total(sheet, filled);
+            let total = amounts::total(&bids, &effects, filled, slots);
             if choice.total < total {
                 choice = Choice {
                     page: filled,

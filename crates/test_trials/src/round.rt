@@ -216,7 +216,8 @@ fn with_floors(
         rule: rule_with(kind, fault),
     };
     three_calls(rt, state, tally, kind, sheet, list, form, truth)?;
-    counts::hold(rt, tally, space == kept, b"the floors")
+    let same = bytes::same_floors(&space, &kept, floor_lists::ROOM as u32);
+    counts::hold(rt, tally, same, b"the floors")
 }
 
 fn without_floors(
@@ -288,7 +289,8 @@ fn with_truth(
         sheet,
         parts::part(&space, start, bytes),
     )?;
-    counts::hold(rt, tally, space == kept, b"the truth sheet's bytes")
+    let same = bytes::same(&space, &kept, parts::ROOM);
+    counts::hold(rt, tally, same, b"the truth sheet's bytes")
 }
 
 fn with_sheet(
@@ -314,7 +316,8 @@ fn with_sheet(
         truth,
         truth_bytes,
     )?;
-    counts::hold(rt, tally, space == kept, b"the sheet's bytes")
+    let same = bytes::same(&space, &kept, parts::ROOM);
+    counts::hold(rt, tally, same, b"the sheet's bytes")
 }
 
 fn count_round(tally: &mut [u64], shape: u32, fault: u32) {

@@ -1,35 +1,33 @@
 -- `page_lines::put_field` meets its contract: the end byte is stored where the decimal text ends. Assumes nothing.
-use Rattle.std.proofs.Common.{◌≡◌, ◌+◌, ◌≤◌, length, ◌∙◌, ap, arith}
+use native.Mathlib.Omega.{arith}
 use Rattle.page_lines.specs.Decimal.{decimal}
 use Rattle.page_lines.specs.Lines.{field}
-use Rattle.page_lines.proofs.DecimalLaws.{printed}
 use Rattle.page_lines.proofs.LinesLaws.{field-length}
-use Rattle.page_lines.proofs.PutLaws.{part-length, put_part_byte}
-use Rattle.page_lines.proofs.put_field.Goals.{After-as_bytes-digits}
+use Rattle.page_lines.proofs.PutLaws.{put_byte_after}
 use Rattle.page_lines.proofs.put_field.Goals as goal
 
-digits_are : (c : After-as_bytes-digits) → c.as_bytes-digits.result.now ≡ decimal c.args.value
-digits_are c = c.as_bytes-digits.ensures.value ∙ c.format.ensures.text ∙ printed c.args.value (omega arith)
-
-pub slice_bounds-copy_from_slice-end : goal.slice_bounds-copy_from_slice-end
-slice_bounds-copy_from_slice-end c =
-    let size = ap length (digits_are (goal.at.slice_bounds-copy_from_slice-end c).After-as_bytes-digits) in
+pub put_decimal-after-requires : goal.put_decimal-after-requires
+put_decimal-after-requires c =
     let room = field-length c.args.value c.args.end in
-    let within : c.args.at + length c.as_bytes-digits.result.now ≤ length c.args.text.now = omega arith in
-    within
+    omega arith
 
 pub bounds-text-after : goal.bounds-text-after
 bounds-text-after c =
-    let same = digits_are (goal.at.bounds-text-after c).After-as_bytes-digits in
-    let size = ap length same in
-    let room = field-length c.args.value c.args.end in
-    let whole = part-length _ _ c.args.text.now c.args.at _ (c.copy_from_slice.ensures.after ∙ same) size (omega arith) in
+    let args = c.args in
+    let room = field-length args.value args.end in
+    let put = c.put_decimal-after.ensures in
+    omega (arith, c.put_decimal-after.auto.text)
+
+pub overflow_add-result : goal.overflow_add-result
+overflow_add-result c =
+    let args = c.args in
+    let room = field-length args.value args.end in
+    let put = c.put_decimal-after.ensures in
     omega arith
 
 pub returns : goal.returns
 unfolding field
 returns c =
-    let same = digits_are (goal.at.returns c).After-as_bytes-digits in
-    let size = ap length same in
-    let room = field-length c.args.value c.args.end in
-    put_part_byte _ _ c.args.text.now c.args.at _ (c.copy_from_slice.ensures.after ∙ same) size (omega arith) c.args.end
+    let args = c.args in
+    put_byte_after (decimal args.value) args.text.now c.put_decimal-after.new.text args.at
+    c.put_decimal-after.result args.end c.put_decimal-after.ensures
