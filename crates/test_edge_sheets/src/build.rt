@@ -36,7 +36,7 @@ fn set_word(buf: &mut [u8], at: usize, value: u32) {
 
 // The same four bytes `count` times.
 fn set_words(buf: &mut [u8], start: usize, count: usize, value: u32) {
-    // Kept: a `for` over the count, with the same test, takes 1.7 times the time.
+    // Kept: a `for` over the count, with the same test, takes a seventh to a third more time.
     let mut at = start;
     let mut left = count;
     while 0 < left {
